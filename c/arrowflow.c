@@ -42,7 +42,7 @@ static const struct word words[] = {
     {ARROWFLOW_KIND_BODY_LENGTH, "BodyLength", "the length of the body is below 0 or above the limit"},
     {ARROWFLOW_KIND_ORDER, "Order", "a second schema, or a batch before the schema"},
     {ARROWFLOW_KIND_UNSUPPORTED, "Unsupported", "the data are big-endian, or of a type that is not read or not asked for"},
-    {ARROWFLOW_KIND_SCHEMA, "Schema", "a type of the schema has a width, a unit, a precision or children that there are not"},
+    {ARROWFLOW_KIND_SCHEMA, "Schema", "a type of the schema has a width, a unit, a precision, a scale or children that there are not"},
     {ARROWFLOW_KIND_COMPRESSED, "Compressed", "the body is compressed"},
     {ARROWFLOW_KIND_UNKNOWN_ID, "UnknownId", "no field has a dictionary of this id"},
     {ARROWFLOW_KIND_NO_BASE, "NoBase", "a delta of a dictionary that did not come"},

@@ -66,7 +66,7 @@ enum arrowflow_kind {
     ARROWFLOW_KIND_BODY_LENGTH = 6,   /* the body's length is below 0 or above the limit */
     ARROWFLOW_KIND_ORDER = 7,         /* a second schema, or a batch before the schema */
     ARROWFLOW_KIND_UNSUPPORTED = 8,   /* big-endian, or a type that is not read or not asked for */
-    ARROWFLOW_KIND_SCHEMA = 9,        /* a width, unit, precision or number of children that there is not */
+    ARROWFLOW_KIND_SCHEMA = 9,        /* a width, unit, precision, scale or number of children that there is not */
     ARROWFLOW_KIND_COMPRESSED = 10,   /* the body is compressed */
     ARROWFLOW_KIND_UNKNOWN_ID = 11,   /* a dictionary that no field has */
     ARROWFLOW_KIND_NO_BASE = 12,      /* a delta of no dictionary */
@@ -105,7 +105,8 @@ size_t arrowflow_error_text(uint32_t kind, uint64_t place, char *out, size_t roo
 enum arrowflow_types {
     ARROWFLOW_TYPES_CORE = 0, /* Null, Bool, Int, Binary, Utf8 and these Large, FixedSizeBinary, Date,
                                * Time, Timestamp, Duration, List, LargeList, Struct: never others */
-    ARROWFLOW_TYPES_ALL = 1   /* also FloatingPoint, Interval, Map, and what later versions of the library read */
+    ARROWFLOW_TYPES_ALL = 1   /* also FloatingPoint, Decimal, Interval, Map, and what later versions of the
+                               * library read */
 };
 
 /* How much a stranger's stream may ask for, and which types it may have. */
@@ -286,14 +287,16 @@ enum arrowflow_cell_type {
     ARROWFLOW_CELL_NULL = 0,
     ARROWFLOW_CELL_BOOL = 1,   /* `truth` */
     ARROWFLOW_CELL_NUMBER = 2, /* `number`; of a date, a time, a timestamp or a duration its units, of an
-                                * interval of months these */
-    ARROWFLOW_CELL_BYTES = 3,  /* `size` bytes in the room; of another interval those of its numbers */
+                                * interval of months these, of a decimal of up to 128 bits its whole number */
+    ARROWFLOW_CELL_BYTES = 3,  /* `size` bytes in the room; of another interval those of its numbers, of a
+                                * decimal of 256 bits those of its whole number */
     ARROWFLOW_CELL_TEXT = 4,   /* `size` bytes in the room, and UTF-8 */
     ARROWFLOW_CELL_LIST = 5,   /* what is in it is read by arrowflow_reader_column */
     ARROWFLOW_CELL_STRUCT = 6, /* the same */
     ARROWFLOW_CELL_LARGE = 7,  /* `large`, a number above INT64_MAX */
     ARROWFLOW_CELL_NONE = 8,   /* no batch, or no such column or row */
-    ARROWFLOW_CELL_HUGE = 9,   /* a number that takes more than 64 bits: no type has one yet */
+    ARROWFLOW_CELL_HUGE = 9,   /* a number that takes more than 64 bits, of a decimal of 128: its bytes are
+                                * read by arrowflow_reader_column */
     ARROWFLOW_CELL_FLOAT = 10  /* `real`, a floating-point number */
 };
 
@@ -319,12 +322,14 @@ enum arrowflow_layout {
     ARROWFLOW_LAYOUT_NULLS = 1,       /* no buffer: no slot has a value */
     ARROWFLOW_LAYOUT_BITS = 2,        /* slot i is bit i of `values` */
     ARROWFLOW_LAYOUT_NUMBERS = 3,     /* slot i is the number of `width` bytes at byte width * i; an
-                                       * interval of months too */
+                                       * interval of months too, and the whole number of a decimal of 4, 8 or
+                                       * 16 bytes, whose scale the format string has */
     ARROWFLOW_LAYOUT_BINARIES = 4,    /* slot i is `values` from offset i up to offset i + 1 */
     ARROWFLOW_LAYOUT_TEXTS = 5,       /* the same, and UTF-8 */
     ARROWFLOW_LAYOUT_FIXED_BYTES = 6, /* slot i is the `width` bytes at byte width * i: a byte string, or
                                        * the numbers of an interval, of 8 bytes days and milliseconds
-                                       * (32 bits each), of 16 months, days (32) and nanoseconds (64) */
+                                       * (32 bits each), of 16 months, days (32) and nanoseconds (64), or the
+                                       * whole number of a decimal, of 32 bytes, in two's complement */
     ARROWFLOW_LAYOUT_LISTS = 7,       /* slot i are the child's slots from offset i up to offset i + 1 */
     ARROWFLOW_LAYOUT_STRUCTS = 8,     /* slot i is slot i of each child */
     ARROWFLOW_LAYOUT_INDICES = 9,     /* slot i is the number of a value of the dictionary, as NUMBERS */

@@ -3,10 +3,8 @@ library, by frames.py. The tests of arrow_builder build the same columns and sto
 
 What stands in slot i is told by KINDS below, and in words by KINDS in crates/arrow_builder_tests/src/tests/lengths.rt.
 """
-import struct
-
 import frames
-from type_table import BITS, BY_NAME, INT, NULLS, WITH_OFFSETS
+from type_table import BITS, BY_NAME, DECIMAL, INT, NULLS, WITH_OFFSETS
 
 LENGTHS = [0, 1, 7, 8, 9, 63, 64, 65]
 
@@ -41,13 +39,12 @@ def large_strings(values):
 
 
 def fixed(values, width):
-    return slots(values, f"{width}s")
+    return slots(values, BY_NAME["FixedSizeBinary"].form((width,)))
 
 
 def slots(values, form):
-    """Values that take as many bytes each, by a format of the module struct: a number, bytes, or a tuple of several numbers."""
-    packed = (bytes(struct.calcsize("<" + form)) if it is None else struct.pack("<" + form, *(it if isinstance(it, tuple) else [it]))
-              for it in values)
+    """Values that take as many bytes each, by their Form: a number, bytes, or a tuple of several numbers."""
+    packed = (bytes(form.width) if it is None else form.packed(it) for it in values)
     return frames.Column([frames.node(values)], [frames.validity(values), b"".join(packed)])
 
 
@@ -59,7 +56,12 @@ def column_of(form):
         return frames.bools
     if form.layout in WITH_OFFSETS:
         return lambda values: frames.strings(values, form.slot)
-    return lambda values: slots(values, form.slot)
+    return lambda values: slots(values, form)
+
+
+def decimals(values, width):
+    """Decimals of so many bits, each by its whole number, whatever their precision and their scale are."""
+    return column_of(DECIMAL.form((1, 0, width)))(values)
 
 
 def intervals(values, unit):

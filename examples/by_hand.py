@@ -4,7 +4,7 @@ and then places and fields in its value.
 """
 import struct
 
-from frames import INT32, Buffer, batch, field, metadata_in, numbers, pairs, scalar, schema, table, text, vector
+from frames import INT32, NULL, Buffer, batch, field, metadata_in, numbers, pairs, scalar, schema, table, text, vector
 
 
 def tables():
@@ -18,12 +18,22 @@ def tables():
     return bytes(buffer.bytes)
 
 
+def decimals(children, *numbers):
+    """The metadata of one column `n` of decimals: of this precision, this scale and so many bits."""
+    return metadata_in(schema(field("n", (7, table(*(scalar("i", it) for it in numbers))), children)))
+
+
 NUMBERS = schema(field("n", INT32))
 THREE = batch(numbers([1, None, 3]))
 ONE_VECTOR = struct.pack("<I4Hi4I", 12, 6, 8, 4, 0, 8, 4, 2, 1, 2)
 
 ARRAYS = {
+    "crates/arrow_meta_reader_tests/src/tests/decimals.rt": {
+        "DECIMAL": decimals([], 38, 10, 128),
+        "WITH_CHILD": decimals([field("c", NULL)], 9, 2, 32),
+    },
     "crates/arrow_meta_writer_tests/src/tests/tables.rt": {"LAID_OUT": tables()},
+    "crates/arrow_meta_writer_tests/src/tests/written.rt": {"DECIMAL": decimals([], 38, 10, 128)},
     "crates/arrow_small_tests/src/tests/chunks.rt": {"BYTES": bytes((240 + 37 * at) % 256 for at in range(33))},
     "crates/arrow_small_tests/src/tests/flatbuf.rt": {
         "TWO": ONE_VECTOR,

@@ -139,10 +139,13 @@ def metadata_in(words):
 
 def of_type(name, *values):
     """A type by its name in Schema.fbs: its code in the union Type, and its table with these values of its fields, None where one is
-    absent."""
-    row = BY_NAME[name]
-    fields = ((it, value) for it, value in zip(row.fields, values) if value is not None)
-    return row.code, table(*(text(value) if it.width == TEXT else scalar(it.letter, value) for it, value in fields))
+    absent; the vtable ends with the last that is there."""
+    row, fields = BY_NAME[name], []
+    for it, value in zip(row.fields, values):
+        fields.append(None if value is None else text(value) if it.width == TEXT else scalar(it.letter, value))
+    while fields and fields[-1] is None:
+        fields.pop()
+    return row.code, table(*fields)
 
 
 NULL, BINARY, UTF8, BOOL, LIST, STRUCT = map(of_type, ("Null", "Binary", "Utf8", "Bool", "List", "Struct_"))
@@ -155,6 +158,11 @@ INT32 = integer(32, True)
 def map_of(entries, keys_sorted=False):
     """The type of maps, and its one child: the field of the entries. `keys_sorted` is None if the type's table leaves it out."""
     return of_type("Map", keys_sorted), [entries]
+
+
+def decimal(width, precision, scale):
+    """The type of decimals of so many bits; each of the three is None if the type's table leaves it out."""
+    return of_type("Decimal", precision, scale, width)
 
 
 def time(unit):

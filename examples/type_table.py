@@ -3,11 +3,15 @@
 A type has a table, the values of whose fields are its parameters. Each choice of them that is allowed has a Form.
 """
 import dataclasses
+import functools
 import struct
 from typing import Any, Callable, Optional
 
 TEXT = "text"
 UNITS = "s", "ms", "us", "ns"
+# Of decimals the bits, each with how many digits they have at most; and how far the point is from the last digit at most, either way.
+DIGITS = {32: 9, 64: 18, 128: 38, 256: 76}
+FARTHEST = 76
 
 # Layouts: what a column's buffers have after the validity. NUMBERS and FIXED have slots of one width, BYTES, TEXTS and LISTS offsets.
 NULLS, BITS, NUMBERS, FIXED, BYTES, TEXTS, LISTS, STRUCTS = "nulls", "bits", "numbers", "fixed", "bytes", "texts", "lists", "structs"
@@ -30,18 +34,39 @@ class Field:
 @dataclasses.dataclass(frozen=True)
 class Form:
     """A type with its parameters: the name that `arrowflow schema` prints, the format string in the C data interface, and the layout.
-    `slot` is the little-endian format, for the module struct, of a slot's numbers or bytes, or of an offset; `text` is what
-    `arrowflow show` prints of a slot's numbers, but for floating point."""
+    `slot` is the little-endian format, for the module struct, of a slot's numbers or bytes, or of an offset; bytes of NUMBERS are one
+    signed number, for which the module has no format. `text` gives what `arrowflow show` prints of a slot's numbers, but for floating
+    point."""
     printed: str
     format: str
     layout: str
     slot: str = ""
-    text: str = "{}"
+    text: Callable[..., str] = "{}".format
 
     @property
     def width(self):
         """The bytes of a slot, or of an offset."""
         return struct.calcsize("<" + self.slot)
+
+    @property
+    def is_wide(self):
+        """Whether a slot is one number of more bytes than the module struct has a format for."""
+        return self.layout == NUMBERS and self.slot.endswith("s")
+
+    @property
+    def numbers(self):
+        """Of each number of a slot how many bytes it has, and whether it has a sign."""
+        return [(self.width, True)] if self.is_wide else [(struct.calcsize("<" + it), it.islower()) for it in self.slot]
+
+    def packed(self, value):
+        """The bytes of a slot: of a number or of bytes, or of a tuple of these."""
+        its = value if isinstance(value, tuple) else (value,)
+        return its[0].to_bytes(self.width, "little", signed=True) if self.is_wide else struct.pack("<" + self.slot, *its)
+
+    def unpacked(self, held, at):
+        """The numbers in a slot of these bytes, or its bytes, as a tuple."""
+        its = struct.unpack_from("<" + self.slot, held, self.width * at)
+        return (int.from_bytes(its[0], "little", signed=True),) if self.is_wide else its
 
 
 @dataclasses.dataclass(frozen=True)
@@ -83,6 +108,30 @@ def timestamp(values):
     return Form(f"timestamp[{UNITS[unit]}{'' if zone is None else f', {zone}'}]", f"ts{UNITS[unit][0]}:{zone or ''}", NUMBERS, "q")
 
 
+def decimal(values):
+    precision, scale, width = values
+    if not 1 <= precision <= DIGITS.get(width, 0) or abs(scale) > FARTHEST:
+        return None
+    return Form(f"decimal{width}({precision}, {scale})", f"d:{precision},{scale}{'' if width == 128 else f',{width}'}", NUMBERS,
+        {32: "i", 64: "q"}.get(width, f"{width // 8}s"), functools.partial(decimal_text, scale))
+
+
+def decimal_text(scale, number):
+    """A whole number times 10 to the power of minus the scale, with a digit before the point at least."""
+    sign, digits = "-" * (number < 0), str(abs(number))
+    if scale < 0:
+        return f"{sign}{digits}e{-scale}"
+    digits = digits.zfill(scale + 1)
+    point = len(digits) - scale
+    return f"{sign}{digits[:point]}{'.' * (scale > 0)}{digits[point:]}"
+
+
+def decimals():
+    """Of each width the least and the greatest precision, with scales at all edges."""
+    return tuple((precision, scale, width) for width, most in DIGITS.items() for precision in (1, most)
+        for scale in (-FARTHEST, -3, 0, 2, FARTHEST))
+
+
 def fixed_size_binary(values):
     width, = values
     return Form(f"fixed_size_binary[{width}]", f"w:{width}", FIXED, f"{width}s") if width >= 0 else None
@@ -97,6 +146,7 @@ TYPES = (
     single("Binary", 4, "binary", "z", BYTES, "i"),
     single("Utf8", 5, "utf8", "u", TEXTS, "i"),
     single("Bool", 6, "bool", "b", BITS),
+    Type("Decimal", 7, decimal, decimals(), (Field("precision", 4, 0), Field("scale", 4, 0), Field("bit_width", 4, 128)), is_core=False),
     closed("Date", 8, {
         (0,): Form("date[day]", "tdD", NUMBERS, "i"), (1,): Form("date[ms]", "tdm", NUMBERS, "q"),
     }, Field("unit", 2, 1)),
@@ -107,9 +157,9 @@ TYPES = (
     Type("Timestamp", 10, timestamp, tuple((unit, zone) for unit in range(4) for zone in (None, b"", b"UTC")),
         (Field("unit", 2, 0), Field("timezone", TEXT, None))),
     closed("Interval", 11, {
-        (0,): Form("month_interval", "tiM", NUMBERS, "i", "{}M"),
-        (1,): Form("day_time_interval", "tiD", NUMBERS, "ii", "{}d{}ms"),
-        (2,): Form("month_day_nano_interval", "tin", NUMBERS, "iiq", "{}M{}d{}ns"),
+        (0,): Form("month_interval", "tiM", NUMBERS, "i", "{}M".format),
+        (1,): Form("day_time_interval", "tiD", NUMBERS, "ii", "{}d{}ms".format),
+        (2,): Form("month_day_nano_interval", "tin", NUMBERS, "iiq", "{}M{}d{}ns".format),
     }, Field("unit", 2, 0), is_core=False),
     single("List", 12, "list", "+l", LISTS, "i", children=1),
     single("Struct_", 13, "struct", "+s", STRUCTS, children=None),
@@ -124,4 +174,4 @@ TYPES = (
 )
 BY_CODE = {it.code: it for it in TYPES}
 BY_NAME = {it.name: it for it in TYPES}
-INT, FLOATING, STRUCT, MAP = (BY_NAME[it] for it in ("Int", "FloatingPoint", "Struct_", "Map"))
+INT, FLOATING, DECIMAL, STRUCT, MAP = (BY_NAME[it] for it in ("Int", "FloatingPoint", "Decimal", "Struct_", "Map"))

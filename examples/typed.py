@@ -1,8 +1,8 @@
 """Schemas of types in each form, laid out by frames.py: what vectors/ROWS changes, and what examples have."""
 import bodies
 from frames import (BINARY, BOOL, END_MARKER, INT32, LARGE_BINARY, LARGE_LIST, LARGE_UTF8, LIST, NULL, STRUCT, UTF8, batch, bools, date,
-                    dictionary, dictionary_batch, duration, field, fixed_size_binary, floating, integer, interval, lists, map_of, numbers,
-                    schema, strings, structs, time, timestamp)
+                    decimal, dictionary, dictionary_batch, duration, field, fixed_size_binary, floating, integer, interval, lists, map_of,
+                    numbers, schema, strings, structs, time, timestamp)
 from streams import four_fields
 from type_table import INT
 
@@ -80,6 +80,27 @@ def intervals():
                  lists([None, []], lambda _: structs([], day_times([]), months([]))), numbers([2, 0], "b"))
     return b"".join([columns, dictionary_batch(7, month_day_nanos([(1, 0, 0), (0, 1, 0)])), first,
                      dictionary_batch(7, month_day_nanos([(0, 0, 86_400_000_000_000)]), True), more, END_MARKER])
+
+
+def decimals():
+    """Decimals of each width, from the least to the greatest number: plain, in lists, in structs below lists, and by a dictionary that
+    grows."""
+    parts = LIST, [field("item", STRUCT, [field("d", decimal(128, 5, 2)), field("w", decimal(256, 40, -1))])]
+    columns = schema(field("price", decimal(32, 9, 2)), field("mass", decimal(64, 18, -3), nullable=False),
+                     field("count", decimal(128, 38, 0)), field("ratio", decimal(256, 76, 76)), field("parts", *parts),
+                     field("rates", LIST, [field("item", decimal(64, 4, 4))]),
+                     field("term", decimal(256, 76, 2), encoding=dictionary(7, 8)))
+    def of(width):
+        return lambda values: bodies.decimals(values, width)
+    of_32, of_64, of_128, of_256 = map(of, (32, 64, 128, 256))
+    below = structs([(), None, ()], of_128([125, None, -7]), of_256([10 ** 39, None, -1]))
+    first = batch(of_32([5, None, -50, -2 ** 31]), of_64([12, -1, 0, 2 ** 63 - 1]), of_128([1, None, 2 ** 127 - 1, -2 ** 127]),
+                  of_256([-2 ** 255, 2 ** 255 - 1, None, 1]), lists([[1, 2], [], None, [3]], lambda _: below),
+                  lists([[5, None], [-9999], None, []], of_64), numbers([1, None, 0, 1], "b"))
+    more = batch(of_32([2 ** 31 - 1, 0]), of_64([-2 ** 63, 10 ** 18 - 1]), of_128([10 ** 38 - 1, -1]), of_256([None, 0]),
+                 lists([None, []], lambda _: structs([], of_128([]), of_256([]))), lists([[0], None], of_64), numbers([2, 0], "b"))
+    return b"".join([columns, dictionary_batch(7, of_256([100, -5])), first, dictionary_batch(7, of_256([2 ** 128]), True), more,
+                     END_MARKER])
 
 
 def maps():

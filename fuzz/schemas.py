@@ -14,7 +14,7 @@ sys.dont_write_bytecode = True
 sys.path.insert(0, str(pathlib.Path(__file__).resolve().parent.parent / "examples"))
 import frames
 from frames import scalar, table, vector
-from type_table import BY_CODE, BY_NAME, INT, MAP, STRUCT, TEXT, TYPES
+from type_table import BY_CODE, BY_NAME, DECIMAL, DIGITS, FARTHEST, INT, MAP, STRUCT, TEXT, TYPES
 
 V4, V5 = 3, 4
 KEYS = [b"", b"k", b"key", b"k", "Schlüssel".encode(), b"\xff\xfe", b"\0", b"ARROW:extension:name", b"\xc3", b"k" * 40]
@@ -66,25 +66,39 @@ def any_schema(chance, types=model.CORE):
     return model.Schema(0, fields, any_pairs(chance))
 
 
-def with_children(field, known, children):
-    """The same field, in which one field, itself or one below it, has other children."""
-    below = children if field is known else [with_children(it, known, children) for it in field["children"]]
-    return {**field, "children": below}
+def with_changes(field, known, changes):
+    """The same field, in which one field, itself or one below it, has these changes."""
+    if field is known:
+        return {**field, **changes}
+    return {**field, "children": [with_changes(it, known, changes) for it in field["children"]]}
 
 
-def misfit(chance, schema):
-    """The schema in which one map has no child, has two, or has one that is not a struct of two fields or is dictionary-encoded; None
-    if no field is a map."""
-    maps = [it for it in model.all_fields(schema.fields) if it["code"] == MAP.code]
-    if not maps:
-        return None
-    known = chance.choice(maps)
-    entries, = known["children"]
+def wrong_entries(field):
+    """Changes of a map: it has no child, has two, or has one that is not a struct of two fields or is dictionary-encoded."""
+    entries, = field["children"]
     key, value = entries["children"]
     others = [{"children": []}, {"children": [key]}, {"children": [key, value, key]}, {"encoding": (1000, (32, True), False, 0)},
               {"code": INT.code, "type": (32, True), "children": []}, {"code": BY_NAME["List"].code, "children": [value]}]
-    found = [schema._replace(fields=[with_children(it, known, children) for it in schema.fields])
-             for children in ([], [entries, entries], *([{**entries, **it}] for it in others))]
+    return [{"children": its} for its in ([], [entries, entries], *([{**entries, **it}] for it in others))]
+
+
+def wrong_decimals(field):
+    """Changes of a decimal: it has another precision, scale or width than it may have, or a child."""
+    precision, scale, width = field["type"]
+    its = [*((it, scale, width) for it in (0, -1, DIGITS[width] + 1, precision + 256)),
+           *((precision, it, width) for it in (FARTHEST + 1, -FARTHEST - 1, scale + 256)),
+           *((precision, scale, it) for it in (0, 16, 512, width + 65_536))]
+    return [*({"type": it} for it in its), {"children": [{**field, "encoding": None}]}]
+
+
+def misfit(chance, schema):
+    """The schema in which one map or one decimal is not as it may be; None if no field is one."""
+    wrong = {MAP.code: wrong_entries, DECIMAL.code: wrong_decimals}
+    its = [it for it in model.all_fields(schema.fields) if it["code"] in wrong]
+    if not its:
+        return None
+    known = chance.choice(its)
+    found = [schema._replace(fields=[with_changes(it, known, changes) for it in schema.fields]) for changes in wrong[known["code"]](known)]
     # a dictionary below another one is refused by another kind
     return chance.choice([it for it in found if not model.is_unsupported(it, model.ALL)])
 
@@ -219,7 +233,7 @@ class ByChance(Straight):
 
 
 def any_frame(chance, types=model.CORE):
-    """A random schema and a frame of it, now and then of a version that is not read, or with a map whose entries are not allowed."""
+    """A random schema and a frame of it, now and then of a version that is not read, or with a map or a decimal that is not allowed."""
     schema = any_schema(chance, types)
     if chance.random() < 0.2:
         schema = misfit(chance, schema) or schema

@@ -3,7 +3,7 @@ another language, with no code and no definition of the crates. It reads a whole
 
 `answers(bytes)` gives of each command standard output, standard error and the exit status. Limits are the defaults; of the sets of
 types it is the core, or the one that is given. What stands in metadata is read by model.py; what is shown of a floating-point
-number floats.py says, of an interval examples/type_table.py.
+number floats.py says, of an interval or a decimal examples/type_table.py.
 """
 import struct
 
@@ -71,7 +71,7 @@ class Column:
 
     def numbers(self, at):
         """The numbers in a slot, or its bytes."""
-        return struct.unpack_from("<" + self.form.slot, self.held[0], self.form.width * at)
+        return self.form.unpacked(self.held[0], at)
 
     def index(self, at):
         return self.numbers(at)[0]
@@ -127,7 +127,7 @@ def text_of(field, form, leaf):
         return leaf.decode()
     if form.layout in (BYTES, FIXED):
         return (leaf if form.layout == BYTES else leaf[0]).hex()
-    return floats.text(*field["type"], *leaf) if field["code"] == FLOATING.code else form.text.format(*leaf)
+    return floats.text(*field["type"], *leaf) if field["code"] == FLOATING.code else form.text(*leaf)
 
 
 class Body:

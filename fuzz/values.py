@@ -1,12 +1,11 @@
 """Columns, dictionaries and batches as chance will have them: streams of all types, laid out by examples/frames.py, and the rows
 that `arrowflow show` has to print of them, by docs/FORMAT.md alone.
 
-A kind is a type, one of the core or of those that it leaves out (floating-point numbers, intervals of each unit, maps), with the kinds
-below it, and perhaps the dictionary that has its values. A value is None if it is null, else a truth, a number, bytes, a text, a list,
+A kind is a type, one of the core or of those that it leaves out (floating-point numbers, decimals, intervals of each unit, maps), with
+the kinds below it, and perhaps the dictionary that has its values. A value is None if it is null, else a truth, a number, bytes, a text, a list,
 a tuple of the numbers of an interval or of the fields of a struct; by a dictionary it is an index. A map is a list of structs.
 """
 import pathlib
-import struct
 import sys
 
 sys.dont_write_bytecode = True
@@ -20,7 +19,7 @@ from type_table import BITS, BYTES, FIXED, FLOATING, INT, MAP, NULLS, TEXTS, TYP
 WORDS = ["", "a", "b,c", 'say "no"', "é€", "line\nbreak", "return\r", "a;b", "x" * 40, "null", "0"]
 NAMES = ["n", "column", "", "ä", "a b", 'q"', "c,d"]
 # The most bytes of a slot.
-WIDEST = 16
+WIDEST = 32
 
 
 class Kind:
@@ -48,7 +47,7 @@ class Kind:
         if self.form.layout in (BYTES, FIXED):
             count = self.form.width if self.form.layout == FIXED else chance.choice([0, 1, 3, 20])
             return bytes(chance.randrange(256) for _ in range(count))
-        return tuple(any_number(chance, it) for it in self.form.slot)
+        return tuple(any_number(chance, *it) for it in self.form.numbers)
 
     def shown(self, value, held):
         if self.form.layout == BITS:
@@ -57,14 +56,14 @@ class Kind:
             return value.hex()
         if self.form.layout == TEXTS:
             return value.decode()
-        return floats.text(*self.values, value) if self.row is FLOATING else self.form.text.format(*value)
+        return floats.text(*self.values, value) if self.row is FLOATING else self.form.text(*value)
 
 
-def any_number(chance, form):
-    """A number by its format of the module struct: the least, the greatest, 0, 1, or any."""
-    bits, signed = 8 * struct.calcsize("<" + form), form.islower()
+def any_number(chance, width, signed):
+    """A number of so many bytes: the least, the greatest, 0, 1, any, or one of few digits."""
+    bits = 8 * width
     low, high = (-2 ** (bits - 1), 2 ** (bits - 1) - 1) if signed else (0, 2 ** bits - 1)
-    return chance.choice([low, high, 0, 1, chance.randint(low, high)])
+    return chance.choice([low, high, 0, 1, chance.randint(low, high), chance.randint(max(low, -99), 99)])
 
 
 def any_float(chance, precision):

@@ -61,6 +61,13 @@ struct Ids {
 
 Offset<Int> any_int(FlatBufferBuilder &builder) { return CreateInt(builder, 8 << below(4), coin()); }
 
+Offset<Decimal> any_decimal(FlatBufferBuilder &builder) {
+    static const int32_t digits[] = {9, 18, 38, 76};
+    uint64_t which = below(4);
+    int32_t scale = coin() ? 0 : static_cast<int32_t>(below(153)) - 76;
+    return CreateDecimal(builder, 1 + static_cast<int32_t>(below(digits[which])), scale, 32 << which);
+}
+
 Offset<DictionaryEncoding> any_encoding(FlatBufferBuilder &builder, Ids &ids) {
     Offset<Int> index = coin() ? any_int(builder) : Offset<Int>(0);
     return CreateDictionaryEncoding(builder, ids.take(), index, coin());
@@ -95,8 +102,8 @@ Offset<Vector<Offset<KeyValue>>> any_pairs(FlatBufferBuilder &builder) {
 Offset<Field> any_field(FlatBufferBuilder &builder, Ids &ids, int levels, bool may_encode) {
     static const Type types[] = {Type_Null, Type_Int, Type_Binary, Type_Utf8, Type_Bool, Type_Date, Type_Time,
                                  Type_Timestamp, Type_FixedSizeBinary, Type_Duration, Type_LargeBinary, Type_LargeUtf8,
-                                 Type_FloatingPoint, Type_Interval, Type_List, Type_LargeList, Type_Struct_};
-    Type type = types[below(levels > 1 ? 17 : 14)];
+                                 Type_FloatingPoint, Type_Interval, Type_Decimal, Type_List, Type_LargeList, Type_Struct_};
+    Type type = types[below(levels > 1 ? 18 : 15)];
     Offset<DictionaryEncoding> encoding = 0;
     if (may_encode && below(4) == 0) {
         encoding = any_encoding(builder, ids);
@@ -112,6 +119,7 @@ Offset<Field> any_field(FlatBufferBuilder &builder, Ids &ids, int levels, bool m
     switch (type) {
         case Type_Int: table = any_int(builder).Union(); break;
         case Type_FloatingPoint: table = CreateFloatingPoint(builder, static_cast<Precision>(below(3))).Union(); break;
+        case Type_Decimal: table = any_decimal(builder).Union(); break;
         case Type_Interval: table = CreateInterval(builder, static_cast<IntervalUnit>(below(3))).Union(); break;
         case Type_Date: table = CreateDate(builder, static_cast<DateUnit>(below(2))).Union(); break;
         case Type_Time: table = CreateTime(builder, unit, unit < TimeUnit_MICROSECOND ? 32 : 64).Union(); break;
@@ -207,6 +215,8 @@ void tell(std::ostream &out, const Field *field) {
         }
     }
     if (auto type = field->type_as_Interval()) out << "unit " << type->unit();
+    if (auto type = field->type_as_Decimal())
+        out << type->precision() << " digits of " << type->bitWidth() << ", scale " << type->scale();
     if (auto type = field->type_as_FixedSizeBinary()) out << "width " << type->byteWidth();
     if (auto type = field->type_as_Map()) out << "sorted " << type->keysSorted();
     if (auto type = field->type_as_Duration()) out << "unit " << type->unit();

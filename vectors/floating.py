@@ -109,7 +109,7 @@ def schemas():
             in_schema((f"{FIELD}.type", "ffffff7f"))),
         "no_type_table": (MALFORMED, "a floating-point column whose type has no table", in_schema((f"{FIELD}.vtable.type", "0000"))),
         "precision_outside": (MALFORMED, "a precision that does not lie inside", in_schema((entry, "ff7f"))),
-        "decimals": (OWN, "a type that no set has", in_schema((f"{FIELD}.type_type", "07"))),
+        "unions": (OWN, "a type that no set has", in_schema((f"{FIELD}.type_type", "0e"))),
         "second_schema": (MALFORMED, "two schemas with doubles", SD + SD + END_MARKER),
         "child_of_doubles": (MALFORMED, "doubles with a child", schema(child) + END_MARKER),
         "big_endian_doubles": (OWN, "a schema of doubles that says it is big-endian", in_schema(("schema.header.endianness", "01"))),

@@ -2,7 +2,6 @@
 docs/FORMAT.md alone. README.md says what the lines mean."""
 import json
 import pathlib
-import struct
 import sys
 
 sys.dont_write_bytecode = True
@@ -11,9 +10,11 @@ sys.path[:0] = [str(TOP / "fuzz"), str(TOP / "examples")]
 import model
 import stream
 from model import ALL, CORE
-from type_table import BY_NAME, BYTES, FIXED, FLOATING, LISTS, NUMBERS, STRUCTS, TEXTS
+from type_table import BY_NAME, BYTES, DECIMAL, FIXED, FLOATING, LISTS, NUMBERS, STRUCTS, TEXTS
 
-INTERVAL = BY_NAME["Interval"]
+# The types of whose values the text that is shown is told, too, beside floating point; and the most bytes of what is told as a number.
+WITH_TEXTS = BY_NAME["Interval"].code, DECIMAL.code
+WIDEST = 16
 # What the names of the vectors begin with that are read with all types.
 OF_ALL = "all/"
 
@@ -50,13 +51,13 @@ def value(column, at):
 
 
 def number(column, at):
-    """The number in a slot: of a floating-point one the bits, of several numbers the bytes that they take; of these and of months the
-    text that is shown, too."""
+    """The number in a slot: of a floating-point one the bits, of several numbers or of one of 32 bytes the bytes that they take; of
+    these, of months and of decimals the text that is shown, too."""
     form, its = column.form, column.numbers(at)
     if column.field["code"] == FLOATING.code:
         return f"0x{its[0]:0{2 * form.width}x}={column.text(at)}"
-    held = str(its[0]) if len(its) == 1 else f'x"{struct.pack("<" + form.slot, *its).hex()}"'
-    return f"{held}={column.text(at)}" if column.field["code"] == INTERVAL.code else held
+    held = str(its[0]) if len(its) == 1 and form.width <= WIDEST else f'x"{form.packed(its).hex()}"'
+    return f"{held}={column.text(at)}" if column.field["code"] in WITH_TEXTS else held
 
 
 def pairs(noted):

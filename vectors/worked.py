@@ -222,7 +222,7 @@ EXAMPLES = {
         "all/singles_and_no_batch": column("d: float"), "all/halves_and_no_batch": column("d: halffloat"),
         "all/precision_of_3": refused("Schema", 0), "all/precision_of_minus_1": refused("Schema", 0),
         "all/no_precision": column("d: halffloat"), "all/type_table_outside": refused("Metadata", 0),
-        "all/no_type_table": refused("Metadata", 0), "all/decimals": refused("Unsupported", 0),
+        "all/no_type_table": refused("Metadata", 0), "all/unions": refused("Unsupported", 0),
         "all/precision_outside": refused("Metadata", 0), "all/second_schema": ["take 144 schema", *refused("Order", 144)],
         "all/child_of_doubles": refused("Schema", 0)}),
     "floating point in a batch, byte by byte": ([], {
@@ -270,10 +270,11 @@ RULES = {
     "a validity that is not empty has a bit for each slot": (["validity_of_all_bits", "spare_bit", "nulls_of_a5"], "Layout",
         ["validity_too_short"]),
     "values and indices have all their slots": (["spare_bits_and_slots", "fixed_bytes_of_width_0", "all/doubles_for_singles",
-        "all/day_times_for_months"], "Layout", [
+        "all/day_times_for_months", "all/decimal256_for_decimal128"], "Layout", [
         "values_too_short", "truths_too_short", "fixed_bytes_too_short", "durations_too_short", "indices_too_short",
         "all/doubles_too_short", "all/singles_for_doubles", "all/months_too_short", "all/day_times_too_short",
-        "all/month_day_nanos_too_short", "all/months_for_day_times"]),
+        "all/month_day_nanos_too_short", "all/months_for_day_times", "all/decimal32_too_short", "all/decimal64_too_short",
+        "all/decimal128_too_short", "all/decimal256_too_short", "all/decimal64_for_decimal128"]),
     "there is one offset more than slots, or there are no slots": (["one_offset", "no_offsets", "no_large_offsets"], "Layout", [
         "offsets_too_short", "large_offsets_too_short", "no_offsets_for_a_slot", "two_bytes_of_offsets", "three_bytes_of_offsets"]),
     "the first offset is not negative": (["first_offset_above_zero", "text_behind_two_bytes",

@@ -95,6 +95,10 @@ public:
 /// Bytes of a slot in the buffer of values, of formats that have such; of bits 0.
 std::size_t width_of(const std::string &format) {
     if (format.rfind("w:", 0) == 0) return std::stoul(format.substr(2));
+    if (format.rfind("d:", 0) == 0) {
+        const std::size_t bits = format.find(',', format.find(',') + 1);
+        return bits == std::string::npos ? 16 : std::stoul(format.substr(bits + 1)) / 8;
+    }
     if (format == "b") return 0;
     if (format == "tdD" || format == "tts" || format == "ttm" || format == "tiM") return 4;
     if (format == "tin") return 16;

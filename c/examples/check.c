@@ -73,6 +73,18 @@ static bool has_float(const arrowflow_column *of, size_t i, arrowflow_cell cell)
     return memcmp(&real, &cell.real, sizeof real) == 0;
 }
 
+/* Whether a cell has the number of slot i; one that takes more than 64 bits is not in the cell. */
+static bool has_number(const arrowflow_column *of, size_t i, arrowflow_cell cell) {
+    uint64_t number = number_of(of, i), above = 0;
+    if (of->width > 8) {
+        above = number_at(of->values + of->width * i + 8, of->width - 8);
+        if (above == (number >> 63 ? UINT64_MAX : 0)) return cell.type == ARROWFLOW_CELL_NUMBER && (uint64_t)cell.number == number;
+        if (above != 0) return cell.type == ARROWFLOW_CELL_HUGE;
+    }
+    if (cell.type == ARROWFLOW_CELL_NUMBER) return (uint64_t)cell.number == number;
+    return cell.type == ARROWFLOW_CELL_LARGE && cell.large == number;
+}
+
 static bool bit_at(const uint8_t *bits, size_t i) { return bits[i / 8] >> i % 8 & 1; }
 
 /* Whether a cell has just these bytes, which the call put into the room. */
@@ -94,9 +106,7 @@ static bool is_in_column(arrowflow_reader *reader, size_t *path, size_t depth, s
     }
     switch (of.layout) {
     case ARROWFLOW_LAYOUT_BITS: return cell.type == ARROWFLOW_CELL_BOOL && cell.truth == bit_at(of.values, i);
-    case ARROWFLOW_LAYOUT_NUMBERS:
-        return cell.type == ARROWFLOW_CELL_NUMBER ? (uint64_t)cell.number == number_of(&of, i)
-                                             : cell.type == ARROWFLOW_CELL_LARGE && cell.large == number_of(&of, i);
+    case ARROWFLOW_LAYOUT_NUMBERS: return has_number(&of, i, cell);
     case ARROWFLOW_LAYOUT_FLOATS: return has_float(&of, i, cell);
     case ARROWFLOW_LAYOUT_BINARIES: return has_bytes(cell, ARROWFLOW_CELL_BYTES, room, of.values + start, end - start);
     case ARROWFLOW_LAYOUT_TEXTS: return has_bytes(cell, ARROWFLOW_CELL_TEXT, room, of.values + start, end - start);
@@ -201,9 +211,26 @@ static const char *unit_word(char unit) {
     return unit == 's' ? "s" : unit == 'm' ? "ms" : unit == 'u' ? "us" : unit == 'n' ? "ns" : "?";
 }
 
+/* Adds the type of a decimal, of whose format this is what follows "d:": digits, scale, and bits if they are not 128. */
+static void add_decimal(text *to, const char *format, size_t len) {
+    const char *end = format + len, *scale = memchr(format, ',', len);
+    const char *bits = scale == NULL ? NULL : memchr(scale + 1, ',', (size_t)(end - scale - 1));
+    if (scale == NULL) return;
+    add_word(to, "decimal");
+    if (bits == NULL) add_word(to, "128");
+    else add(to, bits + 1, (size_t)(end - bits - 1));
+    add_word(to, "(");
+    add(to, format, (size_t)(scale - format));
+    add_word(to, ", ");
+    add(to, scale + 1, (size_t)((bits == NULL ? end : bits) - scale - 1));
+    add_word(to, ")");
+}
+
 /* Adds the type that a format string tells. */
 static void add_type(text *to, const char *format, size_t len) {
-    if (len >= 2 && memcmp(format, "w:", 2) == 0) {
+    if (len >= 2 && memcmp(format, "d:", 2) == 0) {
+        add_decimal(to, format + 2, len - 2);
+    } else if (len >= 2 && memcmp(format, "w:", 2) == 0) {
         add_word(to, "fixed_size_binary[");
         add(to, format + 2, len - 2);
         add_word(to, "]");

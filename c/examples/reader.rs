@@ -2,8 +2,8 @@
 //!
 //! Reads a stream in pieces of so many bytes, and prints the number of the batch and the values of
 //! each row, as `arrowflow show` does below its first line; `...` stands for a list or a struct. Texts
-//! are printed out of the buffers of their column, everything else cell by cell: an interval is a number
-//! or bytes there, which the format string of its field says. With --bad the calls of a reader are given
+//! and decimals are printed out of the buffers of their column, everything else cell by cell: an interval
+//! is a number or bytes there, which the format string of its field says. With --bad the calls of a reader are given
 //! what no stream is.
 
 use std::io::{self, BufWriter, Write};
@@ -108,6 +108,8 @@ const STANDARD: c::Limits = c::Limits { max_metadata: 1 << 26, max_body: 1 << 36
 struct Column<'a> {
     layout: u32,
     slots: usize,
+    /// Where the path ends with a value of a dictionary, the slot that it is in.
+    slot: usize,
     /// How many bytes a number, an index or an offset takes.
     width: usize,
     validity: &'a [u8],
@@ -121,7 +123,12 @@ impl<'a> Column<'a> {
     }
 
     fn offset(&self, i: usize) -> usize {
-        self.offsets[self.width * i..self.width * (i + 1)].iter().rev().fold(0, |sum, byte| sum << 8 | *byte as usize)
+        place_of(&self.offsets[self.width * i..self.width * (i + 1)])
+    }
+
+    /// The bytes of slot i, of those that all take as many.
+    fn bytes(&self, i: usize) -> &'a [u8] {
+        &self.values[self.width * i..self.width * (i + 1)]
     }
 
     /// The text in slot i, if slots hold texts and this one has one.
@@ -168,6 +175,7 @@ impl Reader {
             Column {
                 layout: it.layout,
                 slots: it.slots as usize,
+                slot: it.slot as usize,
                 width: it.width as usize,
                 validity: slice::from_raw_parts(it.validity, it.validity_len),
                 offsets: slice::from_raw_parts(it.offsets, it.offsets_len),
@@ -194,13 +202,33 @@ impl Reader {
 
     /// A value of the batch that came last, as `show` prints it.
     fn shown(&self, column: usize, row: usize, format: &str) -> String {
+        if let Some(words) = format.strip_prefix("d:") {
+            let scale = words.split(',').nth(1).and_then(|scale| scale.parse().ok()).expect("a scale");
+            return self.decimal(column, row).map_or(String::new(), |bytes| decimal_of(&bytes, scale));
+        }
         match self.column(&[column]).text(row) {
             Some(text) => quoted(text),
             None => self.cell(column, row, format),
         }
     }
 
-    /// The same, of a cell.
+    /// The bytes of a decimal, also of one by a dictionary, if there is one.
+    fn decimal(&self, column: usize, row: usize) -> Option<Vec<u8>> {
+        let (mut path, mut slot) = (vec![column], row);
+        loop {
+            let of = self.column(&path);
+            if of.is_null(slot) {
+                return None;
+            }
+            if of.layout != 9 {
+                return Some(of.bytes(slot).to_vec());
+            }
+            path.push(place_of(of.bytes(slot)));
+            slot = self.column(&path).slot;
+        }
+    }
+
+    /// A value, of a cell.
     fn cell(&self, column: usize, row: usize, format: &str) -> String {
         let mut room = vec![0; 64];
         loop {
@@ -240,6 +268,35 @@ fn shown(cell: c::Cell, bytes: &[u8], format: &str) -> String {
         10 => format!("{:?}", cell.real),
         _ => "...".to_string(),
     }
+}
+
+/// The number of these bytes.
+fn place_of(bytes: &[u8]) -> usize {
+    bytes.iter().rev().fold(0, |sum, byte| sum << 8 | *byte as usize)
+}
+
+/// A decimal whose whole number has these bytes: with a point before the last digits, as many as its scale says.
+fn decimal_of(bytes: &[u8], scale: i32) -> String {
+    let is_negative = bytes.last().is_some_and(|byte| byte >> 7 == 1);
+    let mut size = bytes.to_vec();
+    let mut carry = is_negative;
+    for byte in size.iter_mut().filter(|_| is_negative) {
+        (*byte, carry) = (!*byte).overflowing_add(carry as u8);
+    }
+    let mut digits = Vec::new();
+    while size.iter().any(|byte| *byte > 0) || digits.len() <= scale.max(0) as usize {
+        let mut rest = 0;
+        for byte in size.iter_mut().rev() {
+            let part = rest << 8 | u32::from(*byte);
+            (*byte, rest) = ((part / 10) as u8, part % 10);
+        }
+        digits.push(char::from(b'0' + rest as u8));
+    }
+    if scale > 0 {
+        digits.insert(scale as usize, '.');
+    }
+    let power = if scale < 0 { format!("e{}", -scale) } else { String::new() };
+    format!("{}{}{power}", if is_negative { "-" } else { "" }, digits.iter().rev().collect::<String>())
 }
 
 /// The signed number of 32 bits at an offset.

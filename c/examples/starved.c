@@ -310,8 +310,12 @@ static void add_schema(const struct ArrowSchema *schema) {
     if (schema->dictionary != NULL) add_schema(schema->dictionary);
 }
 
-/* Bytes of a slot of these formats, which the core of the types has. */
+/* Bytes of a slot of these formats. */
 static size_t width_of(const char *format) {
+    if (strncmp(format, "d:", 2) == 0) {
+        const char *bits = strrchr(format, ',');
+        return strchr(format, ',') == bits ? 16 : strtoul(bits + 1, NULL, 10) / 8;
+    }
     if (strncmp(format, "w:", 2) == 0) return strtoul(format + 2, NULL, 10);
     if (strcmp(format, "tdD") == 0 || strcmp(format, "tts") == 0 || strcmp(format, "ttm") == 0 || strcmp(format, "tiM") == 0) return 4;
     if (strcmp(format, "tin") == 0) return 16;

@@ -53,7 +53,14 @@ static size_t offset_width(const struct ArrowSchema *schema) {
     return is_one_of(schema, "ZU") || is_format(schema, "+L") ? 8 : 0;
 }
 
-/* Bytes of a slot's value that is a number, an interval or a byte string of one length. */
+/* Bytes of a decimal, whose format has its bits after a second comma if they are not 128. */
+static size_t decimal_width(const char *format) {
+    const char *scale = strchr(format, ','), *bits = scale == NULL ? NULL : strchr(scale + 1, ',');
+    WANT(scale != NULL && (bits == NULL || strcmp(bits, ",32") == 0 || strcmp(bits, ",64") == 0 || strcmp(bits, ",256") == 0));
+    return bits == NULL ? 16 : strtoul(bits + 1, NULL, 10) / 8;
+}
+
+/* Bytes of a slot's value that is a number, an interval, a decimal or a byte string of one length. */
 static size_t value_width(const struct ArrowSchema *schema) {
     const char *format = schema->format;
     if (is_one_of(schema, "cC")) return 1;
@@ -61,6 +68,7 @@ static size_t value_width(const struct ArrowSchema *schema) {
     if (is_one_of(schema, "iIf") || is_format(schema, "tdD") || is_format(schema, "tiM")) return 4;
     if (is_format(schema, "tts") || is_format(schema, "ttm")) return 4;
     if (is_format(schema, "tin")) return 16;
+    if (strncmp(format, "d:", 2) == 0) return decimal_width(format);
     if (strncmp(format, "w:", 2) == 0) return strtoul(format + 2, NULL, 10);
     WANT(is_one_of(schema, "lLg") || is_format(schema, "tdm") || is_format(schema, "ttu") || is_format(schema, "ttn")
          || is_format(schema, "tiD")
@@ -313,6 +321,41 @@ static void add_interval(struct text *to, const struct ArrowSchema *schema, cons
     }
 }
 
+/* Divides a number without a sign by ten, and gives what is left. */
+static unsigned without_last_digit(uint8_t *number, size_t width) {
+    unsigned rest = 0;
+    for (size_t k = width; k-- > 0;) {
+        rest = rest << 8 | number[k];
+        number[k] = (uint8_t)(rest / 10);
+        rest %= 10;
+    }
+    return rest;
+}
+
+/* A decimal: the digits of its whole number, with a point before the last ones, as many as its scale says. */
+static void add_decimal(struct text *to, const struct ArrowSchema *schema, const struct ArrowArray *array, size_t i) {
+    enum { MOST_DIGITS = 96 };
+    size_t width = value_width(schema), at = MOST_DIGITS;
+    long scale = strtol(strchr(schema->format, ',') + 1, NULL, 10);
+    uint8_t number[32] = {0}, zero[32] = {0};
+    char digits[MOST_DIGITS], power[24];
+    memcpy(number, (const uint8_t *)array->buffers[1] + width * i, width);
+    bool is_negative = number[width - 1] >> 7;
+    for (size_t k = 0, carry = 1; k < width && is_negative; k++) {
+        carry += (uint8_t)~number[k];
+        number[k] = (uint8_t)carry;
+        carry >>= 8;
+    }
+    do {
+        digits[--at] = (char)('0' + without_last_digit(number, width));
+        if (scale > 0 && MOST_DIGITS - at == (size_t)scale) digits[--at] = '.';
+    } while (memcmp(number, zero, width) != 0 || digits[at] == '.' || (scale > 0 && MOST_DIGITS - at < (size_t)scale));
+    if (is_negative) digits[--at] = '-';
+    add(to, digits + at, MOST_DIGITS - at);
+    snprintf(power, sizeof power, "e%ld", -scale);
+    if (scale < 0) add_words(to, power);
+}
+
 static void add_value(struct text *to, const struct ArrowSchema *schema, const struct ArrowArray *array, size_t i,
                       const char *null);
 
@@ -353,6 +396,7 @@ static void add_value(struct text *to, const struct ArrowSchema *schema, const s
     } else if (strncmp(schema->format, "w:", 2) == 0)
         add_hex(to, (const uint8_t *)array->buffers[1] + value_width(schema) * i, value_width(schema));
     else if (strncmp(schema->format, "ti", 2) == 0) add_interval(to, schema, array, i);
+    else if (strncmp(schema->format, "d:", 2) == 0) add_decimal(to, schema, array, i);
     else add_number(to, schema, array, i);
 }
 

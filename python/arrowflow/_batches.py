@@ -70,8 +70,8 @@ class Column:
 
     def buffers(self) -> List[Optional[memoryview]]:
         """The buffers, as the Arrow columnar format lays them out, as memoryviews of bytes that can only be read: of a Null column
-        none; else first the validity bitmap, None where each slot has a value; then of numbers, intervals, bits and byte strings of
-        one length the values; of lists and maps the offsets; of texts and byte strings the offsets and the bytes; of a dictionary-encoded
+        none; else first the validity bitmap, None where each slot has a value; then of numbers, intervals, decimals, bits and byte
+        strings of one length the values; of lists and maps the offsets; of texts and byte strings the offsets and the bytes; of a dictionary-encoded
         column the indices. Numbers are little-endian and begin at a multiple of 64 bytes, so `view.cast("i")` reads those of 32
         bits. A view, and what is made of it, keeps the memory alive, whatever becomes of the column, the batch and the stream."""
         return [self._view(k, size) for k, size in enumerate(self._sizes())]
@@ -82,7 +82,8 @@ class Column:
         datetime.time, of timestamps a datetime.datetime, of durations a datetime.timedelta; else the number of units: nanoseconds
         that are no whole microsecond, years after 9999, a time of a day that has none such. A timestamp with a zone has that zone
         where `zoneinfo` knows it or it is an offset such as "+02:00", and is in UTC where neither is so. Of intervals in months the
-        number of months, of the others a tuple of numbers, as they came: (days, milliseconds) or (months, days, nanoseconds).
+        number of months, of the others a tuple of numbers, as they came: (days, milliseconds) or (months, days, nanoseconds). A decimal is a
+        decimal.Decimal with all of its digits, and minus the scale as the exponent.
         ValueError where two fields of a struct have one name."""
         return values_in(self, 0, len(self))
 

@@ -2,7 +2,7 @@
 from __future__ import annotations
 
 import struct
-from typing import Optional
+from typing import Optional, Tuple
 
 _UNITS = {"s": "s", "m": "ms", "u": "us", "n": "ns"}
 _WORDS = {
@@ -17,9 +17,12 @@ _OFFSETS = {"z": "i", "u": "i", "+l": "i", "+m": "i", "Z": "q", "U": "q", "+L": 
 
 
 def words_of(format: str) -> str:
-    """A type as `arrowflow schema` prints it: int32, timestamp[us, Europe/Berlin], fixed_size_binary[7]."""
+    """A type as `arrowflow schema` prints it: int32, timestamp[us, Europe/Berlin], fixed_size_binary[7], decimal128(9, 2)."""
     if format in _WORDS:
         return _WORDS[format]
+    if format.startswith("d:"):
+        digits, scale, bits = _decimal(format)
+        return f"decimal{bits}({digits}, {scale})"
     if format.startswith("w:"):
         return f"fixed_size_binary[{format[2:]}]"
     name = {"tt": "time", "ts": "timestamp", "tD": "duration"}[format[:2]]
@@ -32,6 +35,17 @@ def zone_of(format: str) -> Optional[str]:
     return format[4:] or None if format.startswith("ts") else None
 
 
+def scale_of(format: str) -> Optional[int]:
+    """How many digits of a decimal are after the point, below 0 how many zeros follow its digits; None of another type."""
+    return _decimal(format)[1] if format.startswith("d:") else None
+
+
+def _decimal(format: str) -> Tuple[int, int, int]:
+    """Of a decimal how many digits it has at most, its scale, and its bits, which are 128 where the format does not say."""
+    digits, scale, bits = (*map(int, format[2:].split(",")), 128)[:3]
+    return digits, scale, bits
+
+
 def code_of(format: str) -> Optional[str]:
     """How the module `struct` unpacks the numbers of a slot of this format, or None where slots have none."""
     return "q" if format[:2] in ("ts", "tD") else _CODES.get(format)
@@ -41,6 +55,8 @@ def width_of(format: str) -> int:
     """The bytes of a slot in the second buffer, where each one has as many; else 0."""
     if format.startswith("w:"):
         return int(format[2:])
+    if format.startswith("d:"):
+        return _decimal(format)[2] // 8
     code = code_of(format)
     return struct.calcsize(f"<{code}") if code else 0
 

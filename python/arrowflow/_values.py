@@ -3,12 +3,13 @@ from __future__ import annotations
 
 import copy
 import datetime
+import decimal
 import functools
 import re
 import struct
 from typing import TYPE_CHECKING, Any, Callable, Dict, List, Optional, Tuple
 
-from ._formats import code_of, offset_code_of, width_of, zone_of
+from ._formats import code_of, offset_code_of, scale_of, width_of, zone_of
 
 if TYPE_CHECKING:
     from ._batches import Column
@@ -38,10 +39,11 @@ def _fixed(of: "Column", start: int, stop: int) -> List[Any]:
         return [*of._bits(1, start, stop)]
     if of.format == "+s":
         return _structs(of, start, stop)
-    if of.format.startswith("w:"):
-        width = width_of(of.format)
+    if of.format.startswith(("w:", "d:")):
+        width, scale = width_of(of.format), scale_of(of.format)
         found = of._raw(1, width * start, width * stop)
-        return [found[width * k:width * (k + 1)] for k in range(stop - start)]
+        parts = [found[width * k:width * (k + 1)] for k in range(stop - start)]
+        return parts if scale is None else [_decimal(it, scale) for it in parts]
     if of.format in ("tiD", "tin"):
         width = width_of(of.format)
         return [*struct.iter_unpack(f"<{code_of(of.format)}", of._raw(1, width * start, width * stop))]
@@ -89,6 +91,11 @@ def _looked_up(of: "Column", start: int, stop: int, valid: Optional[List[bool]])
     # each row has a list or a dict of its own
     one = copy.deepcopy if dictionary.format.startswith("+") else lambda value: value
     return [one(values[it]) if valid is None or valid[k] else None for k, it in enumerate(indices)]
+
+
+def _decimal(held: bytes, scale: int) -> decimal.Decimal:
+    """A decimal by the bytes of its whole number, exactly, whatever the context is."""
+    return decimal.Decimal(f"{int.from_bytes(held, 'little', signed=True)}e{-scale}")
 
 
 # ---- dates and times

@@ -9,7 +9,7 @@ TOP = pathlib.Path(__file__).resolve().parent.parent.parent
 PROGRAM = TOP / "crates/arrowflow_program/out/arrowflow_program"
 STREAMS = sorted([*(TOP / "examples").glob("*.arrows"), *(TOP / "vectors").glob("*.arrows")])
 # Streams whose types are not all in the core, which are given with both sets of types.
-OF_ALL_TYPES = sorted([TOP / "examples/floats.arrows", TOP / "examples/intervals.arrows", TOP / "examples/maps.arrows",
+OF_ALL_TYPES = sorted([*(it.with_suffix(".arrows") for it in (TOP / "examples").glob("*.options")),
                        *(TOP / "vectors/all").glob("*.arrows")])
 GROWING = TOP / "examples/growing_dictionary.arrows"
 # Three batches of nine rows, with a column of each type, and one of none.

@@ -1,6 +1,7 @@
 """The values of a column out of its buffers, read here without the package's own reading, and the text that `arrowflow show` prints of
 them."""
 import datetime
+import decimal
 import re
 import struct
 
@@ -34,8 +35,8 @@ class Buffers:
         return self.format != "n" and (self.buffers[0] is None or self.buffers[0][i // 8] >> i % 8 & 1)
 
     def value(self, i):
-        """What a slot holds: None, a bool, a number of units, a float, bytes, a str, a list, or a tuple of a struct's values or of
-        an interval's numbers."""
+        """What a slot holds: None, a bool, a number of units, a float, a decimal, bytes, a str, a list, or a tuple of a struct's
+        values or of an interval's numbers."""
         if not self.has_value(i):
             return None
         if self.format == "b":
@@ -49,6 +50,10 @@ class Buffers:
             return bytes(self.buffers[1][width * i:width * (i + 1)])
         if self.format in ("tiD", "tin"):
             return tuple(self.numbers_of(i))
+        if self.format.startswith("d:"):
+            _, scale, *bits = map(int, self.format[2:].split(","))
+            number = self.number(1, bits[0] // 8 if bits else 16, i, True)
+            return decimal.Decimal((number < 0, tuple(map(int, str(abs(number)))), -scale))
         code = NUMBERS.get(self.format, "q")
         if code in "efd":
             return struct.unpack_from(f"<{code}", self.buffers[1], WIDTHS[code] * i)[0]
@@ -135,6 +140,9 @@ def text_of(value, of, null):
     if isinstance(value, float):
         text = repr(value) if of.format == "g" else single(value)
         return {"nan": "NaN"}.get(text, text)
+    if isinstance(value, decimal.Decimal):
+        sign, digits, power = value.as_tuple()
+        return f"{value:f}" if power <= 0 else f"{'-' * sign}{''.join(map(str, digits))}e{power}"
     if of.format in INTERVALS:
         numbers = value if isinstance(value, tuple) else (value,)
         return "".join(f"{number}{letters}" for number, (_, letters) in zip(numbers, INTERVALS[of.format]))
@@ -159,10 +167,18 @@ def records(names, batches):
     return "".join(f"{line}\n" for line in lines).encode()
 
 
-def numbers_alike(found, wanted):
-    """Two texts of records, with each floating-point number laid out in one way, and without the names where one of those wanted has a
-    zero byte, at which a name ends in the Arrow C data interface."""
+def has_floats(field):
+    """Whether a field, or one below it, has floating-point numbers."""
+    return field.format in "efg" or any(map(has_floats, [*field.children, *([field.dictionary] if field.dictionary else [])]))
+
+
+def numbers_alike(found, wanted, schema):
+    """Two texts of records, with each floating-point number laid out in one way where the schema has such, and without the names where
+    one of those wanted has a zero byte, at which a name ends in the Arrow C data interface."""
     start = [FIRST_RECORD.match(it).end() for it in (found, wanted)]
     if b"\0" not in wanted[:start[1]]:
         start = [0, 0]
-    return [FLOAT.sub(lambda it: repr(float(it[0])).encode(), text[at:]) for text, at in zip((found, wanted), start)]
+    texts = [text[at:] for text, at in zip((found, wanted), start)]
+    if any(map(has_floats, schema)):
+        texts = [FLOAT.sub(lambda it: repr(float(it[0])).encode(), it) for it in texts]
+    return texts

@@ -173,9 +173,9 @@ def compare_values(stream, limits, shown):
     yield "values, buffers and null counts", unlike, []
     # `show` begins with the names where a stream has a schema
     if shown[0]:
-        names = arrowflow.open(stream, limits).schema.names
+        schema = arrowflow.open(stream, limits).schema
         batches = [([Buffers(column) for column in it.columns], len(it)) for it in seen.batches]
-        yield "records", *numbers_alike(records(names, batches), shown[0])
+        yield "records", *numbers_alike(records(schema.names, batches), shown[0], schema)
 
 
 def compare_column(column, values):

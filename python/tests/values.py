@@ -1,5 +1,6 @@
-"""Values of dates, times and intervals, and lists and dicts that are nobody else's."""
+"""Values of dates, times, intervals and decimals, and lists and dicts that are nobody else's."""
 import datetime
+import decimal
 
 import arrowflow
 
@@ -105,6 +106,35 @@ def intervals():
                             frames.batch(frames.numbers([2, 1, None, 0, 2])), frames.END_MARKER])
         found = next(arrowflow.open(encoded, arrowflow.ALL_TYPES)).column("x").to_pylist()
         yield f"{name} by a dictionary", found, [wanted[2], None, None, wanted[0], wanted[2]]
+
+
+def decimals():
+    """Decimals of each width, in bytes that are written out: three slots, the second of which is null; also as a dictionary's values."""
+    for format, (name, width, precision, scale), written, wanted in (
+            ("d:9,2,32", ("decimal32(9, 2)", 32, 9, 2), "05000000 00000000 ceffffff", ("0.05", None, "-0.50")),
+            ("d:18,-3,64", ("decimal64(18, -3)", 64, 18, -3), "0c00000000000000" + 8 * "00" + "ff" * 8, ("12e3", None, "-1e3")),
+            ("d:38,0", ("decimal128(38, 0)", 128, 38, 0), "ff" * 15 + "7f" + 16 * "00" + 15 * "00" + "80", (
+                "170141183460469231731687303715884105727", None, "-170141183460469231731687303715884105728")),
+            ("d:76,76,256", ("decimal256(76, 76)", 256, 76, 76), "01" + 31 * "00" + 32 * "00" + 31 * "00" + "80", ("1e-76", None,
+                "-5.7896044618658097711785492504343953926634992332820282019728792003956564819968"))):
+        values = [None if it is None else decimal.Decimal(it) for it in wanted]
+        kind, its = frames.decimal(width, precision, scale), frames.Column([(3, 1)], [b"\5", bytes.fromhex(written)])
+        plain = frames.schema(frames.field("x", kind)) + frames.batch(its) + frames.END_MARKER
+        column = next(arrowflow.open(plain, arrowflow.ALL_TYPES)).column("x")
+        with decimal.localcontext() as context:
+            context.prec = 2
+            found = column.to_pylist(), [column[it] for it in range(3)]
+        # equal numbers may have other zeros at their end
+        yield name, (column.type, column.format, *map(repr, found)), (name, format, repr(values), repr(values))
+        yield f"the buffers of {name}", [bytes(it) for it in column.buffers()], [b"\5", bytes.fromhex(written)]
+        yield f"{name} with the core", raised_by(arrowflow.sanitize, plain).kind, arrowflow.Kind.UNSUPPORTED
+        encoded = b"".join([frames.schema(frames.field("x", kind, encoding=frames.dictionary(1))), frames.dictionary_batch(1, its),
+                            frames.batch(frames.numbers([2, 1, None, 0, 2])), frames.END_MARKER])
+        found = next(arrowflow.open(encoded, arrowflow.ALL_TYPES)).column("x").to_pylist()
+        yield f"{name} by a dictionary", repr(found), repr([values[2], None, None, values[0], values[2]])
+    for wrong in ((16, 4, 2), (128, 39, 0), (32, 9, 77)):
+        data = frames.schema(frames.field("x", frames.decimal(*wrong)))
+        yield f"a decimal of {wrong}", raised_by(arrowflow.sanitize, data, arrowflow.ALL_TYPES).kind, arrowflow.Kind.SCHEMA
 
 
 def maps():

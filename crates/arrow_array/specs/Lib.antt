@@ -23,6 +23,7 @@ pub use Rattle.arrow_data.specs.Laws
 pub use Rattle.arrow_data.specs.Half
 pub use Rattle.arrow_data.specs.Floats
 pub use Rattle.arrow_data.specs.Intervals
+pub use Rattle.arrow_data.specs.Decimals
 pub use Rattle.arrow_builder.specs.Below
 pub use Rattle.arrow_builder.specs.Buffers
 pub use Rattle.arrow_builder.specs.Built

@@ -1,7 +1,6 @@
 -- The numbers that bytes hold lie in the range of their width and sign.
-use Rattle.std.proofs.Common.{◌≡◌, ℕ, ◌+◌, ◌*◌, ◌-◌, ◌^◌, ◌<◌, ◌≤◌, Bool, true, false, List, length, get_or, refl, subst, arith, nat_lt, if◌then◌else◌}
+use Rattle.std.proofs.Common.{ℕ, ◌+◌, ◌*◌, ◌^◌, ◌<◌, ◌≤◌, Bool, true, false, List, length, get_or, arith}
 use Rattle.std.proofs.lemmas.Int.{ints}
-use Rattle.std.specs.Prelude.{ℤ, pos, negsuc}
 use Rattle.byteorder.proofs.Bytes.{pow256}
 use Rattle.arrow_bits.specs.Numbers.{number_at, signed_at, twos_complement, int_of, FitsInt}
 use Rattle.arrow_bits.proofs.Reading.{number_at-lt}

@@ -4,6 +4,7 @@ use Rattle.std.proofs.lemmas.List.{take_all, get_or-drop}
 use Rattle.std.proofs.Math.Nat.{pow-suc}
 use Rattle.std.proofs.lemmas.Int.{ints}
 use mir.Val.{to_z}
+use Rattle.std.specs.Int.{w128}
 use Rattle.byteorder.specs.Endian.{little_from}
 use Rattle.arrow_bits.specs.Numbers.{number_of, number_at, twos_complement}
 
@@ -48,6 +49,10 @@ signed_32 n h = grind (arith, ints)
 -- the same of eight bytes
 pub signed_64 : (n : ℕ) → n < 18446744073709551616 → to_z w64 n ≡ twos_complement 8 n
 signed_64 n h = grind (arith, ints)
+
+-- the same of sixteen bytes
+pub signed_128 : (n : ℕ) → n < 340282366920938463463374607431768211456 → to_z w128 n ≡ twos_complement 16 n
+signed_128 n h = grind (arith, ints)
 
 -- a part of bytes are bytes
 pub bytes_take : (n : ℕ) (xs : List ℕ) → ((i : ℕ) → get_or xs i 0 < 256) → (i : ℕ) → get_or (take n xs) i 0 < 256

@@ -3,8 +3,9 @@ use Rattle.std.proofs.Common.{◌≡◌, ℕ, zero, suc, ◌-◌, ◌*◌, ◌/�
 use Rattle.std.proofs.lemmas.List.{take_all}
 use Rattle.std.proofs.Math.Seq.{drop-append_seam}
 use Rattle.std.proofs.lemmas.Int.{ints}
-use Rattle.std.proofs.Math.Nat.{pow-suc}
-use Rattle.std.specs.Prelude.{ℤ, pos, negsuc, Result, OnOk, Ok, Err}
+use Rattle.std.proofs.Math.Nat.{pow-suc, div-div-eq-div-mul}
+use Rattle.std.specs.Prelude.{ℤ, pos, negsuc, ◌<ℤ◌, Result, OnOk, Ok, Err}
+use Rattle.std.specs.Int.{w128, bytes_low_first, to_le_bytes, cast_unsigned}
 use Rattle.byteorder.proofs.Bytes.{pow256}
 use Rattle.arrow_bits.specs.Numbers.{number_of, number_at, signed_at, twos_complement, int_of, FitsInt, number_bytes, int_bytes}
 
@@ -39,6 +40,25 @@ twos_low width n h = grind arith
 -- one of the upper half is
 twos_high : (width n : ℕ) → 1 ≤ width → n < 2 ^ (8 * width - 1) → twos_complement width (2 ^ (8 * width) - 1 - n) ≡ negsuc n
 twos_high width n one h = grind (arith, ints, halves width one)
+
+-- the bytes of a number from byte i upward
+number_from : (i width n : ℕ) → bytes_low_first i width n ≡ number_bytes width (n / 256 ^ i)
+number_from i zero n = refl
+number_from zero (suc width) n =
+    let whole : n / 256 ^ 0 ≡ n = omega arith in
+    rw (whole, number_from 1 width n) refl
+number_from (suc i) (suc width) n =
+    let next : n / 256 ^ suc i / 256 ≡ n / 256 ^ suc (suc i) = div-div-eq-div-mul n (256 ^ suc i) 256 ∙ ap (λ m. n / m) (omega (arith, pow-suc 256 (suc i))) in
+    rw (next, number_from (suc (suc i)) width n) refl
+
+-- a value in 128 bits has their bytes
+pub int_whole : (value : ℤ) → value <ℤ pos (2 ^ 127) → to_le_bytes w128 (cast_unsigned w128 value) ≡ int_bytes 16 value
+int_whole (pos n) top =
+    let bits : cast_unsigned w128 (pos n) / 256 ^ 0 ≡ n = omega (arith, ints, top) in
+    number_from 0 16 (cast_unsigned w128 (pos n)) ∙ ap (number_bytes 16) bits
+int_whole (negsuc n) top =
+    let bits : cast_unsigned w128 (negsuc n) / 256 ^ 0 ≡ 2 ^ 128 - 1 - n = omega (arith, ints, top) in
+    number_from 0 16 (cast_unsigned w128 (negsuc n)) ∙ ap (number_bytes 16) bits
 
 -- the value again, by the sign for which it fits
 pub int_behind : (bytes : List ℕ) (width : ℕ) (value : ℤ) → 1 ≤ width → (signed : Bool) → FitsInt width signed value

@@ -26,6 +26,14 @@ int_of bytes place width signed = if signed then signed_at bytes place width els
 abbrev pub IsWidth : ℕ → Type 0
 IsWidth width = (width ≡ 1) ⊎ (width ≡ 2) ⊎ (width ≡ 4) ⊎ (width ≡ 8)
 
+-- that, or the width of 128 bits (Schema.fbs, "Decimal")
+abbrev pub IsAnyWidth : ℕ → Type 0
+IsAnyWidth width = IsWidth width ⊎ (width ≡ 16)
+
+-- a width of the integers with a sign, or of those without: of 128 bits there are those with a sign alone
+abbrev pub IsIntWidth : ℕ → Bool → Type 0
+IsIntWidth width signed = IsWidth width ⊎ ((width ≡ 16) × (signed ≡ true))
+
 -- the value lies in the range of the signed, or of the unsigned, numbers of this width
 abbrev pub FitsInt : ℕ → Bool → ℤ → Type 0
 FitsInt width true value = (neg_ℤ (pos (2 ^ (8 * width - 1))) ≤ℤ value) × (value <ℤ pos (2 ^ (8 * width - 1)))

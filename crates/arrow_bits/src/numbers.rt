@@ -2,7 +2,7 @@
 
 ghost use Rattle.std.specs.Prelude.{◌≡◌, ◌+◌, ◌*◌, ◌≤◌, ◌++◌, Bool, length, OnOk, OnErr};
 ghost use Rattle.arrow_bits.specs.Numbers.{number_at, signed_at, int_of, int_bytes};
-ghost use Rattle.arrow_bits.specs.Numbers.{IsWidth, FitsInt, FitsWidth};
+ghost use Rattle.arrow_bits.specs.Numbers.{IsWidth, IsAnyWidth, IsIntWidth, FitsInt, FitsWidth};
 
 use byteorder::{ByteOrder, LittleEndian};
 use std::alloc::AllocError;
@@ -11,16 +11,17 @@ use std::alloc::AllocError;
 ///
 /// Slots are counted from 0, and slot `i` is the bytes from `width * i` up to `width * (i + 1)`,
 /// the least significant first (Columnar Format, "Fixed-size Primitive Layout"). `width` is 1, 2, 4
-/// or 8. Where `signed` holds the bytes are read as two's complement, else as a number that is 0 or
-/// more. The slot has to lie inside the bytes. No call fails, and none takes memory.
+/// or 8, or 16 where `signed` holds. Where it holds the bytes are read as two's complement, else as
+/// a number that is 0 or more. The slot has to lie inside the bytes. No call fails, and none takes
+/// memory.
 pub fn int_at(bytes: &[u8], width: usize, signed: bool, i: usize) -> i128
-    requires width { IsWidth width }
+    requires width { IsIntWidth width signed }
     requires inside { width * i + width ≤ length bytes.now }
     ensures { result ≡ int_of bytes.now (width * i) width signed }
 {
     let place = width * i;
     if signed {
-        i128::from(read_signed(bytes, width, place))
+        read_signed(bytes, width, place)
     } else {
         i128::from(read_unsigned(bytes, width, place))
     }
@@ -50,6 +51,14 @@ pub(crate) fn u64_at(bytes: &[u8], place: usize) -> u64
     LittleEndian::read_u64(&bytes[place..])
 }
 
+// The number of the sixteen bytes at a place.
+fn u128_at(bytes: &[u8], place: usize) -> u128
+    requires { place + 16 ≤ length bytes.now }
+    ensures { result ≡ number_at bytes.now place 16 }
+{
+    LittleEndian::read_u128(&bytes[place..])
+}
+
 // The number of the `width` bytes at a place.
 pub(crate) fn read_unsigned(bytes: &[u8], width: usize, place: usize) -> u64
     requires width { IsWidth width }
@@ -65,33 +74,48 @@ pub(crate) fn read_unsigned(bytes: &[u8], width: usize, place: usize) -> u64
     }
 }
 
-// The same, by its sign.
-fn read_signed(bytes: &[u8], width: usize, place: usize) -> i64
-    requires width { IsWidth width }
+// The signed number of the `width` bytes at a place.
+fn read_signed(bytes: &[u8], width: usize, place: usize) -> i128
+    requires width { IsAnyWidth width }
     requires inside { place + width ≤ length bytes.now }
     ensures { result ≡ signed_at bytes.now place width }
 {
     match width {
-        1 => i64::from(bytes[place].cast_signed()),
-        2 => i64::from(u16_at(bytes, place).cast_signed()),
-        4 => i64::from(u32_at(bytes, place).cast_signed()),
-        // 8, the width that is left
-        _ => u64_at(bytes, place).cast_signed(),
+        1 => i128::from(bytes[place].cast_signed()),
+        2 => i128::from(u16_at(bytes, place).cast_signed()),
+        4 => i128::from(u32_at(bytes, place).cast_signed()),
+        8 => i128::from(u64_at(bytes, place).cast_signed()),
+        // 16, the width that is left
+        _ => u128_at(bytes, place).cast_signed(),
     }
 }
 
 /// Appends an integer of `width` bytes, the least significant first.
 ///
-/// `width` is 1, 2, 4 or 8. The value has to lie in the range of the signed or of the unsigned
+/// `width` is 1, 2, 4, 8 or 16. The value has to lie in the range of the signed or of the unsigned
 /// integers of this width; a negative one is written as two's complement, so that `int_at` reads it
 /// back by the sign for which it fits. The only error is `AllocError`, where the list found no
 /// memory to grow, and the list is then as it was.
 pub fn put_int(out: &mut Vec<u8>, width: usize, value: i128) -> Result<(), AllocError>
-    requires width { IsWidth width }
+    requires width { IsAnyWidth width }
     requires fits { FitsWidth width value }
     ensures bytes { OnOk result (out.new.items ≡ out.old.items ++ int_bytes width value) }
     ensures reads { OnOk result ((signed : Bool) → FitsInt width signed value →
         int_of out.new.items (length out.old.items) width signed ≡ value) }
+    ensures err { OnErr result (out.new.items ≡ out.old.items) }
+{
+    if width == 16 {
+        out.extend_from_slice(&value.cast_unsigned().to_le_bytes())
+    } else {
+        put_narrow(out, width, value)
+    }
+}
+
+// The same of 64 bits at most, which are faster to cut than 128.
+fn put_narrow(out: &mut Vec<u8>, width: usize, value: i128) -> Result<(), AllocError>
+    requires width { IsWidth width }
+    requires fits { FitsWidth width value }
+    ensures bytes { OnOk result (out.new.items ≡ out.old.items ++ int_bytes width value) }
     ensures err { OnErr result (out.new.items ≡ out.old.items) }
 {
     let number = if value < 0 {

@@ -10,8 +10,9 @@ use Rattle.arrow_types.specs.Field.{Fields, none, more}
 use Rattle.arrow_types.specs.declared.field.Encoding.{Encoding}
 use Rattle.arrow_types.specs.declared.node.FieldNode.{FieldNode}
 use Rattle.arrow_types.specs.declared.node.Buffer.{Buffer}
+use Rattle.arrow_data.specs.declared.form.NumberForm.TheVariants as numbers
 use Rattle.arrow_data.specs.Column.{ValueList}
-use Rattle.arrow_data.specs.Form.{node_form}
+use Rattle.arrow_data.specs.Form.{node_form, index_form}
 use Rattle.arrow_data.specs.Layout.{IsIndexed}
 use Rattle.arrow_data.specs.Parts.{values_in}
 use Rattle.arrow_data.specs.PlainValue.{PlainValue, null_value, bool_value, int_value, binary_value, utf8_value, list_value, struct_value, value_at, is_null_value}
@@ -37,7 +38,7 @@ entry_inside values (pos n) r same = slice_get_within values n r same
 entry_inside values (negsuc n) r same = cc
 
 -- the index of a slot that is not null
-entry_number : (e : Encoding) (c : Fields) (d : ℤ → List PlainValue) (v : PlainValue) → IsOwn (forms.Numbers e.index.bits e.index.signed) c v → Stands (resolve (Some e) c d) v
+entry_number : (e : Encoding) (c : Fields) (d : ℤ → List PlainValue) (v : PlainValue) → IsOwn (index_form e) c v → Stands (resolve (Some e) c d) v
     → not (is_null_value v) ≡ true → FitsInt (index_width e.index) e.index.signed (number_in v) × IsIndex (length (d e.id)) (number_in v)
 entry_number e c d null_value own stands h = cc
 entry_number e c d (bool_value b) own stands h = cc
@@ -47,13 +48,13 @@ entry_number e c d (utf8_value b) own stands h = absurd own
 entry_number e c d (list_value b) own stands h = absurd own
 entry_number e c d (struct_value b) own stands h = let other = own.0 in cc
 
-are_indices : (e : Encoding) (c : Fields) (d : ℤ → List PlainValue) (vs : List PlainValue) → AllByRecursion (IsOwn (forms.Numbers e.index.bits e.index.signed) c) vs → AllStand (resolve (Some e) c d) vs
+are_indices : (e : Encoding) (c : Fields) (d : ℤ → List PlainValue) (vs : List PlainValue) → AllByRecursion (IsOwn (index_form e) c) vs → AllStand (resolve (Some e) c d) vs
     → AreIndices (length vs) (index_width e.index) e.index.signed (validity_bytes vs) (number_buffer (index_width e.index) vs) (length (d e.id))
 are_indices e c d vs own stand = λ j h valid.
     let w = index_width e.index in
-    let known = entry_number e c d (value_at vs j) (in_slot (IsOwn (forms.Numbers e.index.bits e.index.signed) c) vs j h own) (in_slot (Stands (resolve (Some e) c d)) vs j h stand) (sym (read_valid vs j h) ∙ valid) in
+    let known = entry_number e c d (value_at vs j) (in_slot (IsOwn (index_form e) c) vs j h own) (in_slot (Stands (resolve (Some e) c d)) vs j h stand) (sym (read_valid vs j h) ∙ valid) in
     let at = get_or-map number_in vs j null_value (pos 0) h in
-    let read = int_read w e.index.signed (map number_in vs) j (some_bytes e.index.bits) (omega (arith, h, length-map vs number_in)) (subst (FitsInt w e.index.signed) (sym at) known.0) in
+    let read = int_read w e.index.signed (map number_in vs) j (some_bytes (numbers.Int e.index.bits e.index.signed)) (omega (arith, h, length-map vs number_in)) (subst (FitsInt w e.index.signed) (sym at) known.0) in
     subst (IsIndex (length (d e.id))) (sym (read ∙ at)) known.1
 
 is_indexed : (tag : Tag) (e : Option Encoding) (c : Fields) (ds : List (ℤ × ValueList)) (vs : List PlainValue) → AllByRecursion (IsOwn (node_form tag e) c) vs → AllStand (resolve e c (values_by ds)) vs

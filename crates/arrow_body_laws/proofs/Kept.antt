@@ -103,10 +103,10 @@ kept_chunks forms.Bits c vs b below k =
     let first = bitmap_kept forms.Bits c vs b below _ k (λ j. refl) shown in
     let second = bools_again vs (buffer b 0) (buffer b 1) shown (k.small 1) k.layout in
     two_of b k.many ∙ (λ i. first i ∷ second i ∷ [])
-kept_chunks (forms.Numbers bits signed) c vs b below k =
-    let shown = are_shown vs (value_slot (forms.Numbers bits signed) b below) k.read in
-    let first = bitmap_kept (forms.Numbers bits signed) c vs b below _ k (λ j. refl) shown in
-    let second = ints_again bits signed vs (buffer b 0) (buffer b 1) shown (k.small 1) k.layout in
+kept_chunks (forms.Numbers number) c vs b below k =
+    let shown = are_shown vs (value_slot (forms.Numbers number) b below) k.read in
+    let first = bitmap_kept (forms.Numbers number) c vs b below _ k (λ j. refl) shown in
+    let second = ints_again number vs (buffer b 0) (buffer b 1) shown (k.small 1) k.layout in
     two_of b k.many ∙ (λ i. first i ∷ second i ∷ [])
 kept_chunks (forms.Bytes w) c vs b below k =
     let r = ranged_strings w c vs b below k in
@@ -180,7 +180,7 @@ structs_kept c vs b below k =
 pub kept_below : (form : Form) (c : Fields) (vs : List PlainValue) (b : List (List ℕ)) (below : List (List PlainValue)) → IsKept form c vs b below → below ≡ raws_below form c vs
 kept_below forms.Nulls c vs b below k = no_elements below k.long
 kept_below forms.Bits c vs b below k = no_elements below k.long
-kept_below (forms.Numbers bits signed) c vs b below k = no_elements below k.long
+kept_below (forms.Numbers number) c vs b below k = no_elements below k.long
 kept_below (forms.Bytes w) c vs b below k = no_elements below k.long
 kept_below (forms.Texts w) c vs b below k = no_elements below k.long
 kept_below (forms.FixedBytes w) c vs b below k = no_elements below k.long

@@ -88,7 +88,7 @@ pub is_laid : (form : Form) (c : Fields) (vs : List PlainValue) → AllByRecursi
     → HoldsSlots form (length vs) (own_chunks form vs) (map length (raws_below form c vs))
 is_laid forms.Nulls c vs own small = tt
 is_laid forms.Bits c vs own small = has_bools vs
-is_laid (forms.Numbers bits signed) c vs own small = has_ints (number_width bits) vs
+is_laid (forms.Numbers number) c vs own small = has_ints (number_width number) vs
 is_laid (forms.Bytes w) c vs own small = has_strings w vs small.near
 is_laid (forms.Texts w) c vs own small = has_strings w vs small.near
 is_laid (forms.FixedBytes w) c vs own small = has_fixed w c vs own
@@ -139,7 +139,7 @@ is_count vs = inr (ap pos (sym (nulls_are vs)))
 pub is_counted : (form : Form) (vs : List PlainValue) → IsCountOf form (own_node vs) (buffer (own_chunks form vs) 0)
 is_counted forms.Nulls vs = tt
 is_counted forms.Bits vs = is_count vs
-is_counted (forms.Numbers bits signed) vs = is_count vs
+is_counted (forms.Numbers number) vs = is_count vs
 is_counted (forms.Bytes w) vs = is_count vs
 is_counted (forms.Texts w) vs = is_count vs
 is_counted (forms.FixedBytes w) vs = is_count vs
@@ -166,7 +166,7 @@ pub is_text : (form : Form) (c : Fields) (vs : List PlainValue) → AllByRecursi
     → HoldsTexts form (length vs) (own_chunks form vs)
 is_text forms.Nulls c vs own small = tt
 is_text forms.Bits c vs own small = tt
-is_text (forms.Numbers bits signed) c vs own small = tt
+is_text (forms.Numbers number) c vs own small = tt
 is_text (forms.Bytes w) c vs own small = tt
 is_text (forms.Texts w) c vs own small = are_texts w c vs own small.near
 is_text (forms.FixedBytes w) c vs own small = tt

@@ -84,7 +84,7 @@ lists_fit form (more h c rest) vs fit = (items_hold (Fits form (more h c rest)) 
 below_fit : (form : Form) (c : Fields) (vs : List PlainValue) → AllByRecursion (Fits form c) vs → ColumnsHold FitsField c (raws_below form c vs)
 below_fit forms.Nulls c vs fit = none_hold FitsField c
 below_fit forms.Bits c vs fit = none_hold FitsField c
-below_fit (forms.Numbers bits signed) c vs fit = none_hold FitsField c
+below_fit (forms.Numbers number) c vs fit = none_hold FitsField c
 below_fit (forms.Bytes w) c vs fit = none_hold FitsField c
 below_fit (forms.Texts w) c vs fit = none_hold FitsField c
 below_fit (forms.FixedBytes w) c vs fit = none_hold FitsField c
@@ -100,7 +100,7 @@ one_below (more h c (more h' c' rest)) vs w formed = absurd formed
 below_many : (form : Form) (c : Fields) (vs : List PlainValue) → HasFieldsOf form c → length (raws_below form c vs) ≡ width c
 below_many forms.Nulls c vs formed = ap width (sym formed)
 below_many forms.Bits c vs formed = ap width (sym formed)
-below_many (forms.Numbers bits signed) c vs formed = ap width (sym formed)
+below_many (forms.Numbers number) c vs formed = ap width (sym formed)
 below_many (forms.Bytes w) c vs formed = ap width (sym formed)
 below_many (forms.Texts w) c vs formed = ap width (sym formed)
 below_many (forms.FixedBytes w) c vs formed = ap width (sym formed)

@@ -8,7 +8,7 @@ use Rattle.arrow_types.specs.declared.field.Encoding.{Encoding}
 use Rattle.arrow_types.specs.declared.node.FieldNode.{FieldNode}
 use Rattle.arrow_types.specs.declared.node.Buffer.{Buffer}
 use Rattle.arrow_data.specs.Column.{Column, ValueList}
-use Rattle.arrow_data.specs.Form.{form_of, node_form}
+use Rattle.arrow_data.specs.Form.{form_of, node_form, index_form}
 use Rattle.arrow_data.specs.PlainValue.{PlainValue}
 use Rattle.arrow_data.specs.Slots.{slots}
 use Rattle.arrow_data.specs.Parts.{node_column, value_slot, index_slot, values_in}
@@ -27,7 +27,7 @@ pub layout_read : (form : Form) (c : Fields) (vs : List PlainValue) → AllByRec
     → slots (length vs) (value_slot form (own_chunks form vs) (raws_below form c vs)) ≡ vs
 layout_read forms.Nulls c vs own small = read_nulls c vs own
 layout_read forms.Bits c vs own small = read_bools c vs own
-layout_read (forms.Numbers bits signed) c vs own small = read_ints bits signed c vs own
+layout_read (forms.Numbers number) c vs own small = read_ints number c vs own
 layout_read (forms.Bytes w) c vs own small = read_strings w c vs own small.near
 layout_read (forms.Texts w) c vs own small = read_texts w c vs own small.near
 layout_read (forms.FixedBytes w) c vs own small = read_fixed w c vs own
@@ -42,7 +42,7 @@ pub node_read : (tag : Tag) (e : Option Encoding) (c : Fields) (vs : List PlainV
 node_read tag None c vs len b cs values own small long same kids =
     (λ i. slots (long i) (value_slot (form_of tag) (same i) (kids refl i))) ∙ layout_read (form_of tag) c vs own small
 node_read tag (Some e) c vs len b cs values own small long same kids =
-    (λ i. slots (long i) (index_slot e (same i))) ∙ layout_read (forms.Numbers e.index.bits e.index.signed) c vs own small
+    (λ i. slots (long i) (index_slot e (same i))) ∙ layout_read (index_form e) c vs own small
 
 -- the columns below a field without an encoding
 if_none : (e : Option Encoding) (cs : List Column) → e ≡ None → if_flattened e cs ≡ cs

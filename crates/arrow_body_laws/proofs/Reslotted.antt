@@ -7,8 +7,8 @@ use Rattle.std.proofs.lemmas.List.{get_or-map, length-map}
 use Rattle.std.proofs.lemmas.List.Sums.{sum_by-cons}
 use Rattle.arrow_bits.specs.Bitmap.{bit_of, bits_of}
 use Rattle.arrow_bits.specs.Numbers.{int_of, int_bytes}
-use Rattle.arrow_types.specs.declared.data_type.BitWidth.{BitWidth}
-use Rattle.arrow_data.specs.Form.{number_width}
+use Rattle.arrow_data.specs.declared.form.NumberForm.{NumberForm}
+use Rattle.arrow_data.specs.Form.{number_width, has_sign}
 use Rattle.arrow_data.specs.Node.{AreBytes}
 use Rattle.arrow_data.specs.PlainValue.{PlainValue, null_value, bool_value, int_value, binary_value, value_at, is_null_value}
 use Rattle.arrow_data.specs.Slots.{bool_slot, fixed_slot, int_slot, is_valid_at, or_null, slots}
@@ -119,15 +119,15 @@ part_taken : (w j : ℕ) (values : List ℕ) → take w (drop (w * j) values) �
 part_taken w j values = let wide : w ≡ w * j + w - w * j = omega arith in ap (λ n. take n (drop (w * j) values)) wide
 
 -- numbers
-pub ints_again : (bits : BitWidth) (signed : Bool) (vs : List PlainValue) (validity values : List ℕ) → AreShown vs (int_slot (number_width bits) signed validity values) → AreBytes values
-    → IsTidyFixed (length vs) (number_width bits) validity values → values ≡ number_buffer (number_width bits) vs
-ints_again bits signed vs validity values shown small tidy =
-    let w = number_width bits in
+pub ints_again : (number : NumberForm) (vs : List PlainValue) (validity values : List ℕ) → AreShown vs (int_slot (number_width number) (has_sign number) validity values) → AreBytes values
+    → IsTidyFixed (length vs) (number_width number) validity values → values ≡ number_buffer (number_width number) vs
+ints_again number vs validity values shown small tidy =
+    let w = number_width number in
     unpieced (int_bytes w) w (map number_in vs) (pos 0) values (tidy.just ∙ ap (λ n. w * n) (sym (length-map vs number_in)))
     (λ j h. let here : j < length vs = omega (arith, h, length-map vs number_in) in
     let inside = slot_inside w j (length vs) (length values) here (omega (arith, tidy.just)) in
-    slot_by (λ v. int_bytes w (number_in v)) (is_valid_at validity j) (int_value (int_of values (w * j) w signed)) (value_at vs j) (take w (drop (w * j) values)) (shown j here)
-    (λ valid. sym (int_again_at w signed values (w * j) (some_bytes bits) small inside))
+    slot_by (λ v. int_bytes w (number_in v)) (is_valid_at validity j) (int_value (int_of values (w * j) w (has_sign number))) (value_at vs j) (take w (drop (w * j) values)) (shown j here)
+    (λ valid. sym (int_again_at w (has_sign number) values (w * j) (some_bytes number) small inside))
     (λ null. part_taken w j values ∙ tidy.zero_bytes j here null ∙ sym (zeros_of w))
     ∙ ap (int_bytes w) (sym (get_or-map number_in vs j null_value (pos 0) here)))
 

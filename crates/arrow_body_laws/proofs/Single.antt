@@ -11,7 +11,7 @@ use Rattle.arrow_types.specs.declared.field.Encoding.{Encoding}
 use Rattle.arrow_types.specs.declared.node.FieldNode.{FieldNode}
 use Rattle.arrow_types.specs.declared.node.Buffer.{Buffer}
 use Rattle.arrow_data.specs.Column.{Column, ValueList}
-use Rattle.arrow_data.specs.Form.{form_of, node_form}
+use Rattle.arrow_data.specs.Form.{form_of, node_form, index_form}
 use Rattle.arrow_data.specs.Layout.{HoldsSlots, buffer}
 use Rattle.arrow_data.specs.Node.{AreBytes}
 use Rattle.arrow_data.specs.Parts.{index_slot, node_column, value_slot, values_in}
@@ -97,7 +97,7 @@ hidden_null validity j payload null = ap (λ v. if v then payload else null_valu
 null_read : (form : Form) (b : List (List ℕ)) (kids : List (List PlainValue)) (j : ℕ) → IsNullSlot form b j → value_slot form b kids j ≡ null_value
 null_read forms.Nulls b kids j null = refl
 null_read forms.Bits b kids j null = hidden_null (buffer b 0) j _ null
-null_read (forms.Numbers bits signed) b kids j null = hidden_null (buffer b 0) j _ null
+null_read (forms.Numbers number) b kids j null = hidden_null (buffer b 0) j _ null
 null_read (forms.Bytes w) b kids j null = hidden_null (buffer b 0) j _ null
 null_read (forms.Texts w) b kids j null = hidden_null (buffer b 0) j _ null
 null_read (forms.FixedBytes w) b kids j null = hidden_null (buffer b 0) j _ null
@@ -107,7 +107,7 @@ null_read forms.Structs b kids j null = hidden_null (buffer b 0) j _ null
 null_column : (tag : Tag) (e : Option Encoding) (c : Fields) (len : ℕ) (b : List (List ℕ)) (cs : List Column) (values : List PlainValue) (j : ℕ) → j < len → IsNullSlot (node_form tag e) b j
     → value_at (node_column (record { tag = tag; children = c }) e len b cs values).raw j ≡ null_value
 null_column tag None c len b cs values j h null = at_slots len (value_slot (form_of tag) b (raws_in cs)) j h ∙ null_read (form_of tag) b (raws_in cs) j null
-null_column tag (Some e) c len b cs values j h null = at_slots len (index_slot e b) j h ∙ null_read (forms.Numbers e.index.bits e.index.signed) b (raws_in cs) j null
+null_column tag (Some e) c len b cs values j h null = at_slots len (index_slot e b) j h ∙ null_read (index_form e) b (raws_in cs) j null
 
 -- so of columns side by side
 null_columns : (body : List ℕ) (ds : List (ℤ × ValueList)) (j : ℕ) (fields : Fields) (ns : List FieldNode) (bs : List Buffer) → AllByRecursion (λ count. j < count) (lengths_of fields ns)
@@ -128,7 +128,7 @@ slots_enough j len (n ∷ counts) h long = (omega (arith, h, long.0), slots_enou
 nulls_changed : (form : Form) (len : ℕ) (validity : List ℕ) (P Q : ℕ → Type 0) → (form ≡ forms.Structs → (j : ℕ) → j < len → P j → Q j) → BelowNulls form len validity P → BelowNulls form len validity Q
 nulls_changed forms.Nulls len validity P Q change hold = tt
 nulls_changed forms.Bits len validity P Q change hold = tt
-nulls_changed (forms.Numbers bits signed) len validity P Q change hold = tt
+nulls_changed (forms.Numbers number) len validity P Q change hold = tt
 nulls_changed (forms.Bytes w) len validity P Q change hold = tt
 nulls_changed (forms.Texts w) len validity P Q change hold = tt
 nulls_changed (forms.FixedBytes w) len validity P Q change hold = tt

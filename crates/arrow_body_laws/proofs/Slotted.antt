@@ -10,9 +10,10 @@ use Rattle.std.proofs.lemmas.List.Sums.{sum_by-cons}
 use Rattle.arrow_bits.specs.Bitmap.{bit_of}
 use Rattle.arrow_bits.specs.Numbers.{FitsInt, int_of}
 use Rattle.arrow_types.specs.Field.{Fields, width}
-use Rattle.arrow_types.specs.declared.data_type.BitWidth.{BitWidth}
+use Rattle.arrow_data.specs.declared.form.NumberForm.TheVariants as numbers
+use Rattle.arrow_data.specs.declared.form.NumberForm.{NumberForm}
 use Rattle.arrow_types.specs.declared.data_type.BitWidth.TheVariants as widths
-use Rattle.arrow_data.specs.Form.{greatest_offset, number_width}
+use Rattle.arrow_data.specs.Form.{greatest_offset, number_width, has_sign}
 use Rattle.arrow_data.specs.PlainValue.{PlainValue, PlainValues, null_value, bool_value, int_value, binary_value, utf8_value, list_value, struct_value, no_values, more_values, values_of, value_at, is_null_value, field_value, nth_value, list_of_values}
 use Rattle.arrow_data.specs.Slots.{is_valid_at, or_null, bool_slot, int_slot, fixed_slot, binary_slot, utf8_slot, list_slot, struct_slot, slots, place_of, range_of}
 use Rattle.arrow_data.specs.declared.form.Form.TheVariants as forms
@@ -122,33 +123,34 @@ read_bools c vs own =
     ∙ truth_of c (value_at vs j) (in_slot (IsOwn forms.Bits c) vs j h own) full))
 
 -- a number has one byte at least
-pub some_bytes : (bits : BitWidth) → 1 ≤ number_width bits
-some_bytes widths.Eight = omega arith
-some_bytes widths.Sixteen = omega arith
-some_bytes widths.ThirtyTwo = omega arith
-some_bytes widths.SixtyFour = omega arith
+pub some_bytes : (number : NumberForm) → 1 ≤ number_width number
+some_bytes (numbers.Int widths.Eight signed) = omega arith
+some_bytes (numbers.Int widths.Sixteen signed) = omega arith
+some_bytes (numbers.Int widths.ThirtyTwo signed) = omega arith
+some_bytes (numbers.Int widths.SixtyFour signed) = omega arith
+some_bytes numbers.Int128 = omega arith
 
 -- numbers
-pub number_of : (bits : BitWidth) (signed : Bool) (c : Fields) (v : PlainValue) → IsOwn (forms.Numbers bits signed) c v → is_null_value v ≡ false
-    → FitsInt (number_width bits) signed (number_in v) × (int_value (number_in v) ≡ v)
-number_of bits signed c null_value own h = cc
-number_of bits signed c (bool_value b) own h = cc
-number_of bits signed c (int_value z) own h = (own, refl)
-number_of bits signed c (binary_value b) own h = absurd own
-number_of bits signed c (utf8_value b) own h = absurd own
-number_of bits signed c (list_value b) own h = absurd own
-number_of bits signed c (struct_value b) own h = let other = own.0 in cc
+pub number_of : (number : NumberForm) (c : Fields) (v : PlainValue) → IsOwn (forms.Numbers number) c v → is_null_value v ≡ false
+    → FitsInt (number_width number) (has_sign number) (number_in v) × (int_value (number_in v) ≡ v)
+number_of number c null_value own h = cc
+number_of number c (bool_value b) own h = cc
+number_of number c (int_value z) own h = (own, refl)
+number_of number c (binary_value b) own h = absurd own
+number_of number c (utf8_value b) own h = absurd own
+number_of number c (list_value b) own h = absurd own
+number_of number c (struct_value b) own h = let other = own.0 in cc
 
-pub read_ints : (bits : BitWidth) (signed : Bool) (c : Fields) (vs : List PlainValue) → AllByRecursion (IsOwn (forms.Numbers bits signed) c) vs
-    → slots (length vs) (int_slot (number_width bits) signed (validity_bytes vs) (number_buffer (number_width bits) vs)) ≡ vs
-read_ints bits signed c vs own =
-    let w = number_width bits in
-    slots_same vs (int_slot w signed (validity_bytes vs) (number_buffer w vs))
-    (λ j h. slot_same vs j (int_value (int_of (number_buffer w vs) (w * j) w signed)) h
+pub read_ints : (number : NumberForm) (c : Fields) (vs : List PlainValue) → AllByRecursion (IsOwn (forms.Numbers number) c) vs
+    → slots (length vs) (int_slot (number_width number) (has_sign number) (validity_bytes vs) (number_buffer (number_width number) vs)) ≡ vs
+read_ints number c vs own =
+    let w = number_width number in
+    slots_same vs (int_slot w (has_sign number) (validity_bytes vs) (number_buffer w vs))
+    (λ j h. slot_same vs j (int_value (int_of (number_buffer w vs) (w * j) w (has_sign number))) h
     (λ full. let at = get_or-map number_in vs j null_value (pos 0) h in
-    let known = number_of bits signed c (value_at vs j) (in_slot (IsOwn (forms.Numbers bits signed) c) vs j h own) full in
-    let fits = subst (FitsInt w signed) (sym at) known.0 in
-    ap int_value (int_read w signed (map number_in vs) j (some_bytes bits) (omega (arith, h, length-map vs number_in)) fits ∙ at) ∙ known.1))
+    let known = number_of number c (value_at vs j) (in_slot (IsOwn (forms.Numbers number) c) vs j h own) full in
+    let fits = subst (FitsInt w (has_sign number)) (sym at) known.0 in
+    ap int_value (int_read w (has_sign number) (map number_in vs) j (some_bytes number) (omega (arith, h, length-map vs number_in)) fits ∙ at) ∙ known.1))
 
 -- bytes of a fixed width
 fixed_wide : (w : ℕ) (c : Fields) (v : PlainValue) → IsOwn (forms.FixedBytes w) c v → length (fixed_in w v) ≡ w

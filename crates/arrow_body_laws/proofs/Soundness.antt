@@ -121,7 +121,7 @@ validity_long vs = validity_by (nat_eq (nulls_in vs) 0) vs
 own_sized : (form : Form) (c : Fields) (vs : List PlainValue) → AllByRecursion (IsOwn form c) vs → map length (own_chunks form vs) ≡ own_sizes form vs
 own_sized forms.Nulls c vs own = refl
 own_sized forms.Bits c vs own = λ i. validity_long vs i ∷ (packed_few (map truth_in vs) ∙ ap (λ n. div_ceil n 8) (length-map vs truth_in)) i ∷ []
-own_sized (forms.Numbers bits signed) c vs own = λ i. validity_long vs i ∷ ints_long (number_width bits) vs i ∷ []
+own_sized (forms.Numbers number) c vs own = λ i. validity_long vs i ∷ ints_long (number_width number) vs i ∷ []
 own_sized (forms.Bytes w) c vs own = λ i. validity_long vs i ∷ offsets_long w (λ v. length (bytes_in_value v)) vs i ∷ length-flat_map bytes_in_value vs i ∷ []
 own_sized (forms.Texts w) c vs own = λ i. validity_long vs i ∷ offsets_long w (λ v. length (bytes_in_value v)) vs i ∷ length-flat_map bytes_in_value vs i ∷ []
 own_sized (forms.FixedBytes w) c vs own = λ i. validity_long vs i ∷ fixed_long w c vs own i ∷ []

@@ -106,7 +106,7 @@ pub below_stands : (form : Form) (d : ℤ → List PlainValue) (c : Fields) (vs 
     → ColumnsHold (StandsBy d) c (raws_below form c vs)
 below_stands forms.Nulls d c vs raws stand = none_hold (StandsBy d) c
 below_stands forms.Bits d c vs raws stand = none_hold (StandsBy d) c
-below_stands (forms.Numbers bits signed) d c vs raws stand = none_hold (StandsBy d) c
+below_stands (forms.Numbers number) d c vs raws stand = none_hold (StandsBy d) c
 below_stands (forms.Bytes w) d c vs raws stand = none_hold (StandsBy d) c
 below_stands (forms.Texts w) d c vs raws stand = none_hold (StandsBy d) c
 below_stands (forms.FixedBytes w) d c vs raws stand = none_hold (StandsBy d) c

@@ -174,7 +174,7 @@ pub tidy_layout : (form : Form) (c : Fields) (vs : List PlainValue) → AllByRec
     → IsTidyLayout form (length vs) (own_chunks form vs) (map length (raws_below form c vs))
 tidy_layout forms.Nulls c vs own small = tt
 tidy_layout forms.Bits c vs own small = tidy_bools vs
-tidy_layout (forms.Numbers bits signed) c vs own small = tidy_ints (number_width bits) vs
+tidy_layout (forms.Numbers number) c vs own small = tidy_ints (number_width number) vs
 tidy_layout (forms.Bytes w) c vs own small = tidy_offsets w (λ v. length (bytes_in_value v)) vs (length (flat_map bytes_in_value vs)) refl small.near (length-flat_map bytes_in_value vs)
 tidy_layout (forms.Texts w) c vs own small = tidy_offsets w (λ v. length (bytes_in_value v)) vs (length (flat_map bytes_in_value vs)) refl small.near (length-flat_map bytes_in_value vs)
 tidy_layout (forms.FixedBytes w) c vs own small = tidy_fixed w c vs own
@@ -199,7 +199,7 @@ pub tidy_count : (form : Form) (c : Fields) (vs : List PlainValue) → AllByRecu
     → nulls_in vs ≡ null_count_of form (length vs) (buffer (own_chunks form vs) 0)
 tidy_count forms.Nulls c vs own = nulls_all c vs own
 tidy_count forms.Bits c vs own = sym (nulls_are vs)
-tidy_count (forms.Numbers bits signed) c vs own = sym (nulls_are vs)
+tidy_count (forms.Numbers number) c vs own = sym (nulls_are vs)
 tidy_count (forms.Bytes w) c vs own = sym (nulls_are vs)
 tidy_count (forms.Texts w) c vs own = sym (nulls_are vs)
 tidy_count (forms.FixedBytes w) c vs own = sym (nulls_are vs)
@@ -210,7 +210,7 @@ tidy_count forms.Structs c vs own = sym (nulls_are vs)
 first_is : (P : List ℕ → Type 0) (form : Form) (vs : List PlainValue) → P (validity_bytes vs) → P [] → P (buffer (own_chunks form vs) 0)
 first_is P forms.Nulls vs p q = q
 first_is P forms.Bits vs p q = p
-first_is P (forms.Numbers bits signed) vs p q = p
+first_is P (forms.Numbers number) vs p q = p
 first_is P (forms.Bytes w) vs p q = p
 first_is P (forms.Texts w) vs p q = p
 first_is P (forms.FixedBytes w) vs p q = p
@@ -221,7 +221,7 @@ first_is P forms.Structs vs p q = p
 null_slot_by : (form : Form) (vs : List PlainValue) (j : ℕ) → is_valid_at (validity_bytes vs) j ≡ false → IsNullSlot form (own_chunks form vs) j
 null_slot_by forms.Nulls vs j p = tt
 null_slot_by forms.Bits vs j p = p
-null_slot_by (forms.Numbers bits signed) vs j p = p
+null_slot_by (forms.Numbers number) vs j p = p
 null_slot_by (forms.Bytes w) vs j p = p
 null_slot_by (forms.Texts w) vs j p = p
 null_slot_by (forms.FixedBytes w) vs j p = p
@@ -256,7 +256,7 @@ below_nulls : (form : Form) (c : Fields) (vs : List PlainValue) (P : ℕ → Typ
     → (form ≡ forms.Structs → (j : ℕ) → AllByRecursion (IsNullAt j) (raws_below form c vs) → P j) → BelowNulls form (length vs) (buffer (own_chunks form vs) 0) P
 below_nulls forms.Nulls c vs P p = tt
 below_nulls forms.Bits c vs P p = tt
-below_nulls (forms.Numbers bits signed) c vs P p = tt
+below_nulls (forms.Numbers number) c vs P p = tt
 below_nulls (forms.Bytes w) c vs P p = tt
 below_nulls (forms.Texts w) c vs P p = tt
 below_nulls (forms.FixedBytes w) c vs P p = tt

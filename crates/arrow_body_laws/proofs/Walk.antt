@@ -40,7 +40,7 @@ chunks_of_none (more h c rest) = refl
 pub own_long : (form : Form) (vs : List PlainValue) → length (own_chunks form vs) ≡ buffers_of form
 own_long forms.Nulls vs = refl
 own_long forms.Bits vs = refl
-own_long (forms.Numbers bits signed) vs = refl
+own_long (forms.Numbers number) vs = refl
 own_long (forms.Bytes w) vs = refl
 own_long (forms.Texts w) vs = refl
 own_long (forms.FixedBytes w) vs = refl

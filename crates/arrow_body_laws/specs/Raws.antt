@@ -64,7 +64,7 @@ items_in_value (struct_value parts) = []
 abbrev pub raws_below : Form → Fields → List PlainValue → List (List PlainValue)
 raws_below forms.Nulls children vs = []
 raws_below forms.Bits children vs = []
-raws_below (forms.Numbers bits signed) children vs = []
+raws_below (forms.Numbers number) children vs = []
 raws_below (forms.Bytes w) children vs = []
 raws_below (forms.Texts w) children vs = []
 raws_below (forms.FixedBytes w) children vs = []
@@ -96,7 +96,7 @@ AreRaws (more head children rest) (vs ∷ raws) =
 abbrev pub last_offset : Form → List PlainValue → ℕ
 last_offset forms.Nulls vs = 0
 last_offset forms.Bits vs = 0
-last_offset (forms.Numbers bits signed) vs = 0
+last_offset (forms.Numbers number) vs = 0
 last_offset (forms.Bytes w) vs = sum_by (λ v. length (bytes_in_value v)) vs
 last_offset (forms.Texts w) vs = sum_by (λ v. length (bytes_in_value v)) vs
 last_offset (forms.FixedBytes w) vs = 0
@@ -107,7 +107,7 @@ last_offset forms.Structs vs = 0
 abbrev pub offset_limit : Form → ℕ
 offset_limit forms.Nulls = 0
 offset_limit forms.Bits = 0
-offset_limit (forms.Numbers bits signed) = 0
+offset_limit (forms.Numbers number) = 0
 offset_limit (forms.Bytes w) = greatest_offset w
 offset_limit (forms.Texts w) = greatest_offset w
 offset_limit (forms.FixedBytes w) = 0

@@ -18,7 +18,7 @@ validity_size vs = if nat_eq (nulls_in vs) 0 then 0 else div_ceil (length vs) 8
 abbrev pub own_sizes : Form → List PlainValue → List ℕ
 own_sizes forms.Nulls vs = []
 own_sizes forms.Bits vs = validity_size vs ∷ div_ceil (length vs) 8 ∷ []
-own_sizes (forms.Numbers bits signed) vs = validity_size vs ∷ number_width bits * length vs ∷ []
+own_sizes (forms.Numbers number) vs = validity_size vs ∷ number_width number * length vs ∷ []
 own_sizes (forms.Bytes w) vs = validity_size vs ∷ offset_bytes w * (length vs + 1) ∷ last_offset (forms.Bytes w) vs ∷ []
 own_sizes (forms.Texts w) vs = validity_size vs ∷ offset_bytes w * (length vs + 1) ∷ last_offset (forms.Texts w) vs ∷ []
 own_sizes (forms.FixedBytes width) vs = validity_size vs ∷ width * length vs ∷ []

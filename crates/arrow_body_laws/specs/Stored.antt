@@ -29,7 +29,7 @@ number_buffer width vs = ints_bytes width (map number_in vs)
 abbrev pub own_chunks : Form → List PlainValue → List (List ℕ)
 own_chunks forms.Nulls vs = []
 own_chunks forms.Bits vs = validity_bytes vs ∷ packed (map truth_in vs) ∷ []
-own_chunks (forms.Numbers bits signed) vs = validity_bytes vs ∷ number_buffer (number_width bits) vs ∷ []
+own_chunks (forms.Numbers number) vs = validity_bytes vs ∷ number_buffer (number_width number) vs ∷ []
 own_chunks (forms.Bytes w) vs = validity_bytes vs ∷ offsets_bytes w (map (λ v. length (bytes_in_value v)) vs) ∷ flat_map bytes_in_value vs ∷ []
 own_chunks (forms.Texts w) vs = validity_bytes vs ∷ offsets_bytes w (map (λ v. length (bytes_in_value v)) vs) ∷ flat_map bytes_in_value vs ∷ []
 own_chunks (forms.FixedBytes width) vs = validity_bytes vs ∷ flat_map (fixed_in width) vs ∷ []

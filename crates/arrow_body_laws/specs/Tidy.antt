@@ -74,7 +74,7 @@ AreAsLong len counts = AllByRecursion (λ count. count ≡ len) counts
 abbrev pub IsTidyLayout : Form → ℕ → List (List ℕ) → List ℕ → Type 0
 IsTidyLayout forms.Nulls len b counts = ⊤
 IsTidyLayout forms.Bits len b counts = IsTidyBools len (buffer b 0) (buffer b 1)
-IsTidyLayout (forms.Numbers bits signed) len b counts = IsTidyFixed len (number_width bits) (buffer b 0) (buffer b 1)
+IsTidyLayout (forms.Numbers number) len b counts = IsTidyFixed len (number_width number) (buffer b 0) (buffer b 1)
 IsTidyLayout (forms.Bytes width) len b counts = IsTidyOffsets width len (buffer b 0) (buffer b 1) (length (buffer b 2))
 IsTidyLayout (forms.Texts width) len b counts = IsTidyOffsets width len (buffer b 0) (buffer b 1) (length (buffer b 2))
 IsTidyLayout (forms.FixedBytes width) len b counts = IsTidyFixed len width (buffer b 0) (buffer b 1)
@@ -85,7 +85,7 @@ IsTidyLayout forms.Structs len b counts = AreAsLong len counts
 abbrev pub IsNullSlot : Form → List (List ℕ) → ℕ → Type 0
 IsNullSlot forms.Nulls b j = ⊤
 IsNullSlot forms.Bits b j = is_valid_at (buffer b 0) j ≡ false
-IsNullSlot (forms.Numbers bits signed) b j = is_valid_at (buffer b 0) j ≡ false
+IsNullSlot (forms.Numbers number) b j = is_valid_at (buffer b 0) j ≡ false
 IsNullSlot (forms.Bytes width) b j = is_valid_at (buffer b 0) j ≡ false
 IsNullSlot (forms.Texts width) b j = is_valid_at (buffer b 0) j ≡ false
 IsNullSlot (forms.FixedBytes width) b j = is_valid_at (buffer b 0) j ≡ false
@@ -103,7 +103,7 @@ AreNullSlots body j (more head children rest) nodes buffers =
 abbrev pub BelowNulls : Form → ℕ → List ℕ → (ℕ → Type 0) → Type 0
 BelowNulls forms.Nulls len validity P = ⊤
 BelowNulls forms.Bits len validity P = ⊤
-BelowNulls (forms.Numbers bits signed) len validity P = ⊤
+BelowNulls (forms.Numbers number) len validity P = ⊤
 BelowNulls (forms.Bytes width) len validity P = ⊤
 BelowNulls (forms.Texts width) len validity P = ⊤
 BelowNulls (forms.FixedBytes width) len validity P = ⊤
@@ -114,7 +114,7 @@ BelowNulls forms.Structs len validity P = UnderNulls len validity P
 abbrev pub null_count_of : Form → ℕ → List ℕ → ℕ
 null_count_of forms.Nulls len validity = len
 null_count_of forms.Bits len validity = nulls_of len validity
-null_count_of (forms.Numbers bits signed) len validity = nulls_of len validity
+null_count_of (forms.Numbers number) len validity = nulls_of len validity
 null_count_of (forms.Bytes width) len validity = nulls_of len validity
 null_count_of (forms.Texts width) len validity = nulls_of len validity
 null_count_of (forms.FixedBytes width) len validity = nulls_of len validity

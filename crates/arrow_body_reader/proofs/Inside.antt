@@ -65,7 +65,7 @@ children_inside len j (n ∷ ns) longer h = (omega (arith, longer.0, h), childre
 slot_inside : (form : Form) (len j : ℕ) (b : List (List ℕ)) (counts : List ℕ) → ((k : ℕ) → AreBytes (buffer b k)) → HoldsSlots form len b counts → j < len → IsSlotInside form j b counts
 slot_inside forms.Nulls len j b counts small laid h = tt
 slot_inside forms.Bits len j b counts small laid h = (valid_inside len j (buffer b 0) laid.bits h, omega (arith, laid.long, h))
-slot_inside (forms.Numbers bits signed) len j b counts small laid h = (valid_inside len j (buffer b 0) laid.bits h, width_inside (number_width bits) len j (buffer b 1) laid.long h)
+slot_inside (forms.Numbers number) len j b counts small laid h = (valid_inside len j (buffer b 0) laid.bits h, width_inside (number_width number) len j (buffer b 1) laid.long h)
 slot_inside (forms.Bytes width) len j b counts small laid h = (valid_inside len j (buffer b 0) laid.bits h, range_inside width len (length (buffer b 2)) j (buffer b 1) (small 1) laid.rising h)
 slot_inside (forms.Texts width) len j b counts small laid h = (valid_inside len j (buffer b 0) laid.bits h, range_inside width len (length (buffer b 2)) j (buffer b 1) (small 1) laid.rising h)
 slot_inside (forms.FixedBytes width) len j b counts small laid h = (valid_inside len j (buffer b 0) laid.bits h, width_inside width len j (buffer b 1) laid.long h)

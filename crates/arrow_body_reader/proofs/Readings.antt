@@ -59,7 +59,7 @@ value_resolves : (ds : List (ℤ × ValueList)) (form : Form) (fields : Fields) 
     → resolve None fields (values_by ds) (value_slot form b (map (λ (c : Column). c.raw) cs) j) ≡ Some (value_slot form b (map (λ (c : Column). c.resolved) cs) j)
 value_resolves ds forms.Nulls fields b cs j typed all = refl
 value_resolves ds forms.Bits fields b cs j typed all = plain_resolves None fields (values_by ds) (is_valid_at (buffer b 0) j) _ refl
-value_resolves ds (forms.Numbers bits signed) fields b cs j typed all = plain_resolves None fields (values_by ds) (is_valid_at (buffer b 0) j) _ refl
+value_resolves ds (forms.Numbers number) fields b cs j typed all = plain_resolves None fields (values_by ds) (is_valid_at (buffer b 0) j) _ refl
 value_resolves ds (forms.Bytes width) fields b cs j typed all = plain_resolves None fields (values_by ds) (is_valid_at (buffer b 0) j) _ refl
 value_resolves ds (forms.Texts width) fields b cs j typed all = plain_resolves None fields (values_by ds) (is_valid_at (buffer b 0) j) _ refl
 value_resolves ds (forms.FixedBytes width) fields b cs j typed all = plain_resolves None fields (values_by ds) (is_valid_at (buffer b 0) j) _ refl

@@ -42,7 +42,7 @@ pub record HasRange (width : OffsetWidth) (j top : ℕ) (offsets : List ℕ) : T
 abbrev pub IsSlotInside : Form → ℕ → List (List ℕ) → List ℕ → Type 0
 IsSlotInside forms.Nulls j b counts = ⊤
 IsSlotInside forms.Bits j b counts = HasValidity j (buffer b 0) × HasBit j (buffer b 1)
-IsSlotInside (forms.Numbers bits signed) j b counts = HasValidity j (buffer b 0) × HasWidth (number_width bits) j (buffer b 1)
+IsSlotInside (forms.Numbers number) j b counts = HasValidity j (buffer b 0) × HasWidth (number_width number) j (buffer b 1)
 IsSlotInside (forms.Bytes width) j b counts = HasValidity j (buffer b 0) × HasRange width j (length (buffer b 2)) (buffer b 1)
 IsSlotInside (forms.Texts width) j b counts = HasValidity j (buffer b 0) × HasRange width j (length (buffer b 2)) (buffer b 1)
 IsSlotInside (forms.FixedBytes width) j b counts = HasValidity j (buffer b 0) × HasWidth width j (buffer b 1)

@@ -48,7 +48,7 @@ IsCount node validity = (node.null_count ≡ negsuc 0) ⊎ (node.null_count ≡ 
 abbrev pub IsCountOf : Form → FieldNode → List ℕ → Type 0
 IsCountOf forms.Nulls node validity = ⊤
 IsCountOf forms.Bits node validity = IsCount node validity
-IsCountOf (forms.Numbers bits signed) node validity = IsCount node validity
+IsCountOf (forms.Numbers number) node validity = IsCount node validity
 IsCountOf (forms.Bytes width) node validity = IsCount node validity
 IsCountOf (forms.Texts width) node validity = IsCount node validity
 IsCountOf (forms.FixedBytes width) node validity = IsCount node validity

@@ -10,7 +10,7 @@ ghost use Rattle.arrow_data.specs.Listed.{dictionary_for};
 ghost use Rattle.arrow_body_reader.specs.Place.{buffers_in};
 
 use crate::held::Ranges;
-use arrow_data::form::number_width;
+use arrow_data::form::int_width;
 use arrow_data::layout::are_indices;
 use arrow_data::{Listed, NumberBuffers};
 use arrow_types::Encoding;
@@ -39,7 +39,7 @@ pub(crate) fn have_values(
     are_indices(
         len,
         NumberBuffers {
-            width: number_width(encoding.index.bits),
+            width: int_width(encoding.index.bits),
             signed: encoding.index.signed,
             validity: held.bytes(0),
             values: held.bytes(1),

@@ -18,7 +18,7 @@ ghost use Rattle.arrow_body_reader.specs.Taken.{AreThere, own_buffers};
 use crate::held::{Ranges, own_ranges};
 use crate::place::{Laid, Place};
 use arrow_bits::Bits;
-use arrow_data::form::{Form, number_width};
+use arrow_data::form::Form;
 use arrow_data::layout::{has_bits, has_bools, has_fixed, has_lists, has_strings};
 use arrow_data::{OffsetBuffer, StringBuffers};
 use arrow_types::FieldNode;
@@ -98,12 +98,7 @@ impl Place<'_> {
         match self.form {
             Form::Nulls => true,
             Form::Bits => has_bools(len, held.bytes(0), held.bytes(1)),
-            Form::Numbers { bits, .. } => has_fixed(
-                len,
-                number_width(bits),
-                held.bytes(0),
-                held.bytes(1),
-            ),
+            Form::Numbers(form) => { has_fixed(len, form.width(), held.bytes(0), held.bytes(1)) }
             Form::FixedBytes(width) => {
                 has_fixed(len, width as usize, held.bytes(0), held.bytes(1))
             }

@@ -3,6 +3,7 @@
 mod bodies;
 mod calls;
 mod counts;
+mod decimals;
 mod fit;
 mod greatest;
 mod ids;

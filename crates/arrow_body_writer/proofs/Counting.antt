@@ -25,7 +25,7 @@ nulls_more vs v = sum_more (λ x. cond (is_null_value x) 1 0) vs v
 pub offset_more : (form : Form) (vs : List PlainValue) (v : PlainValue) → last_offset form (vs ++ v ∷ []) ≡ last_offset form vs + last_offset form (v ∷ [])
 offset_more forms.Nulls vs v = refl
 offset_more forms.Bits vs v = refl
-offset_more (forms.Numbers bits signed) vs v = refl
+offset_more (forms.Numbers number) vs v = refl
 offset_more (forms.Bytes w) vs v = omega (arith, sum_more (λ x. length (bytes_in_value x)) vs v, sum_more (λ x. length (bytes_in_value x)) [] v)
 offset_more (forms.Texts w) vs v = omega (arith, sum_more (λ x. length (bytes_in_value x)) vs v, sum_more (λ x. length (bytes_in_value x)) [] v)
 offset_more (forms.FixedBytes w) vs v = refl
@@ -36,7 +36,7 @@ offset_more forms.Structs vs v = refl
 offset_null : (form : Form) → last_offset form (null_value ∷ []) ≡ 0
 offset_null forms.Nulls = refl
 offset_null forms.Bits = refl
-offset_null (forms.Numbers bits signed) = refl
+offset_null (forms.Numbers number) = refl
 offset_null (forms.Bytes w) = refl
 offset_null (forms.Texts w) = refl
 offset_null (forms.FixedBytes w) = refl
@@ -75,7 +75,7 @@ no_tally form = record { slots = refl; nulls = refl; end = of_form form }
     of_form : (form : Form) → 0 ≡ capped (last_offset form [])
     of_form forms.Nulls = refl
     of_form forms.Bits = refl
-    of_form (forms.Numbers bits signed) = refl
+    of_form (forms.Numbers number) = refl
     of_form (forms.Bytes w) = refl
     of_form (forms.Texts w) = refl
     of_form (forms.FixedBytes w) = refl
@@ -99,7 +99,7 @@ chunk_is Validity vs nulls counted some =
     positive zero none = absurd (none refl)
     positive (suc n) none = omega arith
 chunk_is Truths vs nulls counted some = refl
-chunk_is (Numbers bits) vs nulls counted some = refl
+chunk_is (Numbers number) vs nulls counted some = refl
 chunk_is (StringOffsets width) vs nulls counted some = refl
 chunk_is (ListOffsets width) vs nulls counted some = refl
 chunk_is Strings vs nulls counted some = refl

@@ -2,7 +2,7 @@
 use Rattle.std.proofs.Common.{◌≡◌, ◌<◌, ℕ, List, [], ◌∷◌, ◌++◌, length, append-nil, refl, sym, ap, ◌∙◌, subst, arith, if◌then◌else◌, map, not}
 use Rattle.std.specs.Prelude.{Bool, nat_eq, pos}
 use Rattle.std.specs.List.{AllByRecursion, flat_map}
-use Rattle.arrow_types.specs.declared.data_type.BitWidth.{BitWidth}
+use Rattle.arrow_data.specs.declared.form.NumberForm.{NumberForm}
 use Rattle.arrow_data.specs.Column.{Column, IsColumn, values_from}
 use Rattle.arrow_data.specs.Form.{node_form}
 use Rattle.arrow_data.specs.FullSlots.{AreFull, value_bytes}
@@ -35,16 +35,16 @@ full_structs c form own is full =
     ap (λ bytes. bytes ∷ []) (no_validity c.raw (no_nulls c full)) ∙ ap (λ f. own_chunks f c.raw) (sym is ∙ own)
 
 -- and of numbers the bytes in which they lie
-pub full_numbers : (c : Column) (form : Form) (bits : BitWidth) (signed : Bool) (slots : ℕ) (bytes : List ℕ) → IsColumn c → form ≡ node_form c.data_type.tag c.encoding → form ≡ forms.Numbers bits signed
+pub full_numbers : (c : Column) (form : Form) (number : NumberForm) (slots : ℕ) (bytes : List ℕ) → IsColumn c → form ≡ node_form c.data_type.tag c.encoding → form ≡ forms.Numbers number
     → AreFull c 0 (length c.raw) → slots ≡ length c.raw → bytes ≡ flat_map (value_bytes (node_form c.data_type.tag c.encoding)) (values_from c.raw 0 slots)
     → [] ∷ bytes ∷ [] ≡ own_chunks (node_form c.data_type.tag c.encoding) c.raw
-full_numbers c form bits signed slots bytes known own is full many are =
-    let numbers : node_form c.data_type.tag c.encoding ≡ forms.Numbers bits signed = sym own ∙ is in
+full_numbers c form number slots bytes known own is full many are =
+    let numbers : node_form c.data_type.tag c.encoding ≡ forms.Numbers number = sym own ∙ is in
     let each = subst (λ f. AllByRecursion (IsFullOf f c.data_type.children) (values_from c.raw 0 (length c.raw))) numbers (full_of c 0 (length c.raw) known (omega arith) full) in
     let values = are ∙ ap (λ n. flat_map (value_bytes (node_form c.data_type.tag c.encoding)) (values_from c.raw 0 n)) many
     ∙ ap (λ f. flat_map (value_bytes f) (values_from c.raw 0 (length c.raw))) numbers
-    ∙ numbers_are bits signed c.data_type.children (values_from c.raw 0 (length c.raw)) each in
-    let sent = ap (λ vs. own_chunks (forms.Numbers bits signed) vs) (all_from c.raw (length c.raw) refl) in
+    ∙ numbers_are number c.data_type.children (values_from c.raw 0 (length c.raw)) each in
+    let sent = ap (λ vs. own_chunks (forms.Numbers number) vs) (all_from c.raw (length c.raw) refl) in
     let empty = no_validity (values_from c.raw 0 (length c.raw)) (none_null (values_from c.raw 0 (length c.raw)) (none_of c 0 (length c.raw) (omega arith) full)) in
     (λ i. empty i ∷ values i ∷ []) ∙ sent ∙ ap (λ f. own_chunks f c.raw) (sym numbers)
 

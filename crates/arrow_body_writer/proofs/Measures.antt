@@ -24,7 +24,7 @@ use Rattle.arrow_body_writer.specs.declared.tally.Tally.{Tally}
 own_told : (form : Form) (vs : List PlainValue) → own_sizes form vs ≡ sizes_told form (length vs) (nulls_in vs) (last_offset form vs)
 own_told forms.Nulls vs = refl
 own_told forms.Bits vs = refl
-own_told (forms.Numbers bits signed) vs = refl
+own_told (forms.Numbers number) vs = refl
 own_told (forms.Bytes w) vs = refl
 own_told (forms.Texts w) vs = refl
 own_told (forms.FixedBytes w) vs = refl

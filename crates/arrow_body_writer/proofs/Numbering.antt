@@ -8,8 +8,8 @@ use Rattle.std.proofs.lemmas.Grind.{flat_map-append}
 use Rattle.std.proofs.lemmas.List.{take_all, drop-drop, length-take, length-drop, map-append, length-replicate}
 use Rattle.std.proofs.lemmas.Nat.{mul-le}
 use Rattle.arrow_bits.specs.Bitmap.{bit_of, IsFirstUnset}
-use Rattle.arrow_bits.specs.Numbers.{IsWidth, int_bytes, int_of, number_bytes}
-use Rattle.arrow_types.specs.declared.data_type.BitWidth.{BitWidth}
+use Rattle.arrow_bits.specs.Numbers.{IsIntWidth, int_bytes, int_of, number_bytes}
+use Rattle.arrow_data.specs.declared.form.NumberForm.{NumberForm}
 use Rattle.arrow_data.specs.Column.{Column, values_from}
 use Rattle.arrow_data.specs.Form.{number_width}
 use Rattle.arrow_data.specs.Layout.{HasFixed}
@@ -38,7 +38,7 @@ pub next_place : (w j : ℕ) → w * (j + 1) ≡ w * j + w
 next_place w j = omega (arith, mul-suc w j)
 
 -- the numbers of an array stand in its buffer
-numbers_held : (c : Column) (w : ℕ) (signed : Bool) (validity values : List ℕ) → IsWidth w → HasFixed (length c.raw) w validity values → AreRaw c (int_slot w signed validity values)
+numbers_held : (c : Column) (w : ℕ) (signed : Bool) (validity values : List ℕ) → IsIntWidth w signed → HasFixed (length c.raw) w validity values → AreRaw c (int_slot w signed validity values)
     → ((k : ℕ) → get_or values k 0 < 256) → AreNumbered w c.raw values
 numbers_held c w signed validity values whole has raw small = record {
   long = has.long;
@@ -46,13 +46,13 @@ numbers_held c w signed validity values whole has raw small = record {
       let shown = full_value (is_valid_at validity j) (int_value (int_of values (w * j) w signed)) (value_at c.raw j) (raw j h) full in
       let wide : w ≡ w * (j + 1) - w * j = omega (arith, next_place w j) in
       ap (λ v. int_bytes w (number_in v)) shown
-      ∙ int_again_at w signed values (w * j) (some_bytes w whole) small (slot_inside w j (length c.raw) (length values) h has.long)
+      ∙ int_again_at w signed values (w * j) (some_bytes w signed whole) small (slot_inside w j (length c.raw) (length values) h has.long)
       ∙ ap (λ n. take n (drop (w * j) values)) wide;
 }
 
 -- so they do in bytes of the width that is asked for
 pub numbers_found : (c : Column) (own w : ℕ) (signed : Bool) (validity values found : List ℕ) → (own ≡ w) × (found ≡ values) × ((k : ℕ) → get_or values k 0 < 256)
-    → IsWidth own → HasFixed (length c.raw) own validity values → AreRaw c (int_slot own signed validity values) → AreNumbered w c.raw found
+    → IsIntWidth own signed → HasFixed (length c.raw) own validity values → AreRaw c (int_slot own signed validity values) → AreNumbered w c.raw found
 numbers_found c own w signed validity values found same whole has raw =
     subst (λ k. AreNumbered k c.raw found) same.0 (subst (AreNumbered own c.raw) (sym same.1) (numbers_held c own signed validity values whole has raw same.2))
 
@@ -185,9 +185,9 @@ room_for w i start stop long low high room =
     omega (arith, next_place w (i - start), rise w (i - start + 1) (stop - start) (omega (arith, low, high)), room)
 
 -- the numbers of slots are added to their buffer
-pub numbers_written : (part : Part) (bits : BitWidth) (old new : Writing) (n : Masked) (raw : List PlainValue) (start stop : ℕ) → part ≡ Numbers bits → n.width ≡ number_width bits
+pub numbers_written : (part : Part) (number : NumberForm) (old new : Writing) (n : Masked) (raw : List PlainValue) (start stop : ℕ) → part ≡ Numbers number → n.width ≡ number_width number
     → new.out.items ≡ old.out.items ++ number_buffer n.width (values_from raw start stop)
     → (before : List ℕ) (vs : List PlainValue) → IsWritten part before vs old → IsWritten part before (vs ++ values_from raw start stop) new
-numbers_written part bits old new n raw start stop is width more before vs =
+numbers_written part number old new n raw start stop is width more before vs =
     subst (λ p. IsWritten p before vs old → IsWritten p before (vs ++ values_from raw start stop) new) (sym is)
-    (pieces_written (Numbers bits) old new (number_buffer n.width (values_from raw start stop)) (values_from raw start stop) (ap (λ w. number_buffer w (values_from raw start stop)) width) more before vs)
+    (pieces_written (Numbers number) old new (number_buffer n.width (values_from raw start stop)) (values_from raw start stop) (ap (λ w. number_buffer w (values_from raw start stop)) width) more before vs)

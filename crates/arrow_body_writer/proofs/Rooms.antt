@@ -3,11 +3,12 @@ use Rattle.std.proofs.Common.{◌≡◌, ℕ, zero, suc, Bool, true, false, ℤ,
 use Rattle.std.specs.List.{AllByRecursion}
 use Rattle.std.proofs.lemmas.Int.{ints}
 use Rattle.arrow_types.specs.Field.{Fields}
-use Rattle.arrow_types.specs.declared.data_type.BitWidth.{BitWidth}
+use Rattle.arrow_data.specs.declared.form.NumberForm.TheVariants as numbers
+use Rattle.arrow_data.specs.declared.form.NumberForm.{NumberForm}
 use Rattle.arrow_types.specs.declared.data_type.BitWidth.TheVariants.{Eight, Sixteen, ThirtyTwo, SixtyFour}
 use Rattle.arrow_bits.specs.Numbers.{FitsInt, FitsWidth}
 use Rattle.arrow_data.specs.Column.{Column}
-use Rattle.arrow_data.specs.Form.{number_width}
+use Rattle.arrow_data.specs.Form.{number_width, has_sign}
 use Rattle.arrow_data.specs.PlainValue.{PlainValue, null_value, bool_value, int_value, binary_value, utf8_value, list_value, struct_value}
 use Rattle.arrow_data.specs.declared.form.Form.{Form}
 use Rattle.arrow_data.specs.declared.form.Form.TheVariants as forms
@@ -22,30 +23,32 @@ use Rattle.arrow_body_writer.specs.declared.part.Part.{Part}
 use Rattle.arrow_body_writer.specs.declared.part.Part.TheVariants.{Validity, Truths, Numbers, StringOffsets, ListOffsets, Strings, FixedBytes}
 
 -- a number in the range of a sign is one of the width
-fits_width : (bits : BitWidth) (signed : Bool) (z : ℤ) → FitsInt (number_width bits) signed z → FitsWidth (number_width bits) z
-fits_width Eight true z fits = (omega (arith, ints, fits.0, fits.1), omega (arith, ints, fits.0, fits.1))
-fits_width Eight false z fits = (omega (arith, ints, fits.0, fits.1), omega (arith, ints, fits.0, fits.1))
-fits_width Sixteen true z fits = (omega (arith, ints, fits.0, fits.1), omega (arith, ints, fits.0, fits.1))
-fits_width Sixteen false z fits = (omega (arith, ints, fits.0, fits.1), omega (arith, ints, fits.0, fits.1))
-fits_width ThirtyTwo true z fits = (omega (arith, ints, fits.0, fits.1), omega (arith, ints, fits.0, fits.1))
-fits_width ThirtyTwo false z fits = (omega (arith, ints, fits.0, fits.1), omega (arith, ints, fits.0, fits.1))
-fits_width SixtyFour true z fits = (omega (arith, ints, fits.0, fits.1), omega (arith, ints, fits.0, fits.1))
-fits_width SixtyFour false z fits = (omega (arith, ints, fits.0, fits.1), omega (arith, ints, fits.0, fits.1))
+fits_width : (number : NumberForm) (z : ℤ) → FitsInt (number_width number) (has_sign number) z → FitsWidth (number_width number) z
+fits_width (numbers.Int Eight true) z fits = (omega (arith, ints, fits.0, fits.1), omega (arith, ints, fits.0, fits.1))
+fits_width (numbers.Int Eight false) z fits = (omega (arith, ints, fits.0, fits.1), omega (arith, ints, fits.0, fits.1))
+fits_width (numbers.Int Sixteen true) z fits = (omega (arith, ints, fits.0, fits.1), omega (arith, ints, fits.0, fits.1))
+fits_width (numbers.Int Sixteen false) z fits = (omega (arith, ints, fits.0, fits.1), omega (arith, ints, fits.0, fits.1))
+fits_width (numbers.Int ThirtyTwo true) z fits = (omega (arith, ints, fits.0, fits.1), omega (arith, ints, fits.0, fits.1))
+fits_width (numbers.Int ThirtyTwo false) z fits = (omega (arith, ints, fits.0, fits.1), omega (arith, ints, fits.0, fits.1))
+fits_width (numbers.Int SixtyFour true) z fits = (omega (arith, ints, fits.0, fits.1), omega (arith, ints, fits.0, fits.1))
+fits_width (numbers.Int SixtyFour false) z fits = (omega (arith, ints, fits.0, fits.1), omega (arith, ints, fits.0, fits.1))
+fits_width numbers.Int128 z fits = (omega (arith, ints, fits.0, fits.1), omega (arith, ints, fits.0, fits.1))
 
-zero_fits : (bits : BitWidth) → FitsWidth (number_width bits) (pos 0)
-zero_fits Eight = (omega (arith, ints), omega (arith, ints))
-zero_fits Sixteen = (omega (arith, ints), omega (arith, ints))
-zero_fits ThirtyTwo = (omega (arith, ints), omega (arith, ints))
-zero_fits SixtyFour = (omega (arith, ints), omega (arith, ints))
+zero_fits : (number : NumberForm) → FitsWidth (number_width number) (pos 0)
+zero_fits (numbers.Int Eight signed) = (omega (arith, ints), omega (arith, ints))
+zero_fits (numbers.Int Sixteen signed) = (omega (arith, ints), omega (arith, ints))
+zero_fits (numbers.Int ThirtyTwo signed) = (omega (arith, ints), omega (arith, ints))
+zero_fits (numbers.Int SixtyFour signed) = (omega (arith, ints), omega (arith, ints))
+zero_fits numbers.Int128 = (omega (arith, ints), omega (arith, ints))
 
-number_room : (bits : BitWidth) (signed : Bool) (c : Fields) (v : PlainValue) → IsOwn (forms.Numbers bits signed) c v → FitsWidth (number_width bits) (number_in v)
-number_room bits signed c null_value own = zero_fits bits
-number_room bits signed c (bool_value b) own = zero_fits bits
-number_room bits signed c (int_value z) own = fits_width bits signed z own
-number_room bits signed c (binary_value b) own = zero_fits bits
-number_room bits signed c (utf8_value b) own = zero_fits bits
-number_room bits signed c (list_value b) own = zero_fits bits
-number_room bits signed c (struct_value b) own = zero_fits bits
+number_room : (number : NumberForm) (c : Fields) (v : PlainValue) → IsOwn (forms.Numbers number) c v → FitsWidth (number_width number) (number_in v)
+number_room number c null_value own = zero_fits number
+number_room number c (bool_value b) own = zero_fits number
+number_room number c (int_value z) own = fits_width number z own
+number_room number c (binary_value b) own = zero_fits number
+number_room number c (utf8_value b) own = zero_fits number
+number_room number c (list_value b) own = zero_fits number
+number_room number c (struct_value b) own = zero_fits number
 
 -- what holds of each value
 all_free : (P : PlainValue → Type 0) → ((v : PlainValue) → P v) → (vs : List PlainValue) → AllByRecursion P vs
@@ -61,10 +64,10 @@ own_rooms forms.Nulls c vs own k part e = cc
 own_rooms forms.Bits c vs own zero part e = subst (λ p. AllByRecursion (HasRoom p) vs) (same_part Validity part e) (all_free (HasRoom Validity) (λ v. tt) vs)
 own_rooms forms.Bits c vs own (suc zero) part e = subst (λ p. AllByRecursion (HasRoom p) vs) (same_part Truths part e) (all_free (HasRoom Truths) (λ v. tt) vs)
 own_rooms forms.Bits c vs own (suc (suc k)) part e = cc
-own_rooms (forms.Numbers bits signed) c vs own zero part e = subst (λ p. AllByRecursion (HasRoom p) vs) (same_part Validity part e) (all_free (HasRoom Validity) (λ v. tt) vs)
-own_rooms (forms.Numbers bits signed) c vs own (suc zero) part e =
-    subst (λ p. AllByRecursion (HasRoom p) vs) (same_part (Numbers bits) part e) (all_change (IsOwn (forms.Numbers bits signed) c) (HasRoom (Numbers bits)) (number_room bits signed c) vs own)
-own_rooms (forms.Numbers bits signed) c vs own (suc (suc k)) part e = cc
+own_rooms (forms.Numbers number) c vs own zero part e = subst (λ p. AllByRecursion (HasRoom p) vs) (same_part Validity part e) (all_free (HasRoom Validity) (λ v. tt) vs)
+own_rooms (forms.Numbers number) c vs own (suc zero) part e =
+    subst (λ p. AllByRecursion (HasRoom p) vs) (same_part (Numbers number) part e) (all_change (IsOwn (forms.Numbers number) c) (HasRoom (Numbers number)) (number_room number c) vs own)
+own_rooms (forms.Numbers number) c vs own (suc (suc k)) part e = cc
 own_rooms (forms.Bytes w) c vs own zero part e = subst (λ p. AllByRecursion (HasRoom p) vs) (same_part Validity part e) (all_free (HasRoom Validity) (λ v. tt) vs)
 own_rooms (forms.Bytes w) c vs own (suc zero) part e = subst (λ p. AllByRecursion (HasRoom p) vs) (same_part (StringOffsets w) part e) (all_free (HasRoom (StringOffsets w)) (λ v. tt) vs)
 own_rooms (forms.Bytes w) c vs own (suc (suc zero)) part e = subst (λ p. AllByRecursion (HasRoom p) vs) (same_part Strings part e) (all_free (HasRoom Strings) (λ v. tt) vs)

@@ -7,7 +7,7 @@ use Rattle.std.proofs.lemmas.List.{map-append}
 use Rattle.std.proofs.lemmas.List.Sums.{sum_by-append, sum_by-cons}
 use Rattle.arrow_bits.specs.Numbers.{int_bytes}
 use Rattle.arrow_types.specs.Field.{Fields}
-use Rattle.arrow_types.specs.declared.data_type.BitWidth.{BitWidth}
+use Rattle.arrow_data.specs.declared.form.NumberForm.{NumberForm}
 use Rattle.arrow_data.specs.Column.{Column, HasChild, IsColumn, values_from}
 use Rattle.arrow_data.specs.Fits.{Fits}
 use Rattle.arrow_data.specs.Form.{IsLists, node_form, number_width}
@@ -66,7 +66,7 @@ no_pieces P f (v ∷ vs) none all = λ i. none v all.0 i ++ no_pieces P f vs non
 no_number : (form : Form) (c : Fields) (z : ℤ) → are_strings form ≡ true → Fits form c (int_value z) → ⊥
 no_number forms.Nulls c z strings fit = cc
 no_number forms.Bits c z strings fit = cc
-no_number (forms.Numbers bits signed) c z strings fit = cc
+no_number (forms.Numbers number) c z strings fit = cc
 no_number (forms.Bytes w) c z strings fit = fit
 no_number (forms.Texts w) c z strings fit = fit
 no_number (forms.FixedBytes w) c z strings fit = fit
@@ -90,7 +90,7 @@ strings_are form c vs strings all = same_pieces (IsFullOf form c) (value_bytes f
 no_binary : (form : Form) (c : Fields) (b : List ℕ) → are_strings form ≡ false → Fits form c (binary_value b) → ⊥
 no_binary forms.Nulls c b others fit = fit
 no_binary forms.Bits c b others fit = fit
-no_binary (forms.Numbers bits signed) c b others fit = fit
+no_binary (forms.Numbers number) c b others fit = fit
 no_binary (forms.Bytes w) c b others fit = cc
 no_binary (forms.Texts w) c b others fit = fit
 no_binary (forms.FixedBytes w) c b others fit = cc
@@ -100,7 +100,7 @@ no_binary forms.Structs c b others fit = fit
 no_text : (form : Form) (c : Fields) (b : List ℕ) → are_strings form ≡ false → Fits form c (utf8_value b) → ⊥
 no_text forms.Nulls c b others fit = fit
 no_text forms.Bits c b others fit = fit
-no_text (forms.Numbers bits signed) c b others fit = fit
+no_text (forms.Numbers number) c b others fit = fit
 no_text (forms.Bytes w) c b others fit = fit
 no_text (forms.Texts w) c b others fit = cc
 no_text (forms.FixedBytes w) c b others fit = fit
@@ -120,25 +120,25 @@ pub no_strings : (form : Form) (c : Fields) (vs : List PlainValue) → are_strin
 no_strings form c vs others all = sym (no_pieces (IsFullOf form c) bytes_in_value vs (λ v own. no_string form c v others own) all)
 
 -- numbers are theirs
-number_value : (bits : BitWidth) (signed : Bool) (c : Fields) (v : PlainValue) → IsFullOf (forms.Numbers bits signed) c v → value_bytes (forms.Numbers bits signed) v ≡ int_bytes (number_width bits) (number_in v)
-number_value bits signed c null_value own = cc
-number_value bits signed c (bool_value b) own = absurd (no_bits own.1)
+number_value : (number : NumberForm) (c : Fields) (v : PlainValue) → IsFullOf (forms.Numbers number) c v → value_bytes (forms.Numbers number) v ≡ int_bytes (number_width number) (number_in v)
+number_value number c null_value own = cc
+number_value number c (bool_value b) own = absurd (no_bits own.1)
   where
-    no_bits : forms.Numbers bits signed ≡ forms.Bits → ⊥
+    no_bits : forms.Numbers number ≡ forms.Bits → ⊥
     no_bits e = cc
-number_value bits signed c (int_value z) own = refl
-number_value bits signed c (binary_value b) own = absurd own.1
-number_value bits signed c (utf8_value b) own = absurd own.1
-number_value bits signed c (list_value b) own = absurd own.1.0
-number_value bits signed c (struct_value b) own = absurd (no_structs own.1.0)
+number_value number c (int_value z) own = refl
+number_value number c (binary_value b) own = absurd own.1
+number_value number c (utf8_value b) own = absurd own.1
+number_value number c (list_value b) own = absurd own.1.0
+number_value number c (struct_value b) own = absurd (no_structs own.1.0)
   where
-    no_structs : forms.Numbers bits signed ≡ forms.Structs → ⊥
+    no_structs : forms.Numbers number ≡ forms.Structs → ⊥
     no_structs e = cc
 
-pub numbers_are : (bits : BitWidth) (signed : Bool) (c : Fields) (vs : List PlainValue) → AllByRecursion (IsFullOf (forms.Numbers bits signed) c) vs
-    → flat_map (value_bytes (forms.Numbers bits signed)) vs ≡ number_buffer (number_width bits) vs
-numbers_are bits signed c [] all = refl
-numbers_are bits signed c (v ∷ vs) all = λ i. number_value bits signed c v all.0 i ++ numbers_are bits signed c vs all.1 i
+pub numbers_are : (number : NumberForm) (c : Fields) (vs : List PlainValue) → AllByRecursion (IsFullOf (forms.Numbers number) c) vs
+    → flat_map (value_bytes (forms.Numbers number)) vs ≡ number_buffer (number_width number) vs
+numbers_are number c [] all = refl
+numbers_are number c (v ∷ vs) all = λ i. number_value number c v all.0 i ++ numbers_are number c vs all.1 i
 
 -- so are byte strings of one width
 fixed_value : (w : ℕ) (c : Fields) (v : PlainValue) → IsFullOf (forms.FixedBytes w) c v → value_bytes (forms.FixedBytes w) v ≡ fixed_in w v
@@ -214,7 +214,7 @@ none_null (v ∷ vs) all = omega (arith, sum_by-cons (λ x. cond (is_null_value 
 pub offsets_more : (form : Form) (vs ws : List PlainValue) → last_offset form (vs ++ ws) ≡ last_offset form vs + last_offset form ws
 offsets_more forms.Nulls vs ws = refl
 offsets_more forms.Bits vs ws = refl
-offsets_more (forms.Numbers bits signed) vs ws = refl
+offsets_more (forms.Numbers number) vs ws = refl
 offsets_more (forms.Bytes w) vs ws = sum_by-append (λ x. length (bytes_in_value x)) vs ws
 offsets_more (forms.Texts w) vs ws = sum_by-append (λ x. length (bytes_in_value x)) vs ws
 offsets_more (forms.FixedBytes w) vs ws = refl
@@ -245,7 +245,7 @@ pub pieces_written : (part : Part) (old new : Writing) (bytes : List ℕ) (ws : 
     → (before : List ℕ) (vs : List PlainValue) → IsWritten part before vs old → IsWritten part before (vs ++ ws) new
 pieces_written Validity old new bytes ws are more before vs so_far = absurd are
 pieces_written Truths old new bytes ws are more before vs so_far = absurd are
-pieces_written (Numbers bits) old new bytes ws are more before vs so_far = more_numbers (number_width bits) before old.out.items new.out.items bytes vs ws so_far more are
+pieces_written (Numbers number) old new bytes ws are more before vs so_far = more_numbers (number_width number) before old.out.items new.out.items bytes vs ws so_far more are
 pieces_written (StringOffsets width) old new bytes ws are more before vs so_far = absurd are
 pieces_written (ListOffsets width) old new bytes ws are more before vs so_far = absurd are
 pieces_written Strings old new bytes ws are more before vs so_far = more_pieces bytes_in_value before old.out.items new.out.items bytes vs ws so_far more are

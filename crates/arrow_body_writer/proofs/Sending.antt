@@ -43,7 +43,7 @@ count_steps (Field' k p rest) = suc (count_steps rest)
 pub lists_of : (form : Form) → IsLists form → (w : OffsetWidth) × (form ≡ forms.Lists w)
 lists_of forms.Nulls h = absurd h
 lists_of forms.Bits h = absurd h
-lists_of (forms.Numbers bits signed) h = absurd h
+lists_of (forms.Numbers number) h = absurd h
 lists_of (forms.Bytes w) h = absurd h
 lists_of (forms.Texts w) h = absurd h
 lists_of (forms.FixedBytes w) h = absurd h
@@ -190,7 +190,7 @@ sends_structs c k no_lists here = of_form (form_of_column c) (below c.encoding c
     of_form : (form : Form) (fields children : Fields) (vs : List PlainValue) → (IsLists form → ⊥) → k < length (columns_by fields (raws_below form children vs)) → form ≡ forms.Structs
     of_form forms.Nulls fields children vs never here = absurd (omega (arith, here, without fields))
     of_form forms.Bits fields children vs never here = absurd (omega (arith, here, without fields))
-    of_form (forms.Numbers bits signed) fields children vs never here = absurd (omega (arith, here, without fields))
+    of_form (forms.Numbers number) fields children vs never here = absurd (omega (arith, here, without fields))
     of_form (forms.Bytes w) fields children vs never here = absurd (omega (arith, here, without fields))
     of_form (forms.Texts w) fields children vs never here = absurd (omega (arith, here, without fields))
     of_form (forms.FixedBytes w) fields children vs never here = absurd (omega (arith, here, without fields))

@@ -207,7 +207,7 @@ pub there_in : (part : Part) (vs : List PlainValue) (piece : Piece) → IsPiece 
 there_in part vs (pieces.Bytes bytes) is = tt
 there_in Validity vs (pieces.Offsets s) is = absurd is
 there_in Truths vs (pieces.Offsets s) is = absurd is
-there_in (Numbers bits) vs (pieces.Offsets s) is = absurd is
+there_in (Numbers number) vs (pieces.Offsets s) is = absurd is
 there_in (StringOffsets width) vs (pieces.Offsets s) is = is.spans.there
 there_in (ListOffsets width) vs (pieces.Offsets s) is = is.spans.there
 there_in Strings vs (pieces.Offsets s) is = absurd is
@@ -231,7 +231,7 @@ pub offsets_written : (part : Part) (old new : Writing) (s : Spans) (values : Li
     → (before : List ℕ) (vs : List PlainValue) → IsWritten part before vs old → IsWritten part before (vs ++ values) new
 offsets_written Validity old new s values are added before vs = absurd are
 offsets_written Truths old new s values are added before vs = absurd are
-offsets_written (Numbers bits) old new s values are added before vs = absurd are
+offsets_written (Numbers number) old new s values are added before vs = absurd are
 offsets_written (StringOffsets width) old new s values are added before vs = these_added s width (λ v. length (bytes_in_value v)) old new values are added before vs
 offsets_written (ListOffsets width) old new s values are added before vs = these_added s width (λ v. length (items_in_value v)) old new values are added before vs
 offsets_written Strings old new s values are added before vs = absurd are

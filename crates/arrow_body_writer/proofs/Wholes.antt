@@ -95,7 +95,7 @@ none_whole c child slots has items all empty =
 leaf_fields : (form : Form) (fields : Fields) → IsLeaf form → HasFieldsOf form fields → fields ≡ none
 leaf_fields forms.Nulls fields leaf has = has
 leaf_fields forms.Bits fields leaf has = has
-leaf_fields (forms.Numbers bits signed) fields leaf has = has
+leaf_fields (forms.Numbers number) fields leaf has = has
 leaf_fields (forms.Bytes w) fields leaf has = has
 leaf_fields (forms.Texts w) fields leaf has = has
 leaf_fields (forms.FixedBytes w) fields leaf has = has
@@ -105,7 +105,7 @@ leaf_fields forms.Structs fields leaf has = absurd leaf
 leaf_raws : (form : Form) (fields : Fields) (vs : List PlainValue) → IsLeaf form → raws_below form fields vs ≡ []
 leaf_raws forms.Nulls fields vs leaf = refl
 leaf_raws forms.Bits fields vs leaf = refl
-leaf_raws (forms.Numbers bits signed) fields vs leaf = refl
+leaf_raws (forms.Numbers number) fields vs leaf = refl
 leaf_raws (forms.Bytes w) fields vs leaf = refl
 leaf_raws (forms.Texts w) fields vs leaf = refl
 leaf_raws (forms.FixedBytes w) fields vs leaf = refl

@@ -21,9 +21,9 @@ part_of forms.Nulls k = None
 part_of forms.Bits zero = Some Validity
 part_of forms.Bits (suc zero) = Some Truths
 part_of forms.Bits (suc (suc k)) = None
-part_of (forms.Numbers bits signed) zero = Some Validity
-part_of (forms.Numbers bits signed) (suc zero) = Some (Numbers bits)
-part_of (forms.Numbers bits signed) (suc (suc k)) = None
+part_of (forms.Numbers number) zero = Some Validity
+part_of (forms.Numbers number) (suc zero) = Some (Numbers number)
+part_of (forms.Numbers number) (suc (suc k)) = None
 part_of (forms.Bytes width) zero = Some Validity
 part_of (forms.Bytes width) (suc zero) = Some (StringOffsets width)
 part_of (forms.Bytes width) (suc (suc zero)) = Some Strings
@@ -45,7 +45,7 @@ part_of forms.Structs (suc k) = None
 abbrev pub part_bytes : Part → List PlainValue → List ℕ
 part_bytes Validity vs = packed (map (λ v. not (is_null_value v)) vs)
 part_bytes Truths vs = packed (map truth_in vs)
-part_bytes (Numbers bits) vs = number_buffer (number_width bits) vs
+part_bytes (Numbers number) vs = number_buffer (number_width number) vs
 part_bytes (StringOffsets width) vs = offsets_bytes width (map (λ v. length (bytes_in_value v)) vs)
 part_bytes (ListOffsets width) vs = offsets_bytes width (map (λ v. length (items_in_value v)) vs)
 part_bytes Strings vs = flat_map bytes_in_value vs
@@ -55,7 +55,7 @@ part_bytes (FixedBytes width) vs = flat_map (fixed_in width) vs
 abbrev pub chunk_of : Part → List PlainValue → List ℕ
 chunk_of Validity vs = validity_bytes vs
 chunk_of Truths vs = part_bytes Truths vs
-chunk_of (Numbers bits) vs = part_bytes (Numbers bits) vs
+chunk_of (Numbers number) vs = part_bytes (Numbers number) vs
 chunk_of (StringOffsets width) vs = part_bytes (StringOffsets width) vs
 chunk_of (ListOffsets width) vs = part_bytes (ListOffsets width) vs
 chunk_of Strings vs = part_bytes Strings vs
@@ -65,7 +65,7 @@ chunk_of (FixedBytes width) vs = part_bytes (FixedBytes width) vs
 abbrev pub IsTold : Part → List PlainValue → Type 0
 IsTold Validity vs = ⊤
 IsTold Truths vs = ⊤
-IsTold (Numbers bits) vs = ⊤
+IsTold (Numbers number) vs = ⊤
 IsTold (StringOffsets width) vs = sum_by (λ v. length (bytes_in_value v)) vs ≤ greatest_offset width
 IsTold (ListOffsets width) vs = sum_by (λ v. length (items_in_value v)) vs ≤ greatest_offset width
 IsTold Strings vs = ⊤
@@ -75,7 +75,7 @@ IsTold (FixedBytes width) vs = ⊤
 abbrev pub HasRoom : Part → PlainValue → Type 0
 HasRoom Validity v = ⊤
 HasRoom Truths v = ⊤
-HasRoom (Numbers bits) v = FitsWidth (number_width bits) (number_in v)
+HasRoom (Numbers number) v = FitsWidth (number_width number) (number_in v)
 HasRoom (StringOffsets width) v = ⊤
 HasRoom (ListOffsets width) v = ⊤
 HasRoom Strings v = ⊤
@@ -98,7 +98,7 @@ AreOffsetsTo width long before vs w =
 abbrev pub IsWritten : Part → List ℕ → List PlainValue → Writing → Type 0
 IsWritten Validity before vs w = IsPacking before (map (λ v. not (is_null_value v)) vs) w.pending.byte w.pending.weight w.out.items
 IsWritten Truths before vs w = IsPacking before (map truth_in vs) w.pending.byte w.pending.weight w.out.items
-IsWritten (Numbers bits) before vs w = w.out.items ≡ before ++ number_buffer (number_width bits) vs
+IsWritten (Numbers number) before vs w = w.out.items ≡ before ++ number_buffer (number_width number) vs
 IsWritten (StringOffsets width) before vs w = AreOffsetsTo width (λ v. length (bytes_in_value v)) before vs w
 IsWritten (ListOffsets width) before vs w = AreOffsetsTo width (λ v. length (items_in_value v)) before vs w
 IsWritten Strings before vs w = w.out.items ≡ before ++ flat_map bytes_in_value vs

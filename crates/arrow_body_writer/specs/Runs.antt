@@ -21,7 +21,7 @@ use Rattle.arrow_body_writer.specs.declared.spans.Spans.{Spans}
 abbrev pub are_strings : Form → Bool
 are_strings forms.Nulls = false
 are_strings forms.Bits = false
-are_strings (forms.Numbers bits signed) = false
+are_strings (forms.Numbers number) = false
 are_strings (forms.Bytes width) = true
 are_strings (forms.Texts width) = true
 are_strings (forms.FixedBytes width) = true
@@ -44,7 +44,7 @@ HasItems lists items = HasRun lists.array.now lists.start lists.stop items.start
 abbrev pub AreBytesOf : Part → List PlainValue → List ℕ → Type 0
 AreBytesOf Validity vs bytes = ⊥
 AreBytesOf Truths vs bytes = ⊥
-AreBytesOf (Numbers bits) vs bytes = bytes ≡ number_buffer (number_width bits) vs
+AreBytesOf (Numbers number) vs bytes = bytes ≡ number_buffer (number_width number) vs
 AreBytesOf (StringOffsets width) vs bytes = ⊥
 AreBytesOf (ListOffsets width) vs bytes = ⊥
 AreBytesOf Strings vs bytes = bytes ≡ flat_map bytes_in_value vs
@@ -61,7 +61,7 @@ pub record AreOffsetsOf (s : Spans) (width : OffsetWidth) (long : PlainValue →
 abbrev pub AreSpansIn : Part → List PlainValue → Spans → Type 0
 AreSpansIn Validity vs s = ⊥
 AreSpansIn Truths vs s = ⊥
-AreSpansIn (Numbers bits) vs s = ⊥
+AreSpansIn (Numbers number) vs s = ⊥
 AreSpansIn (StringOffsets width) vs s = AreOffsetsOf s width (λ v. length (bytes_in_value v)) vs
 AreSpansIn (ListOffsets width) vs s = AreOffsetsOf s width (λ v. length (items_in_value v)) vs
 AreSpansIn Strings vs s = ⊥

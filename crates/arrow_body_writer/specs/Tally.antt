@@ -31,7 +31,7 @@ CountsNull old new = (form : Form) → Counts form (null_value ∷ []) old new
 abbrev pub sizes_told : Form → ℕ → ℕ → ℕ → List ℕ
 sizes_told forms.Nulls slots nulls end = []
 sizes_told forms.Bits slots nulls end = (if nat_eq nulls 0 then 0 else div_ceil slots 8) ∷ div_ceil slots 8 ∷ []
-sizes_told (forms.Numbers bits signed) slots nulls end = (if nat_eq nulls 0 then 0 else div_ceil slots 8) ∷ number_width bits * slots ∷ []
+sizes_told (forms.Numbers number) slots nulls end = (if nat_eq nulls 0 then 0 else div_ceil slots 8) ∷ number_width number * slots ∷ []
 sizes_told (forms.Bytes w) slots nulls end = (if nat_eq nulls 0 then 0 else div_ceil slots 8) ∷ offset_bytes w * (slots + 1) ∷ end ∷ []
 sizes_told (forms.Texts w) slots nulls end = (if nat_eq nulls 0 then 0 else div_ceil slots 8) ∷ offset_bytes w * (slots + 1) ∷ end ∷ []
 sizes_told (forms.FixedBytes width) slots nulls end = (if nat_eq nulls 0 then 0 else div_ceil slots 8) ∷ width * slots ∷ []

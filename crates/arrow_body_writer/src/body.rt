@@ -163,7 +163,7 @@ fn put_own(body: &mut Body, align: Align, array: &Array) -> Result<(), StoreFaul
 {
     match full_form(array) {
         Some(Form::Structs) => Ok(put_full(body, align, array)?),
-        Some(Form::Numbers { .. }) => {
+        Some(Form::Numbers(_)) => {
             put_full(body, align, array)?;
             Ok(put_bytes(body, align, array.value_bytes(0, array.len()))?)
         }

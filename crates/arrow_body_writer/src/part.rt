@@ -3,8 +3,7 @@
 ghost use Rattle.std.specs.Prelude.{◌≡◌, None, MatchOption};
 ghost use Rattle.arrow_body_writer.specs.Part.{part_of};
 
-use arrow_data::form::{Form, OffsetWidth};
-use arrow_types::BitWidth;
+use arrow_data::form::{Form, NumberForm, OffsetWidth};
 
 // One buffer of a node, by what it holds (Columnar Format, "Buffer Listing for Each Layout").
 #[derive(Clone, Copy)]
@@ -13,8 +12,8 @@ pub(crate) enum Part {
     Validity,
     // The truth values.
     Truths,
-    // The numbers, of this width.
-    Numbers(BitWidth),
+    // The numbers.
+    Numbers(NumberForm),
     // The offsets of byte strings or texts.
     StringOffsets(OffsetWidth),
     // The offsets of lists.
@@ -33,14 +32,14 @@ pub(crate) fn part_of(form: Form, k: usize) -> Option<Part>
         (Form::Nulls, _) => None,
         (_, 0) => Some(Part::Validity),
         (Form::Bits, 1) => Some(Part::Truths),
-        (Form::Numbers { bits, .. }, 1) => Some(Part::Numbers(bits)),
+        (Form::Numbers(form), 1) => Some(Part::Numbers(form)),
         (Form::Bytes(width) | Form::Texts(width), 1) => Some(Part::StringOffsets(width)),
         (Form::Bytes(_) | Form::Texts(_), 2) => Some(Part::Strings),
         (Form::FixedBytes(width), 1) => Some(Part::FixedBytes(width)),
         (Form::Lists(width), 1) => Some(Part::ListOffsets(width)),
         (
             Form::Bits
-            | Form::Numbers { .. }
+            | Form::Numbers(_)
             | Form::Bytes(_)
             | Form::Texts(_)
             | Form::FixedBytes(_)

@@ -50,7 +50,7 @@ pub(crate) fn pieces(part: Part, slice: Slice<'_>) -> Option<Piece<'_>>
     ensures { IfSome result (IsPiece part (values_in slice.entry)) }
 {
     match part {
-        Part::Numbers(bits) => match numbers(slice, bits) {
+        Part::Numbers(form) => match numbers(slice, form) {
             Some(bytes) => Some(Piece::Bytes(bytes)),
             None => None,
         },

@@ -11,7 +11,7 @@ ghost use Rattle.arrow_body_writer.specs.Tally.{IsTally, sizes_told};
 
 use crate::align::Align;
 use crate::tally::Tally;
-use arrow_data::form::{Form, number_width};
+use arrow_data::form::Form;
 
 // The most slots that a node can have (`Schema.fbs`, where lengths go; `Message.fbs`, struct
 // `FieldNode`).
@@ -61,9 +61,7 @@ pub(crate) fn node_size(align: Align, form: Form, tally: Tally) -> u64
     match form {
         Form::Nulls => 0,
         Form::Bits => validity + align.round_up(bitmap_size(tally.slots)),
-        Form::Numbers { bits, .. } => {
-            validity + align.round_up(number_width(bits) as u64 * tally.slots)
-        }
+        Form::Numbers(form) => validity + align.round_up(form.width() as u64 * tally.slots),
         Form::Bytes(width) | Form::Texts(width) => {
             let offsets = align.round_up(width.bytes() as u64 * (tally.slots + 1));
             validity + offsets + align.round_up(tally.end)

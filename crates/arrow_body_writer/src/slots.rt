@@ -1,8 +1,8 @@
 //! What one slot adds to each buffer of its node.
 
-ghost use Rattle.std.specs.Prelude.{◌≡◌, ◌≤◌, ◌<◌, [], ◌++◌, Bool, IfSome, IsTrue, MatchOption, OnOk, length};
+ghost use Rattle.std.specs.Prelude.{◌≡◌, ◌≤◌, ◌<◌, [], ◌++◌, IfSome, IsTrue, MatchOption, OnOk, length};
 ghost use Rattle.std.specs.List.{flat_map};
-ghost use Rattle.arrow_bits.specs.Numbers.{FitsWidth, IsWidth, int_bytes};
+ghost use Rattle.arrow_bits.specs.Numbers.{FitsWidth, IsAnyWidth, int_bytes};
 ghost use Rattle.arrow_data.specs.Column.{IsColumn};
 ghost use Rattle.arrow_data.specs.Form.{node_form, number_width};
 ghost use Rattle.arrow_data.specs.FullSlots.{AreFull};
@@ -18,8 +18,7 @@ use crate::slice::Slice;
 use crate::whole::is_full;
 use arrow_bits::put_int;
 use arrow_data::Array;
-use arrow_data::form::{Form, node_form};
-use arrow_types::BitWidth;
+use arrow_data::form::{Form, NumberForm, node_form};
 use std::alloc::AllocError;
 
 // The truth value of the slot, false under a null.
@@ -92,12 +91,12 @@ fn holds_strings(form: Form) -> bool
     matches!(form, Form::Bytes(_) | Form::Texts(_) | Form::FixedBytes(_))
 }
 
-// Whether slots of the form hold numbers of this width.
-fn holds_numbers(form: Form, bits: BitWidth) -> bool
-    ensures { IsTrue result → (signed : Bool) × (form ≡ forms.Numbers bits signed) }
+// Whether slots of the form hold these numbers.
+fn holds_numbers(form: Form, numbers: NumberForm) -> bool
+    ensures { IsTrue result → form ≡ forms.Numbers numbers }
 {
     match form {
-        Form::Numbers { bits: own, .. } => own == bits,
+        Form::Numbers(own) => own == numbers,
         _ => false,
     }
 }
@@ -126,16 +125,14 @@ pub(crate) fn strings(slice: Slice<'_>) -> &[u8]
     }
 }
 
-// The bytes of the numbers of a slice, of which none is null. None where they do not have this
-// width.
-pub(crate) fn numbers(slice: Slice<'_>, bits: BitWidth) -> Option<&[u8]>
+// The bytes of the numbers of a slice, of which none is null. None where they are not of this form.
+pub(crate) fn numbers(slice: Slice<'_>, form: NumberForm) -> Option<&[u8]>
     requires slots { IsSlice slice }
     requires full { IsFull slice }
     ensures { IfSome result (λ bytes. bytes.now
-        ≡ number_buffer (number_width bits) (values_in slice.entry)) }
+        ≡ number_buffer (number_width form) (values_in slice.entry)) }
 {
-    let form = own_form(slice.array);
-    if holds_numbers(form, bits) {
+    if holds_numbers(own_form(slice.array), form) {
         Some(slice.array.value_bytes(slice.start, slice.stop))
     } else {
         None
@@ -192,7 +189,7 @@ pub(crate) fn put_number(
     i: usize,
 ) -> Result<(), AllocError>
     requires inside { i < length array.now.raw }
-    requires width { IsWidth width }
+    requires width { IsAnyWidth width }
     requires fits { FitsWidth width (number_in (value_at array.now.raw i)) }
     ensures { OnOk result (out.new.items
         ≡ out.old.items ++ int_bytes width (number_in (value_at array.now.raw i))) }

@@ -25,7 +25,7 @@ use crate::slots::{put_number, put_string, span, string, truth};
 use crate::spans::Spans;
 use arrow_bits::put_int;
 use arrow_data::Array;
-use arrow_data::form::{OffsetWidth, number_width};
+use arrow_data::form::OffsetWidth;
 use std::alloc::AllocError;
 
 // The bytes so far; of a buffer of bits those of its last byte, of a buffer of offsets the last.
@@ -119,7 +119,7 @@ impl Writing {
         match part {
             Part::Validity => self.pending.push(&mut self.out, !array.is_null(i)),
             Part::Truths => self.pending.push(&mut self.out, truth(array, i)),
-            Part::Numbers(bits) => put_number(&mut self.out, number_width(bits), array, i),
+            Part::Numbers(form) => put_number(&mut self.out, form.width(), array, i),
             Part::StringOffsets(width) => self.put_end(width, string(array, i).len()),
             Part::ListOffsets(width) => self.put_end(width, span(array, i)),
             Part::Strings => put_string(&mut self.out, array, i),
@@ -133,7 +133,7 @@ impl Writing {
     {
         match part {
             Part::Validity | Part::Truths => self.pending.push(&mut self.out, false),
-            Part::Numbers(bits) => put_int(&mut self.out, number_width(bits), 0),
+            Part::Numbers(form) => put_int(&mut self.out, form.width(), 0),
             Part::StringOffsets(width) | Part::ListOffsets(width) => self.put_end(width, 0),
             Part::Strings => Ok(()),
             Part::FixedBytes(width) => put_zeros(&mut self.out, width),
@@ -248,8 +248,8 @@ impl Writing {
         let BitRange { bytes, start, stop } = bits;
         match part {
             Part::Validity => self.pending.push_range(&mut self.out, bits)?,
-            Part::Numbers(width) => {
-                let width = number_width(width);
+            Part::Numbers(form) => {
+                let width = form.width();
                 let Some(values) = values_of(array, width) else {
                     return Ok(false);
                 };
@@ -281,8 +281,8 @@ impl Writing {
                     return self.pending.push_range(&mut self.out, bits);
                 }
             }
-            Part::Numbers(width) => {
-                if let Some(numbers) = numbers_of(array, number_width(width)) {
+            Part::Numbers(form) => {
+                if let Some(numbers) = numbers_of(array, form.width()) {
                     return numbers.put(&mut self.out, start, stop);
                 }
             }

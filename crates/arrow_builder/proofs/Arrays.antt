@@ -50,7 +50,7 @@ field_encoding f = search (rules, the_lemmas)
 abbrev pub Shows : Form → ℕ → ℕ → List (List ℕ) → Type 0
 Shows forms.Nulls n len b = ⊤
 Shows forms.Bits n len b = ⊤
-Shows (forms.Numbers bits signed) n len b = ⊤
+Shows (forms.Numbers number) n len b = ⊤
 Shows (forms.Bytes width) n len b = ⊤
 Shows (forms.Texts width) n len b = ⊤
 Shows (forms.FixedBytes width) n len b = ⊤
@@ -61,7 +61,7 @@ shows_by : (form : Form) (n len most : ℕ) (b : List (List ℕ)) (raw : List Pl
     → ((k : ℕ) → n ≡ length (child_column form k (take len raw))) → Shows form n len b
 shows_by forms.Nulls n len most b raw counts le long shown = tt
 shows_by forms.Bits n len most b raw counts le long shown = tt
-shows_by (forms.Numbers bits signed) n len most b raw counts le long shown = tt
+shows_by (forms.Numbers number) n len most b raw counts le long shown = tt
 shows_by (forms.Bytes width) n len most b raw counts le long shown = tt
 shows_by (forms.Texts width) n len most b raw counts le long shown = tt
 shows_by (forms.FixedBytes width) n len most b raw counts le long shown = tt
@@ -101,7 +101,7 @@ one_count width len n b (c ∷ bs) kept one shows = record { ranges = kept.range
 abbrev HasChild : Form → List Built → Type 0
 HasChild forms.Nulls bs = ⊤
 HasChild forms.Bits bs = ⊤
-HasChild (forms.Numbers bits signed) bs = ⊤
+HasChild (forms.Numbers number) bs = ⊤
 HasChild (forms.Bytes width) bs = ⊤
 HasChild (forms.Texts width) bs = ⊤
 HasChild (forms.FixedBytes width) bs = ⊤
@@ -111,7 +111,7 @@ HasChild forms.Structs bs = ⊤
 child_there : (form : Form) (tag : Tag) (e : Option Encoding) (fields : Fields) (bs : List Built) → node_form tag e ≡ form → HasFieldsOf (form_of tag) fields → AreBelow e fields bs → HasChild form bs
 child_there forms.Nulls tag e fields bs is own below = tt
 child_there forms.Bits tag e fields bs is own below = tt
-child_there (forms.Numbers bits signed) tag e fields bs is own below = tt
+child_there (forms.Numbers number) tag e fields bs is own below = tt
 child_there (forms.Bytes width) tag e fields bs is own below = tt
 child_there (forms.Texts width) tag e fields bs is own below = tt
 child_there (forms.FixedBytes width) tag e fields bs is own below = tt
@@ -122,7 +122,7 @@ keeps_shown : (form : Form) (len n : ℕ) (b : List (List ℕ)) (bs : List Built
     → Keeps form len b (map (λ (c : Built). n) bs)
 keeps_shown forms.Nulls len n b bs kept shows has = kept
 keeps_shown forms.Bits len n b bs kept shows has = kept
-keeps_shown (forms.Numbers bits signed) len n b bs kept shows has = kept
+keeps_shown (forms.Numbers number) len n b bs kept shows has = kept
 keeps_shown (forms.Bytes width) len n b bs kept shows has = kept
 keeps_shown (forms.Texts width) len n b bs kept shows has = kept
 keeps_shown (forms.FixedBytes width) len n b bs kept shows has = kept
@@ -134,7 +134,7 @@ shown_stay : (form : Form) (len n : ℕ) (b : List (List ℕ)) (bs : List Built)
     → StaySlots len (value_slot form b (raws_in bs)) (value_slot form b (raws_in (map (cut_to n) bs)))
 shown_stay forms.Nulls len n b bs kept shows has = λ j h. refl
 shown_stay forms.Bits len n b bs kept shows has = λ j h. refl
-shown_stay (forms.Numbers bits signed) len n b bs kept shows has = λ j h. refl
+shown_stay (forms.Numbers number) len n b bs kept shows has = λ j h. refl
 shown_stay (forms.Bytes width) len n b bs kept shows has = λ j h. refl
 shown_stay (forms.Texts width) len n b bs kept shows has = λ j h. refl
 shown_stay (forms.FixedBytes width) len n b bs kept shows has = λ j h. refl
@@ -149,7 +149,7 @@ shown_stay forms.Structs len n b bs kept shows has = λ j h.
 texts_by : (form : Form) (fields : Fields) (len : ℕ) (b : List (List ℕ)) (children : List (List PlainValue)) → AllByRecursion (Fits form fields) (slots len (value_slot form b children)) → HoldsTexts form len b
 texts_by forms.Nulls fields len b children fit = tt
 texts_by forms.Bits fields len b children fit = tt
-texts_by (forms.Numbers bits signed) fields len b children fit = tt
+texts_by (forms.Numbers number) fields len b children fit = tt
 texts_by (forms.Bytes width) fields len b children fit = tt
 texts_by (forms.Texts width) fields len b children fit = λ j h valid.
     text_of (is_valid_at (buffer b 0) j) (range_of width (buffer b 1) (buffer b 2) j) valid (slots_have (Fits (forms.Texts width) fields) len (value_slot (forms.Texts width) b children) fit j h)
@@ -235,7 +235,7 @@ offsets_made : (form : Form) (len most : ℕ) (b : List (List ℕ)) (raw : List 
     → node_offsets form len b ≡ item_offsets form (take len raw)
 offsets_made forms.Nulls len most b raw counts le long = refl
 offsets_made forms.Bits len most b raw counts le long = refl
-offsets_made (forms.Numbers bits signed) len most b raw counts le long = refl
+offsets_made (forms.Numbers number) len most b raw counts le long = refl
 offsets_made (forms.Bytes width) len most b raw counts le long = refl
 offsets_made (forms.Texts width) len most b raw counts le long = refl
 offsets_made (forms.FixedBytes width) len most b raw counts le long = refl

@@ -6,7 +6,7 @@ use Rattle.arrow_types.specs.Field.{Fields, Head, none, more}
 use Rattle.arrow_types.specs.View.{field_view}
 use Rattle.arrow_types.specs.declared.field.Encoding.{Encoding}
 use Rattle.arrow_data.specs.Column.{ValueList}
-use Rattle.arrow_data.specs.Form.{node_form, number_width}
+use Rattle.arrow_data.specs.Form.{node_form, int_width, index_form}
 use Rattle.arrow_data.specs.Layout.{HasFixed}
 use Rattle.arrow_data.specs.Parts.{value_slot}
 use Rattle.arrow_data.specs.PlainValue.{PlainValue, int_value, null_value}
@@ -129,26 +129,26 @@ indices_refer len width signed validity indices count = (
 
 -- the numbers of a node with an encoding
 pub numbers_fixed : (a : Inside) (e : Encoding) (len : ℕ) → (field_view a.field).head.encoding ≡ Some e → len ≤ a.len → IsNode a
-    → HasFixed len (number_width e.index.bits) a.buffers.validity.items a.buffers.values.items
+    → HasFixed len (int_width e.index.bits) a.buffers.validity.items a.buffers.values.items
 numbers_fixed a e len is le ok =
-    let form : field_form (field_view a.field) ≡ forms.Numbers e.index.bits e.index.signed = ap (node_form (field_view a.field).head.tag) is in
+    let form : field_form (field_view a.field) ≡ index_form e = ap (node_form (field_view a.field).head.tag) is in
     let kept = subst (λ f. Keeps f len (buffers_in a.buffers) (counts_in a.children.items)) form (keeps_fewer (field_form (field_view a.field)) len a.len (buffers_in a.buffers) (counts_in a.children.items) le ok.kept) in
     record { bits = λ _. kept.bits; long = kept.long }
 
 -- its first values are its first indices
 pub numbers_slots : (a : Inside) (e : Encoding) (len : ℕ) → (field_view a.field).head.encoding ≡ Some e → len ≤ a.len
-    → take len (built_of a).raw ≡ slots len (int_slot (number_width e.index.bits) e.index.signed a.buffers.validity.items a.buffers.values.items)
+    → take len (built_of a).raw ≡ slots len (int_slot (int_width e.index.bits) e.index.signed a.buffers.validity.items a.buffers.values.items)
 numbers_slots a e len is le =
-    let form : field_form (field_view a.field) ≡ forms.Numbers e.index.bits e.index.signed = ap (node_form (field_view a.field).head.tag) is in
-    take_slots (slot_in a) a.len len le ∙ subst (λ f. slots len (λ j. value_of f a j) ≡ slots len (λ j. value_of (forms.Numbers e.index.bits e.index.signed) a j)) (sym form) refl
+    let form : field_form (field_view a.field) ≡ index_form e = ap (node_form (field_view a.field).head.tag) is in
+    take_slots (slot_in a) a.len len le ∙ subst (λ f. slots len (λ j. value_of f a j) ≡ slots len (λ j. value_of (index_form e) a j)) (sym form) refl
   where
     value_of : Form → Inside → ℕ → PlainValue
     value_of f a j = value_slot f (buffers_in a.buffers) (raws_in a.children.items) j
 
 -- whether they have their values
 pub numbers_indexed : (ds : List (ℤ × ValueList)) (a : Inside) (e : Encoding) (len : ℕ) → (field_view a.field).head.encoding ≡ Some e → len ≤ a.len
-    → AreIndices len (number_width e.index.bits) e.index.signed a.buffers.validity.items a.buffers.values.items (length (values_by ds e.id)) ↔ IsIndexed ds (field_view a.field).head (take len (built_of a).raw)
+    → AreIndices len (int_width e.index.bits) e.index.signed a.buffers.validity.items a.buffers.values.items (length (values_by ds e.id)) ↔ IsIndexed ds (field_view a.field).head (take len (built_of a).raw)
 numbers_indexed ds a e len is le =
-    let refer = indices_refer len (number_width e.index.bits) e.index.signed a.buffers.validity.items a.buffers.values.items (length (values_by ds e.id)) in
-    let whole = subst (λ vs. AreIndices len (number_width e.index.bits) e.index.signed a.buffers.validity.items a.buffers.values.items (length (values_by ds e.id)) ↔ AllByRecursion (RefersTo (length (values_by ds e.id))) vs) (sym (numbers_slots a e len is le)) refer in
-    subst (λ x. AreIndices len (number_width e.index.bits) e.index.signed a.buffers.validity.items a.buffers.values.items (length (values_by ds e.id)) ↔ HaveEntries ds x (take len (built_of a).raw)) (sym is) whole
+    let refer = indices_refer len (int_width e.index.bits) e.index.signed a.buffers.validity.items a.buffers.values.items (length (values_by ds e.id)) in
+    let whole = subst (λ vs. AreIndices len (int_width e.index.bits) e.index.signed a.buffers.validity.items a.buffers.values.items (length (values_by ds e.id)) ↔ AllByRecursion (RefersTo (length (values_by ds e.id))) vs) (sym (numbers_slots a e len is le)) refer in
+    subst (λ x. AreIndices len (int_width e.index.bits) e.index.signed a.buffers.validity.items a.buffers.values.items (length (values_by ds e.id)) ↔ HaveEntries ds x (take len (built_of a).raw)) (sym is) whole

@@ -17,7 +17,7 @@ has_offsets width len top validity offsets kept = λ _. offsets_from_numbers (of
 pub keeps_holds : (form : Form) (len : ℕ) (b : List (List ℕ)) (counts : List ℕ) → Keeps form len b counts → HoldsSlots form len b counts
 keeps_holds forms.Nulls len b counts kept = tt
 keeps_holds forms.Bits len b counts kept = record { bits = λ _. kept.bits; long = kept.long }
-keeps_holds (forms.Numbers bits signed) len b counts kept = record { bits = λ _. kept.bits; long = kept.long }
+keeps_holds (forms.Numbers number) len b counts kept = record { bits = λ _. kept.bits; long = kept.long }
 keeps_holds (forms.Bytes width) len b counts kept = record { bits = λ _. kept.ranges.bits; rising = has_offsets width len _ _ _ kept }
 keeps_holds (forms.Texts width) len b counts kept = record { bits = λ _. kept.ranges.bits; rising = has_offsets width len _ _ _ kept }
 keeps_holds (forms.FixedBytes width) len b counts kept = record { bits = λ _. kept.bits; long = kept.long }

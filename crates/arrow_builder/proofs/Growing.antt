@@ -85,9 +85,9 @@ parts_fewer width at len top validity offsets le kept = record {
 pub keeps_fewer : (form : Form) (at len : ℕ) (b : List (List ℕ)) (counts : List ℕ) → at ≤ len → Keeps form len b counts → Keeps form at b counts
 keeps_fewer forms.Nulls at len b counts le kept = kept
 keeps_fewer forms.Bits at len b counts le kept = record { bits = omega (arith, le, kept.bits); long = omega (arith, le, kept.long) }
-keeps_fewer (forms.Numbers bits signed) at len b counts le kept = record {
+keeps_fewer (forms.Numbers number) at len b counts le kept = record {
   bits = omega (arith, le, kept.bits);
-  long = omega (arith, times (number_width bits) at len le, kept.long);
+  long = omega (arith, times (number_width number) at len le, kept.long);
 }
 keeps_fewer (forms.Bytes width) at len b counts le kept = parts_fewer width at len _ _ _ le kept
 keeps_fewer (forms.Texts width) at len b counts le kept = parts_fewer width at len _ _ _ le kept

@@ -26,7 +26,7 @@ all_items_append (x ∷ xs) ys = ap (λ vs. list_of_values (items_of x) ++ vs) (
 pub column_append : (form : Form) (k : ℕ) (xs ys : List PlainValue) → child_column form k (xs ++ ys) ≡ child_column form k xs ++ child_column form k ys
 column_append forms.Nulls k xs ys = refl
 column_append forms.Bits k xs ys = refl
-column_append (forms.Numbers bits signed) k xs ys = refl
+column_append (forms.Numbers number) k xs ys = refl
 column_append (forms.Bytes width) k xs ys = refl
 column_append (forms.Texts width) k xs ys = refl
 column_append (forms.FixedBytes width) k xs ys = refl
@@ -37,7 +37,7 @@ column_append forms.Structs k xs ys = map-append (field_value k) xs ys
 pub column_of_none : (form : Form) (k : ℕ) → child_column form k [] ≡ []
 column_of_none forms.Nulls k = refl
 column_of_none forms.Bits k = refl
-column_of_none (forms.Numbers bits signed) k = refl
+column_of_none (forms.Numbers number) k = refl
 column_of_none (forms.Bytes width) k = refl
 column_of_none (forms.Texts width) k = refl
 column_of_none (forms.FixedBytes width) k = refl
@@ -48,7 +48,7 @@ column_of_none forms.Structs k = refl
 pub leaf_column : (form : Form) (k : ℕ) (raw : List PlainValue) → IsLeaf form → child_column form k raw ≡ []
 leaf_column forms.Nulls k raw leaf = refl
 leaf_column forms.Bits k raw leaf = refl
-leaf_column (forms.Numbers bits signed) k raw leaf = refl
+leaf_column (forms.Numbers number) k raw leaf = refl
 leaf_column (forms.Bytes width) k raw leaf = refl
 leaf_column (forms.Texts width) k raw leaf = refl
 leaf_column (forms.FixedBytes width) k raw leaf = refl
@@ -135,7 +135,7 @@ items_grown start raw child values v count held items =
 pub counted_take : (form : Form) (at len : ℕ) (b : List (List ℕ)) (raw : List PlainValue) → at ≤ len → CountsItems form len b raw → CountsItems form at b (take at raw)
 counted_take forms.Nulls at len b raw le h = tt
 counted_take forms.Bits at len b raw le h = tt
-counted_take (forms.Numbers bits signed) at len b raw le h = tt
+counted_take (forms.Numbers number) at len b raw le h = tt
 counted_take (forms.Bytes width) at len b raw le h = tt
 counted_take (forms.Texts width) at len b raw le h = tt
 counted_take (forms.FixedBytes width) at len b raw le h = tt
@@ -146,7 +146,7 @@ counted_take forms.Structs at len b raw le h = tt
 pub counted_leaf : (form : Form) (len : ℕ) (b : List (List ℕ)) (raw : List PlainValue) → IsLeaf form → CountsItems form len b raw
 counted_leaf forms.Nulls len b raw leaf = tt
 counted_leaf forms.Bits len b raw leaf = tt
-counted_leaf (forms.Numbers bits signed) len b raw leaf = tt
+counted_leaf (forms.Numbers number) len b raw leaf = tt
 counted_leaf (forms.Bytes width) len b raw leaf = tt
 counted_leaf (forms.Texts width) len b raw leaf = tt
 counted_leaf (forms.FixedBytes width) len b raw leaf = tt
@@ -169,7 +169,7 @@ counted_grows width at old new raw v long before same end j h = elim (cases_lt j
 pub counted_none : (form : Form) (b : List (List ℕ)) → ((counts : List ℕ) → Keeps form 0 b counts) → CountsItems form 0 b []
 counted_none forms.Nulls b kept = tt
 counted_none forms.Bits b kept = tt
-counted_none (forms.Numbers bits signed) b kept = tt
+counted_none (forms.Numbers number) b kept = tt
 counted_none (forms.Bytes width) b kept = tt
 counted_none (forms.Texts width) b kept = tt
 counted_none (forms.FixedBytes width) b kept = tt

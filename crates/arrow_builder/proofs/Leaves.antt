@@ -2,10 +2,10 @@
 use Rattle.std.proofs.Common.{◌≡◌, ℕ, ℤ, Bool, List, refl, ap, sym, ◌∙◌, subst, Option, None, Some}
 use Rattle.std.specs.Prelude.{IfSome, option_map}
 use Rattle.arrow_types.specs.Field.{none}
-use Rattle.arrow_types.specs.declared.data_type.BitWidth.{BitWidth}
+use Rattle.arrow_data.specs.declared.form.NumberForm.{NumberForm}
 use Rattle.arrow_bits.specs.Numbers.{FitsInt}
 use Rattle.arrow_data.specs.Fits.{Fits}
-use Rattle.arrow_data.specs.Form.{number_width}
+use Rattle.arrow_data.specs.Form.{number_width, has_sign}
 use Rattle.arrow_data.specs.Layout.{buffer}
 use Rattle.arrow_data.specs.Parts.{value_slot}
 use Rattle.arrow_data.specs.PlainValue.{PlainValue, null_value, bool_value, int_value, binary_value, utf8_value, list_value, struct_value, int_in, binary_in, utf8_in}
@@ -16,15 +16,15 @@ use Rattle.arrow_data.specs.declared.form.OffsetWidth.{OffsetWidth}
 use Rattle.arrow_builder.specs.Puts.{PutsSlot, StaySlots, part_slot, value_or_null}
 
 -- a value that fits numbers is null or a number
-number_fits : (bits : BitWidth) (signed : Bool) (v : PlainValue) → Fits (forms.Numbers bits signed) none v
-    → (value_or_null int_value (int_in v) ≡ v) × IfSome (int_in v) (FitsInt (number_width bits) signed)
-number_fits bits signed null_value h = (refl, tt)
-number_fits bits signed (bool_value b) h = absurd (cc)
-number_fits bits signed (int_value z) h = (refl, h)
-number_fits bits signed (binary_value b) h = absurd h
-number_fits bits signed (utf8_value b) h = absurd h
-number_fits bits signed (list_value vs) h = absurd h.0
-number_fits bits signed (struct_value vs) h = let e = h.0 in absurd (cc)
+number_fits : (number : NumberForm) (v : PlainValue) → Fits (forms.Numbers number) none v
+    → (value_or_null int_value (int_in v) ≡ v) × IfSome (int_in v) (FitsInt (number_width number) (has_sign number))
+number_fits number null_value h = (refl, tt)
+number_fits number (bool_value b) h = absurd (cc)
+number_fits number (int_value z) h = (refl, h)
+number_fits number (binary_value b) h = absurd h
+number_fits number (utf8_value b) h = absurd h
+number_fits number (list_value vs) h = absurd h.0
+number_fits number (struct_value vs) h = let e = h.0 in absurd (cc)
 
 -- one that fits byte strings is null or a byte string
 binary_fits : (width : OffsetWidth) (v : PlainValue) → Fits (forms.Bytes width) none v → value_or_null binary_value (binary_in v) ≡ v
@@ -52,17 +52,18 @@ lent see value None = refl
 lent see value (Some a) = refl
 
 -- a number, or null
-pub number_leaf : (form : Form) (bits : BitWidth) (signed : Bool) (width : ℕ) (v : PlainValue) (number : Option ℤ) (at : ℕ) (b b' : List (List ℕ)) → form ≡ forms.Numbers bits signed
-    → width ≡ number_width bits → Fits form none v → number ≡ int_in v
-    → ((sign : Bool) → IfSome number (FitsInt width sign) → PutsSlot at (value_or_null int_value number) (int_slot width sign (buffer b 0) (buffer b 1)) (int_slot width sign (buffer b' 0) (buffer b' 1)))
+pub number_leaf : (form : Form) (number : NumberForm) (width : ℕ) (v : PlainValue) (found : Option ℤ) (at : ℕ) (b b' : List (List ℕ)) → form ≡ forms.Numbers number
+    → width ≡ number_width number → Fits form none v → found ≡ int_in v
+    → ((sign : Bool) → IfSome found (FitsInt width sign) → PutsSlot at (value_or_null int_value found) (int_slot width sign (buffer b 0) (buffer b 1)) (int_slot width sign (buffer b' 0) (buffer b' 1)))
     → (children : List (List PlainValue)) → PutsSlot at v (value_slot form b children) (value_slot form b' children)
-number_leaf form bits signed width v number at b b' is wide fits same put children =
-    let known = number_fits bits signed v (subst (λ f. Fits f none v) is fits) in
-    let held : IfSome number (FitsInt width signed) = subst (λ n. IfSome n (FitsInt width signed)) (sym same) (subst (λ w. IfSome (int_in v) (FitsInt w signed)) (sym wide) known.1) in
-    let value : value_or_null int_value number ≡ v = ap (value_or_null int_value) same ∙ known.0 in
-    let slot = subst (λ w. PutsSlot at (value_or_null int_value number) (int_slot w signed (buffer b 0) (buffer b 1)) (int_slot w signed (buffer b' 0) (buffer b' 1))) wide (put signed held) in
+number_leaf form number width v found at b b' is wide fits same put children =
+    let signed = has_sign number in
+    let known = number_fits number v (subst (λ f. Fits f none v) is fits) in
+    let held : IfSome found (FitsInt width signed) = subst (λ n. IfSome n (FitsInt width signed)) (sym same) (subst (λ w. IfSome (int_in v) (FitsInt w signed)) (sym wide) known.1) in
+    let value : value_or_null int_value found ≡ v = ap (value_or_null int_value) same ∙ known.0 in
+    let slot = subst (λ w. PutsSlot at (value_or_null int_value found) (int_slot w signed (buffer b 0) (buffer b 1)) (int_slot w signed (buffer b' 0) (buffer b' 1))) wide (put signed held) in
     subst (λ f. PutsSlot at v (value_slot f b children) (value_slot f b' children)) (sym is)
-    (subst (λ x. PutsSlot at x (int_slot (number_width bits) signed (buffer b 0) (buffer b 1)) (int_slot (number_width bits) signed (buffer b' 0) (buffer b' 1))) value slot)
+    (subst (λ x. PutsSlot at x (int_slot (number_width number) signed (buffer b 0) (buffer b 1)) (int_slot (number_width number) signed (buffer b' 0) (buffer b' 1))) value slot)
 
 -- a byte string, or null
 pub binary_leaf : {A : Type 0} (see : A → List ℕ) (form : Form) (width : OffsetWidth) (v : PlainValue) (part : Option A) (at : ℕ) (b b' : List (List ℕ)) → form ≡ forms.Bytes width

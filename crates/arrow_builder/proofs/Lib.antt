@@ -14,6 +14,5 @@ pub mod NodeSlots
 pub mod OneBit
 pub mod Putting
 pub mod Ranging
-pub mod Storing
 pub mod Typing
 pub mod Within

@@ -87,7 +87,7 @@ node_grows a b value few ok fits kept below puts held counted =
 pub leaf_keeps : (form : Form) (len : ℕ) (b : List (List ℕ)) (counts others : List ℕ) → IsLeaf form → Keeps form len b counts → Keeps form len b others
 leaf_keeps forms.Nulls len b counts others leaf kept = kept
 leaf_keeps forms.Bits len b counts others leaf kept = kept
-leaf_keeps (forms.Numbers bits signed) len b counts others leaf kept = kept
+leaf_keeps (forms.Numbers number) len b counts others leaf kept = kept
 leaf_keeps (forms.Bytes width) len b counts others leaf kept = kept
 leaf_keeps (forms.Texts width) len b counts others leaf kept = kept
 leaf_keeps (forms.FixedBytes width) len b counts others leaf kept = kept

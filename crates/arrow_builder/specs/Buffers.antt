@@ -12,7 +12,7 @@ buffers_in b = b.validity.items ∷ b.values.items ∷ b.bytes.items ∷ []
 abbrev pub IsLeaf : Form → Type 0
 IsLeaf forms.Nulls = ⊤
 IsLeaf forms.Bits = ⊤
-IsLeaf (forms.Numbers bits signed) = ⊤
+IsLeaf (forms.Numbers number) = ⊤
 IsLeaf (forms.Bytes width) = ⊤
 IsLeaf (forms.Texts width) = ⊤
 IsLeaf (forms.FixedBytes width) = ⊤

@@ -21,7 +21,7 @@ all_items (value ∷ values) = list_of_values (items_of value) ++ all_items valu
 abbrev pub child_column : Form → ℕ → List PlainValue → List PlainValue
 child_column forms.Nulls k raw = []
 child_column forms.Bits k raw = []
-child_column (forms.Numbers bits signed) k raw = []
+child_column (forms.Numbers number) k raw = []
 child_column (forms.Bytes width) k raw = []
 child_column (forms.Texts width) k raw = []
 child_column (forms.FixedBytes width) k raw = []
@@ -33,7 +33,7 @@ child_column forms.Structs k raw = map (field_value k) raw
 abbrev pub item_offsets : Form → List PlainValue → List ℕ
 item_offsets forms.Nulls raw = []
 item_offsets forms.Bits raw = []
-item_offsets (forms.Numbers bits signed) raw = []
+item_offsets (forms.Numbers number) raw = []
 item_offsets (forms.Bytes width) raw = []
 item_offsets (forms.Texts width) raw = []
 item_offsets (forms.FixedBytes width) raw = []

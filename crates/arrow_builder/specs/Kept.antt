@@ -48,7 +48,7 @@ pub record KeepsStructs (len : ℕ) (validity counts : List ℕ) : Type 0 where
 abbrev pub Keeps : Form → ℕ → List (List ℕ) → List ℕ → Type 0
 Keeps forms.Nulls len b counts = ⊤
 Keeps forms.Bits len b counts = KeepsBools len (buffer b 0) (buffer b 1)
-Keeps (forms.Numbers bits signed) len b counts = KeepsFixed len (number_width bits) (buffer b 0) (buffer b 1)
+Keeps (forms.Numbers number) len b counts = KeepsFixed len (number_width number) (buffer b 0) (buffer b 1)
 Keeps (forms.Bytes width) len b counts = KeepsParts width len (length (buffer b 2)) (buffer b 0) (buffer b 1)
 Keeps (forms.Texts width) len b counts = KeepsParts width len (length (buffer b 2)) (buffer b 0) (buffer b 1)
 Keeps (forms.FixedBytes width) len b counts = KeepsFixed len width (buffer b 0) (buffer b 1)
@@ -59,7 +59,7 @@ Keeps forms.Structs len b counts = KeepsStructs len (buffer b 0) counts
 abbrev pub CountsItems : Form → ℕ → List (List ℕ) → List PlainValue → Type 0
 CountsItems forms.Nulls len b raw = ⊤
 CountsItems forms.Bits len b raw = ⊤
-CountsItems (forms.Numbers bits signed) len b raw = ⊤
+CountsItems (forms.Numbers number) len b raw = ⊤
 CountsItems (forms.Bytes width) len b raw = ⊤
 CountsItems (forms.Texts width) len b raw = ⊤
 CountsItems (forms.FixedBytes width) len b raw = ⊤

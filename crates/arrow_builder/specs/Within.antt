@@ -27,7 +27,7 @@ value_bytes (struct_value parts) = 0
 abbrev pub slot_bytes : Form → PlainValue → ℕ
 slot_bytes forms.Nulls value = 0
 slot_bytes forms.Bits value = 0
-slot_bytes (forms.Numbers bits signed) value = 0
+slot_bytes (forms.Numbers number) value = 0
 slot_bytes (forms.Bytes width) value = value_bytes value
 slot_bytes (forms.Texts width) value = value_bytes value
 slot_bytes (forms.FixedBytes width) value = width
@@ -48,7 +48,7 @@ most_behind Large = 2 ^ 40
 abbrev pub most_bytes : Form → ℕ
 most_bytes forms.Nulls = 0
 most_bytes forms.Bits = 0
-most_bytes (forms.Numbers bits signed) = 0
+most_bytes (forms.Numbers number) = 0
 most_bytes (forms.Bytes width) = most_behind width
 most_bytes (forms.Texts width) = most_behind width
 most_bytes (forms.FixedBytes width) = 2 ^ 40

@@ -2,7 +2,7 @@
 
 ghost use Rattle.std.specs.Prelude.{◌↔◌, IsTrue};
 ghost use Rattle.arrow_data.specs.Fits.{HoldsBinary, HoldsInt, HoldsUtf8, ItemsFit, PartsFit};
-ghost use Rattle.arrow_data.specs.Form.{number_width};
+ghost use Rattle.arrow_data.specs.Form.{int_width};
 ghost use Rattle.arrow_data.specs.PlainValue.{values_of};
 ghost use Rattle.arrow_data.specs.Value.{value_view, values_view};
 ghost use Rattle.arrow_bits.specs.Numbers.{FitsInt};
@@ -11,7 +11,7 @@ ghost use Rattle.arrow_types.specs.View.{field_view, fields_view};
 ghost use Rattle.std.specs.String.{string_bytes};
 
 use arrow_data::Value;
-use arrow_data::form::{Form, node_form};
+use arrow_data::form::{Form, NumberForm, node_form};
 use arrow_types::{BitWidth, Field};
 
 /// Whether the value may stand in a slot of the field's column.
@@ -72,15 +72,17 @@ fn parts_fit(parts: &[Value], fields: &[Field]) -> bool
 fn holds_int(form: Form, number: i128) -> bool
     ensures { IsTrue result ↔ HoldsInt form number }
 {
-    let Form::Numbers { bits, signed } = form else {
-        return false;
-    };
-    is_in_range(bits, signed, number)
+    match form {
+        Form::Numbers(NumberForm::Int { bits, signed }) => is_in_range(bits, signed, number),
+        // every number of the program
+        Form::Numbers(NumberForm::Int128) => true,
+        _ => false,
+    }
 }
 
 // Whether the number lies in the range of the width and the sign.
 fn is_in_range(bits: BitWidth, signed: bool, number: i128) -> bool
-    ensures { IsTrue result ↔ FitsInt (number_width bits) signed number }
+    ensures { IsTrue result ↔ FitsInt (int_width bits) signed number }
 {
     match (bits, signed) {
         (BitWidth::Eight, true) => i8::try_from(number).is_ok(),

@@ -7,7 +7,7 @@ ghost use Rattle.arrow_builder.specs.Built.{HaveSlots, cut_to};
 ghost use Rattle.arrow_builder.specs.Finished.{AreIndexed, IsIndexed};
 
 use crate::node::Node;
-use arrow_data::form::number_width;
+use arrow_data::form::int_width;
 use arrow_data::layout::are_indices;
 use arrow_data::{Listed, NumberBuffers};
 use arrow_types::Encoding;
@@ -50,7 +50,7 @@ fn is_indexed(node: &Node, len: usize, dictionaries: Listed<'_>) -> bool
     are_indices(
         len,
         NumberBuffers {
-            width: number_width(encoding.index.bits),
+            width: int_width(encoding.index.bits),
             signed: encoding.index.signed,
             validity: &node.buffers.validity,
             values: &node.buffers.values,

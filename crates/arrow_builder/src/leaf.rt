@@ -12,7 +12,7 @@ ghost use Rattle.arrow_types.specs.Field.{none};
 
 use crate::slots::{Buffers, put_bool, put_bytes, put_fixed, put_number};
 use arrow_data::Value;
-use arrow_data::form::{Form, number_width};
+use arrow_data::form::Form;
 use std::alloc::AllocError;
 
 // The truth value, if it is one.
@@ -79,9 +79,7 @@ pub(crate) fn put_leaf(
         // Nulls have no buffers, and lists and structs are no leaves.
         Form::Nulls | Form::Lists(_) | Form::Structs => Ok(()),
         Form::Bits => put_bool(buffers, at, truth_in(value)),
-        Form::Numbers { bits, .. } => {
-            put_number(buffers, number_width(bits), at, number_in(value))
-        }
+        Form::Numbers(form) => put_number(buffers, form.width(), at, number_in(value)),
         Form::FixedBytes(width) => put_fixed(buffers, width as usize, at, binary_in(value)),
         Form::Bytes(width) => put_bytes(buffers, width, at, binary_in(value)),
         Form::Texts(width) => put_bytes(buffers, width, at, text_in(value)),

@@ -6,7 +6,7 @@
 ghost use Rattle.std.specs.Prelude.{◌≡◌, ◌+◌, ◌++◌, IfSome, OnErr, OnOk, Bool, length, take};
 ghost use Rattle.arrow_data.specs.PlainValue.{binary_value, bool_value, int_value};
 ghost use Rattle.arrow_data.specs.Slots.{bool_slot, fixed_slot, int_slot};
-ghost use Rattle.arrow_bits.specs.Numbers.{FitsInt, FitsWidth, IsWidth};
+ghost use Rattle.arrow_bits.specs.Numbers.{FitsInt, FitsWidth, IsAnyWidth};
 ghost use Rattle.std.specs.Prelude.{◌*◌, ◌≤◌, ◌<◌, ◌↔◌, ℕ, IsTrue, List};
 ghost use Rattle.arrow_data.specs.Form.{offset_bytes};
 ghost use Rattle.arrow_data.specs.PlainValue.{PlainValue};
@@ -60,7 +60,7 @@ pub(crate) fn put_number(
     at: usize,
     number: Option<i128>,
 ) -> Result<(), AllocError>
-    requires width { IsWidth width }
+    requires width { IsAnyWidth width }
     requires fits { IfSome number (FitsWidth width) }
     requires kept { KeepsFixed at width buffers.old.validity.items buffers.old.values.items }
     ensures kept { OnOk result
@@ -82,7 +82,7 @@ pub(crate) fn put_number(
 
 // The number that is stored in the slot of a number or of null.
 fn stored_number(width: usize, number: Option<i128>) -> i128
-    requires width { IsWidth width }
+    requires width { IsAnyWidth width }
     requires fits { IfSome number (FitsWidth width) }
     ensures same { IfSome number (λ z. result ≡ z) }
     ensures fits { FitsWidth width result }

@@ -2,6 +2,7 @@
 
 mod arrays;
 mod building;
+mod decimals;
 mod greatest;
 mod lengths;
 mod limits;

@@ -3,6 +3,9 @@ pub mod Written
 mod Chunked
 mod Digits
 mod Numerals
+mod LastDigits
+mod DecimalTexts
+mod WideNumbers
 mod UnitTexts
 mod FloatTexts
 mod Making

@@ -16,6 +16,7 @@ use Rattle.arrow_data.specs.PlainValue.{PlainValue, PlainValues, null_value, boo
 use Rattle.arrow_data.specs.Floats.{bits_in, number_of}
 use Rattle.arrow_csv.specs.Floats.{IsFloatText, IsNumberText, text_format}
 use Rattle.arrow_csv.proofs.FloatTexts.{bits_fit, float_text, half_fits}
+use Rattle.arrow_csv.specs.Decimals.{decimal_text}
 use Rattle.arrow_csv.specs.Intervals.{bytes_text, months_text}
 use Rattle.arrow_csv.specs.Records.{AreBatchRows, AreColumnTexts, AreRows, record_of, rows_text}
 use Rattle.arrow_csv.specs.Texts.{AreItemTexts, ArePartTexts, Each, IsText, joined}
@@ -68,6 +69,7 @@ some_float precision bits = float_text (text_format precision) (number_of precis
 -- each number has
 some_number : (tag : Tag) (z : ℤ) → (text : List ℕ) × IsNumberText tag z text
 some_number (tags.floating_point precision) z = some_float precision (bits_in z)
+some_number (tags.decimal _ _ scale) z = (decimal_text scale z, refl)
 some_number (tags.interval _) z = (months_text z, refl)
 some_number _ z = (signed_decimal z, refl)
 

@@ -1,5 +1,5 @@
--- The texts of numbers: of whole numbers in decimal, of floating-point numbers whatever reads back as the same number. An
--- interval that is a number has so many months.
+-- The texts of numbers: of whole numbers in decimal, of floating-point numbers whatever reads back as the same number. A
+-- decimal that is a number is scaled, an interval that is one has so many months.
 use Rattle.std.specs.Prelude.{ℕ, ℤ, List, ◌≡◌, Some}
 use Rattle.std.specs.Float.{Format, binary32, binary64}
 use Rattle.std.specs.Float.Parse.{parse_float}
@@ -9,6 +9,7 @@ use Rattle.arrow_types.specs.DataType as tags
 use Rattle.arrow_types.specs.declared.data_type.Precision.{Precision}
 use Rattle.arrow_types.specs.declared.data_type.Precision.TheVariants.{Half, Single, Double}
 use Rattle.arrow_data.specs.Floats.{bits_in, number_of}
+use Rattle.arrow_csv.specs.Decimals.{decimal_text}
 use Rattle.arrow_csv.specs.Intervals.{months_text}
 
 -- the format in which a text is read back: a number of 16 bits shows as the one of 32 bits that it equals
@@ -24,5 +25,6 @@ IsFloatText precision bits text = parse_float (text_format precision) text ≡ S
 -- a text of the number that a value of this type is
 abbrev pub IsNumberText : Tag → ℤ → List ℕ → Type 0
 IsNumberText (tags.floating_point precision) z text = IsFloatText precision (bits_in z) text
+IsNumberText (tags.decimal _ _ scale) z text = text ≡ decimal_text scale z
 IsNumberText (tags.interval _) z text = text ≡ months_text z
 IsNumberText _ z text = text ≡ signed_decimal z

@@ -1,3 +1,5 @@
+pub mod Decimals
+pub mod Wide
 pub mod Intervals
 pub mod Texts
 pub mod Floats

@@ -1,5 +1,5 @@
 //! The texts of numbers by the type of the value: floating-point numbers are given by their bits,
-//! some intervals by their months.
+//! decimals by whole numbers, some intervals by their months.
 
 ghost use Rattle.std.specs.Prelude.{◌≡◌, OnOk, Some};
 ghost use Rattle.ryu.specs.Parse.{parse_float};
@@ -7,6 +7,7 @@ ghost use Rattle.arrow_types.specs.View.{type_view};
 ghost use Rattle.arrow_csv.specs.Floats.{IsFloatText, IsNumberText};
 ghost use Rattle.arrow_csv.specs.Texts.{Appends, IsPlain};
 
+use crate::decimals::push_decimal;
 use crate::intervals::push_months;
 use crate::texts::push_number;
 use arrow_data::floats::bits_in;
@@ -28,6 +29,7 @@ pub(crate) fn push_int(
 {
     match data_type {
         DataType::FloatingPoint(precision) => push_float(out, *precision, bits_in(number)),
+        DataType::Decimal { scale, .. } => push_decimal(out, *scale, number),
         DataType::Interval(_) => push_months(out, number),
         _ => push_number(out, number),
     }

@@ -6,9 +6,9 @@ ghost use Rattle.arrow_types.specs.View.{type_view};
 ghost use Rattle.arrow_csv.specs.Intervals.{bytes_text, counted, interval_text, months_text};
 ghost use Rattle.arrow_csv.specs.Texts.{Appends, IsPlain};
 
+use crate::decimals::push_wide_decimal;
 use crate::texts::{push_bytes, push_number};
-use arrow_data::Interval;
-use arrow_data::intervals::of_bytes;
+use arrow_data::{Interval, decimals, intervals};
 use arrow_types::DataType;
 use std::alloc::AllocError;
 
@@ -24,7 +24,11 @@ pub(crate) fn push_binary(
         out.old.items out.new.items) }
 {
     match data_type {
-        DataType::Interval(unit) => match of_bytes(*unit, bytes) {
+        DataType::Decimal { scale, .. } => match decimals::of_bytes(*scale, bytes) {
+            Some(decimal) => push_wide_decimal(out, decimal),
+            None => push_bytes(out, bytes),
+        },
+        DataType::Interval(unit) => match intervals::of_bytes(*unit, bytes) {
             Some(interval) => push_interval(out, interval),
             None => push_bytes(out, bytes),
         },

@@ -12,7 +12,9 @@
 //! where a floating-point number is in it, which shows as a text that reads back as the same number.
 //! The one that is written is short: `1.5`, `-0.0`, `1e300`, `inf` and `NaN`, by the crate `ryu`. A
 //! number of 16 bits shows as the number of 32 bits that it equals. No number calls for quotes. An
-//! interval shows as its numbers with their units: `14M`, `2d500ms` or `1M2d3ns`.
+//! decimal shows as the digits of its whole number with a point (`-0.50`), with as many zeros after
+//! it as it has places, or, if the scale is below 0, with the exponent (`12e3`). An interval shows as
+//! its numbers with their units: `14M`, `2d500ms` or `1M2d3ns`.
 //!
 //! [`header`], [`rows`] and [`BatchRows::push`] give records of such texts for every schema and every
 //! batch. The standard gives no such text; this one is the project's own, and it is not claimed that
@@ -26,6 +28,7 @@
 //! |---|---|
 //! | a text of a value | `specs/Texts.antt`: `IsText` |
 //! | a text of a number | `specs/Floats.antt`: `IsNumberText`, `IsFloatText` |
+//! | the text of a decimal | `specs/Decimals.antt`: `decimal_text` |
 //! | the text of bytes, of an interval | `specs/Intervals.antt`: `bytes_text`, `interval_text` |
 //! | texts of a row, the record of a schema | `specs/Records.antt`: `AreColumnTexts`, `header_record` |
 //! | records of a batch, of a stream | `specs/Records.antt`: `AreBatchRows`, `IsStreamText` |
@@ -36,12 +39,14 @@
 
 mod chunks;
 mod column_text;
+mod decimals;
 mod fields;
 mod floats;
 mod intervals;
 mod named;
 mod records;
 mod texts;
+mod wide;
 
 pub use named::lacking;
 pub use records::{BatchRows, header, header_of, rows};

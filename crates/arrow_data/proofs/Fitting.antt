@@ -3,7 +3,7 @@ use Rattle.std.proofs.Common.{◌≡◌, ◌≤◌, ◌<◌, ◌+◌, ◌-◌, �
 use Rattle.std.proofs.lemmas.List.{get_or-drop}
 use Rattle.std.specs.List.{AllByRecursion, range_with_len}
 use Rattle.std.specs.Prelude.{slice_range, IsUtf8}
-use Rattle.arrow_bits.specs.Numbers.{FitsInt, IsWidth, int_of}
+use Rattle.arrow_bits.specs.Numbers.{FitsInt, IsIntWidth, int_of}
 use Rattle.arrow_bits.proofs.Ranged.{int_fits}
 use Rattle.arrow_bits.proofs.Reading.{bytes_take}
 use Rattle.arrow_types.specs.Field.{Fields, Head, none, more, TypeShape}
@@ -42,22 +42,23 @@ pub part_small : (body : List ℕ) (r : ByteRange) → AreBytes body → (i : �
 part_small body r small i = bytes_take (r.end - r.start) (drop r.start body) (λ k. rw (get_or-drop r.start body k 0) (small (r.start + k))) i
 
 -- a width has one byte at least
-pub some_bytes : (width : ℕ) → IsWidth width → 1 ≤ width
-some_bytes width (inl one) = omega (arith, one)
-some_bytes width (inr (inl two)) = omega (arith, two)
-some_bytes width (inr (inr (inl four))) = omega (arith, four)
-some_bytes width (inr (inr (inr eight))) = omega (arith, eight)
+pub some_bytes : (width : ℕ) (signed : Bool) → IsIntWidth width signed → 1 ≤ width
+some_bytes width signed (inl (inl one)) = omega (arith, one)
+some_bytes width signed (inl (inr (inl two))) = omega (arith, two)
+some_bytes width signed (inl (inr (inr (inl four)))) = omega (arith, four)
+some_bytes width signed (inl (inr (inr (inr eight)))) = omega (arith, eight)
+some_bytes width signed (inr sixteen) = omega (arith, sixteen.0)
 
 -- the number of a slot fits the form of its width and sign
 int_fits_form : (form : Form) (len : ℕ) (body : List ℕ) (n : Ints) (j : ℕ) → AreBytes body → IsFormat form n → AreInts len body n → j < len
     → HoldsInt form (int_of (bytes_of body n.values) (n.width * j) n.width n.signed)
 int_fits_form forms.Nulls len body n j small format ints l = absurd format
 int_fits_form forms.Bits len body n j small format ints l = absurd format
-int_fits_form (forms.Numbers bits signed) len body n j small format ints l =
+int_fits_form (forms.Numbers number) len body n j small format ints l =
     let inside = slot_inside n.width j len (length (bytes_of body n.values)) l ints.laid.long in
-    let own = int_fits n.width (n.width * j) n.signed (bytes_of body n.values) (some_bytes n.width ints.whole) (part_small body n.values small) inside in
+    let own = int_fits n.width (n.width * j) n.signed (bytes_of body n.values) (some_bytes n.width n.signed ints.whole) (part_small body n.values small) inside in
     let z = int_of (bytes_of body n.values) (n.width * j) n.width n.signed in
-    subst (λ s. FitsInt (number_width bits) s z) format.1 (subst (λ w. FitsInt w n.signed z) format.0 own)
+    subst (λ s. FitsInt (number_width number) s z) format.1 (subst (λ w. FitsInt w n.signed z) format.0 own)
 int_fits_form (forms.Bytes w) len body n j small format ints l = absurd format
 int_fits_form (forms.Texts w) len body n j small format ints l = absurd format
 int_fits_form (forms.FixedBytes w) len body n j small format ints l = absurd format

@@ -170,7 +170,7 @@ part_is w j bytes =
 format_width : (form : Form) (n : Ints) → IsFormat form n → width_in form ≡ n.width
 format_width forms.Nulls n format = absurd format
 format_width forms.Bits n format = absurd format
-format_width (forms.Numbers bits signed) n format = sym format.0
+format_width (forms.Numbers number) n format = sym format.0
 format_width (forms.Bytes w) n format = absurd format
 format_width (forms.Texts w) n format = absurd format
 format_width (forms.FixedBytes w) n format = absurd format
@@ -188,7 +188,7 @@ ints_part form c len body n start stop raw long format ints small order inside f
     let part = part_is n.width j values in (
       part.0,
       ap (value_bytes form) shown ∙ ap (λ w. int_bytes w (int_of values (n.width * j) n.width n.signed)) (format_width form n format)
-          ∙ int_again_at n.width n.signed values (n.width * j) (some_bytes n.width ints.whole) (part_small body n.values small) (slot_inside n.width j len (length values) here ints.laid.long) ∙ part.1,
+          ∙ int_again_at n.width n.signed values (n.width * j) (some_bytes n.width n.signed ints.whole) (part_small body n.values small) (slot_inside n.width j len (length values) here ints.laid.long) ∙ part.1,
     ))
 
 -- the bytes of byte strings of one width

@@ -20,6 +20,8 @@ pub mod Indices
 pub mod Listing
 pub mod Ids
 pub mod Lists
+mod LowBits
+mod ReadBack
 mod SignedNumbers
 mod Blocks
 mod OnlyChild

@@ -59,7 +59,7 @@ leaf_listed form leaf fields has is none_of = sym (ap dictionary_fields (none_of
 pub number_listed : (form : Form) (n : Ints) (fields : Fields) → IsFormat form n → HasFieldsOf form fields → [] ≡ dictionary_fields fields
 number_listed forms.Nulls n fields format has = absurd format
 number_listed forms.Bits n fields format has = absurd format
-number_listed (forms.Numbers bits signed) n fields format has = sym (ap dictionary_fields has)
+number_listed (forms.Numbers number) n fields format has = sym (ap dictionary_fields has)
 number_listed (forms.Bytes w) n fields format has = absurd format
 number_listed (forms.Texts w) n fields format has = absurd format
 number_listed (forms.FixedBytes w) n fields format has = absurd format

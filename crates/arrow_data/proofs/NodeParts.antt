@@ -1,5 +1,5 @@
 -- The ranges of a node stand for its buffers.
-use Rattle.std.proofs.Common.{◌≡◌, ◌≤◌, ◌<◌, ℕ, List, [], ◌∷◌, ◌++◌, length, map, Some, None, refl, sym, ap, ◌∙◌, subst, arith, Bool}
+use Rattle.std.proofs.Common.{◌≡◌, ◌≤◌, ◌<◌, ℕ, List, [], ◌∷◌, ◌++◌, length, map, Some, None, refl, sym, ap, ◌∙◌, subst, arith}
 use Rattle.std.proofs.lemmas.List.{append-nil, get_or-map}
 use Rattle.std.proofs.lemmas.List.Elements.{All-from_recursion}
 use Rattle.std.specs.Global.{Box}
@@ -9,7 +9,7 @@ use Rattle.std.specs.declared.alloc.Global.{Global}
 use Rattle.std.specs.declared.vec.Vec.{Vec}
 use Rattle.arrow_bits.specs.Offsets.{plain_list}
 use Rattle.arrow_types.specs.Field.{Fields, none, more, TypeShape}
-use Rattle.arrow_types.specs.declared.data_type.BitWidth.{BitWidth}
+use Rattle.arrow_data.specs.declared.form.NumberForm.{NumberForm}
 use Rattle.arrow_types.specs.declared.field.Encoding.{Encoding}
 use Rattle.arrow_data.specs.Column.{Column, AreOf, IsColumn, counts_of, listed_of, plain_column, slots_of}
 use Rattle.arrow_data.specs.Form.{HasFieldsOf, IsLeaf, IsOneField, form_of, node_form, offset_bytes}
@@ -40,7 +40,7 @@ inside_read body bs k d all h = All-from_recursion (IsInside body) bs all k d h
 pub leaf_bare : (form : Form) (fields : Fields) → IsLeaf form → HasFieldsOf form fields → fields ≡ none
 leaf_bare forms.Nulls fields leaf own = own
 leaf_bare forms.Bits fields leaf own = own
-leaf_bare (forms.Numbers bits signed) fields leaf own = own
+leaf_bare (forms.Numbers number) fields leaf own = own
 leaf_bare (forms.Bytes width) fields leaf own = own
 leaf_bare (forms.Texts width) fields leaf own = own
 leaf_bare (forms.FixedBytes width) fields leaf own = own
@@ -51,7 +51,7 @@ leaf_bare forms.Structs fields leaf own = absurd leaf
 pub leaf_laid : (form : Form) (len : ℕ) (b : List (List ℕ)) (counts others : List ℕ) → IsLeaf form → HoldsSlots form len b counts → HoldsSlots form len b others
 leaf_laid forms.Nulls len b counts others leaf laid = laid
 leaf_laid forms.Bits len b counts others leaf laid = laid
-leaf_laid (forms.Numbers bits signed) len b counts others leaf laid = laid
+leaf_laid (forms.Numbers number) len b counts others leaf laid = laid
 leaf_laid (forms.Bytes width) len b counts others leaf laid = laid
 leaf_laid (forms.Texts width) len b counts others leaf laid = laid
 leaf_laid (forms.FixedBytes width) len b counts others leaf laid = laid
@@ -210,11 +210,11 @@ module _ (body : List ℕ) (bs : List ByteRange) (v w : ByteRange) (two : 2 ≤ 
       λ i. slot (one i) (other i)
 
 -- a node of numbers
-pub number_same : (t : TypeShape) (len : ℕ) (body : List ℕ) (bs : List ByteRange) (cs : List Column) (n : Ints) (bits : BitWidth) (signed : Bool) → form_of t.tag ≡ forms.Numbers bits signed → t.children ≡ none → AreOf t.children cs → 2 ≤ length bs
-    → IsFormat (forms.Numbers bits signed) n → n.validity ≡ slice_index_or bs 0 n.validity → n.values ≡ slice_index_or bs 1 n.values
+pub number_same : (t : TypeShape) (len : ℕ) (body : List ℕ) (bs : List ByteRange) (cs : List Column) (n : Ints) (number : NumberForm) → form_of t.tag ≡ forms.Numbers number → t.children ≡ none → AreOf t.children cs → 2 ≤ length bs
+    → IsFormat (forms.Numbers number) n → n.validity ≡ slice_index_or bs 0 n.validity → n.values ≡ slice_index_or bs 1 n.values
     → column_by t None len body (ranges.Ints n) ≡ node_column t None len (map (bytes_of body) bs) cs []
-number_same t len body bs cs n bits signed form leaf typed two format v w =
-    leaf_same t (forms.Numbers bits signed) len (map (bytes_of body) bs) cs (int_slot n.width n.signed (bytes_of body n.validity) (bytes_of body n.values)) form leaf typed refl
+number_same t len body bs cs n number form leaf typed two format v w =
+    leaf_same t (forms.Numbers number) len (map (bytes_of body) bs) cs (int_slot n.width n.signed (bytes_of body n.validity) (bytes_of body n.values)) form leaf typed refl
     (λ children. pair_same body bs n.validity n.values two v w (int_slot n.width n.signed) ∙ (λ i. int_slot (format.0 i) (format.1 i) (buffer (map (bytes_of body) bs) 0) (buffer (map (bytes_of body) bs) 1)))
 
 -- a node of indices

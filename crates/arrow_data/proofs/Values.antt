@@ -1,11 +1,15 @@
 -- When two values of items are the same.
-use Rattle.std.proofs.Common.{rules, ◌≡◌, ◌↔◌, Bool, IsTrue, ap, sym, ◌∙◌}
+use Rattle.std.proofs.Common.{rules, ◌≡◌, ◌↔◌, ℕ, Bool, IsTrue, ap, sym, ◌∙◌}
 use Rattle.std.specs.declared.alloc.Global.{Global}
 use Rattle.std.specs.declared.vec.Vec.{Vec}
-use Rattle.arrow_data.specs.PlainValue.{list_value, struct_value, values_of}
+use Rattle.arrow_data.specs.PlainValue.{binary_value, list_value, struct_value, values_of}
 use Rattle.arrow_data.specs.Value.{value_view, values_view}
-use Rattle.arrow_data.specs.declared.value.Value.{Value, List as lists, Struct as structs, the_lemmas}
+use Rattle.arrow_data.specs.declared.value.Value.{Value, Bytes as byte_strings, List as lists, Struct as structs, the_lemmas}
 use Rattle.arrow_data.proofs.Sameness.{values_same}
+
+-- what a byte string says
+pub bytes_view : (v : Vec ℕ Global) → value_view (byte_strings v) ≡ binary_value v.items
+bytes_view v = search (rules, the_lemmas)
 
 -- what a list of values says
 list_view : (v : Vec Value Global) → value_view (lists v) ≡ list_value (values_of (values_view v.items))

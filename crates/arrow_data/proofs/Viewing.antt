@@ -1,13 +1,13 @@
 -- The buffers of an array are those of its column.
 use Rattle.std.proofs.Common.{◌≡◌, ◌<◌, ◌*◌, ℕ, ℤ, pos, negsuc, nat_abs, Bool, true, false, List, [], ◌∷◌, length, Option, None, Some, IsTrue, is_some, if◌then◌else◌, refl, ap, sym, ◌∙◌, subst, arith}
 use Rattle.std.specs.Global.{Box, Vec}
-use Rattle.arrow_bits.specs.Numbers.{IsWidth, int_of}
+use Rattle.arrow_bits.specs.Numbers.{IsIntWidth, int_of}
 use Rattle.arrow_types.specs.Field.{TypeShape}
-use Rattle.arrow_types.specs.declared.data_type.BitWidth.{BitWidth}
+use Rattle.arrow_data.specs.declared.form.NumberForm.{NumberForm}
 use Rattle.arrow_types.specs.declared.field.Encoding.{Encoding}
 use Rattle.arrow_types.specs.View.{type_view}
 use Rattle.arrow_data.specs.Column.{Column, HasDictionary, HasEntry, HasFields, HasValue, ValueList}
-use Rattle.arrow_data.specs.Form.{form_of, node_form, number_width}
+use Rattle.arrow_data.specs.Form.{form_of, node_form}
 use Rattle.arrow_data.specs.Node.{AreEntriesBy, AreInts, AreRanges, IsArray, IsFormat, below_of, bytes_of, column_by, column_of, dictionaries_of, int_at, offsets_in, raw_slot, resolved_slot}
 use Rattle.arrow_data.specs.PlainValue.{PlainValue, int_in, int_value, is_null_value, null_value, value_at}
 use Rattle.arrow_data.specs.Slots.{AreIndices, IsIndex, entry_at, is_valid_at}
@@ -51,10 +51,10 @@ own_form : (t : TypeShape) (e : Option Encoding) (form : Form) → e ≡ None �
 own_form t e form none is = (none, ap (node_form t.tag) none ∙ is)
 
 -- the width and the sign of a column's numbers are those of its form
-of_numbers : (form : Form) (n : Ints) → IsFormat form n → (bits : BitWidth) × (form ≡ forms.Numbers bits n.signed) × (n.width ≡ number_width bits)
+of_numbers : (form : Form) (n : Ints) → IsFormat form n → (number : NumberForm) × (form ≡ forms.Numbers number) × IsFormat (forms.Numbers number) n
 of_numbers forms.Nulls n h = absurd h
 of_numbers forms.Bits n h = absurd h
-of_numbers (forms.Numbers bits signed) n h = (bits, ap (forms.Numbers bits) (sym h.1), h.0)
+of_numbers (forms.Numbers number) n h = (number, refl, h)
 of_numbers (forms.Bytes width) n h = absurd h
 of_numbers (forms.Texts width) n h = absurd h
 of_numbers (forms.FixedBytes width) n h = absurd h
@@ -62,10 +62,10 @@ of_numbers (forms.Lists width) n h = absurd h
 of_numbers forms.Structs n h = absurd h
 
 -- the column's numbers are of the width and the sign of its form
-numbers_held : (c : Column) (n : Ints) → IsFormat (node_form c.data_type.tag c.encoding) n → IsWidth n.width → IsOfNumbers c n.width n.signed
+numbers_held : (c : Column) (n : Ints) → IsFormat (node_form c.data_type.tag c.encoding) n → IsIntWidth n.width n.signed → IsOfNumbers c n.width n.signed
 numbers_held c n format whole =
     let of = of_numbers (node_form c.data_type.tag c.encoding) n format in
-    record { bits = of.0; form = of.1; bytes = of.2; whole = whole }
+    record { number = of.0; form = of.1; bytes = of.2.0; sign = of.2.1; whole = whole }
 
 -- no value at all
 pub nulls_held : (a : Inside) (c : Column) → column_of a ≡ c → IsArray a → a.ranges ≡ ranges.Nulls → HoldNulls c

@@ -164,7 +164,7 @@ type_of_field (more head children rest) (suc k) = type_of_field rest k
 abbrev pub struct_fields_of : Form → Fields → Fields
 struct_fields_of forms.Nulls children = none
 struct_fields_of forms.Bits children = none
-struct_fields_of (forms.Numbers bits signed) children = none
+struct_fields_of (forms.Numbers number) children = none
 struct_fields_of (forms.Bytes width) children = none
 struct_fields_of (forms.Texts width) children = none
 struct_fields_of (forms.FixedBytes width) children = none

@@ -4,7 +4,7 @@ use Rattle.std.specs.List.{AllByRecursion}
 use Rattle.arrow_bits.specs.Numbers.{FitsInt}
 use Rattle.arrow_types.specs.Field.{Fields, Head, none, more, TypeShape}
 use Rattle.arrow_types.specs.declared.field.Encoding.{Encoding}
-use Rattle.arrow_data.specs.Form.{IsLists, node_form, number_width}
+use Rattle.arrow_data.specs.Form.{IsLists, node_form, number_width, has_sign}
 use Rattle.arrow_data.specs.PlainValue.{PlainValue, PlainValues, null_value, bool_value, int_value, binary_value, utf8_value, list_value, struct_value, no_values, more_values}
 use Rattle.arrow_data.specs.declared.form.Form.{Form}
 use Rattle.arrow_data.specs.declared.form.Form.TheVariants as forms
@@ -13,7 +13,7 @@ use Rattle.arrow_data.specs.declared.form.Form.TheVariants as forms
 abbrev pub HoldsInt : Form → ℤ → Type 0
 HoldsInt forms.Nulls z = ⊥
 HoldsInt forms.Bits z = ⊥
-HoldsInt (forms.Numbers bits signed) z = FitsInt (number_width bits) signed z
+HoldsInt (forms.Numbers number) z = FitsInt (number_width number) (has_sign number) z
 HoldsInt (forms.Bytes width) z = ⊥
 HoldsInt (forms.Texts width) z = ⊥
 HoldsInt (forms.FixedBytes width) z = ⊥
@@ -24,7 +24,7 @@ HoldsInt forms.Structs z = ⊥
 abbrev pub HoldsBinary : Form → List ℕ → Type 0
 HoldsBinary forms.Nulls bytes = ⊥
 HoldsBinary forms.Bits bytes = ⊥
-HoldsBinary (forms.Numbers bits signed) bytes = ⊥
+HoldsBinary (forms.Numbers number) bytes = ⊥
 HoldsBinary (forms.Bytes width) bytes = ⊤
 HoldsBinary (forms.Texts width) bytes = ⊥
 HoldsBinary (forms.FixedBytes width) bytes = length bytes ≡ width
@@ -35,7 +35,7 @@ HoldsBinary forms.Structs bytes = ⊥
 abbrev pub HoldsUtf8 : Form → List ℕ → Type 0
 HoldsUtf8 forms.Nulls bytes = ⊥
 HoldsUtf8 forms.Bits bytes = ⊥
-HoldsUtf8 (forms.Numbers bits signed) bytes = ⊥
+HoldsUtf8 (forms.Numbers number) bytes = ⊥
 HoldsUtf8 (forms.Bytes width) bytes = ⊥
 HoldsUtf8 (forms.Texts width) bytes = IsUtf8 bytes
 HoldsUtf8 (forms.FixedBytes width) bytes = ⊥

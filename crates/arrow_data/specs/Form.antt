@@ -1,35 +1,48 @@
 -- The layouts of nodes, and which of them each type has (Columnar Format, "Physical Memory Layout" and "Buffer Listing for
 -- Each Layout"; Schema.fbs, union "Type"). All that is said of buffers and slots goes by this one table.
-use Rattle.std.specs.Prelude.{◌≡◌, ◌-◌, ◌/◌, ◌^◌, ℕ, true, false, Option, Some, None, ⊤}
+use Rattle.std.specs.Prelude.{◌≡◌, ◌-◌, ◌/◌, ◌^◌, ℕ, Bool, true, false, Option, Some, None, ⊤}
 use Rattle.arrow_types.specs.DataType.{Tag, bits_of, date_width_of, float_width_of, time_width_of}
 use Rattle.arrow_types.specs.DataType as tags
 use Rattle.arrow_types.specs.Field.{Fields, none, more}
 use Rattle.arrow_types.specs.declared.data_type.BitWidth.{BitWidth}
 use Rattle.arrow_types.specs.declared.data_type.BitWidth.TheVariants.{ThirtyTwo, SixtyFour}
+use Rattle.arrow_types.specs.declared.data_type.DecimalWidth.{DecimalWidth}
+use Rattle.arrow_types.specs.declared.data_type.DecimalWidth.TheVariants as decimals
 use Rattle.arrow_types.specs.declared.data_type.IntervalUnit.{IntervalUnit}
 use Rattle.arrow_types.specs.declared.data_type.IntervalUnit.TheVariants.{YearMonth, DayTime, MonthDayNano}
 use Rattle.arrow_types.specs.declared.field.Encoding.{Encoding}
 use Rattle.arrow_data.specs.declared.form.Form.{Form}
 use Rattle.arrow_data.specs.declared.form.Form.TheVariants as forms
+use Rattle.arrow_data.specs.declared.form.NumberForm.{NumberForm}
+use Rattle.arrow_data.specs.declared.form.NumberForm.TheVariants as numbers
 use Rattle.arrow_data.specs.declared.form.OffsetWidth.{OffsetWidth}
 use Rattle.arrow_data.specs.declared.form.OffsetWidth.TheVariants.{Small, Large}
 
 -- the form of intervals: of months a number, of several numbers the bytes of them all (Schema.fbs, enum "IntervalUnit")
 abbrev pub interval_form : IntervalUnit → Form
-interval_form YearMonth = forms.Numbers ThirtyTwo true
+interval_form YearMonth = forms.Numbers (numbers.Int ThirtyTwo true)
 interval_form DayTime = forms.FixedBytes 8
 interval_form MonthDayNano = forms.FixedBytes 16
+
+-- The form of decimals: the whole numbers that they are times the power of their scale. One of 256 bits is its bytes, as no
+-- number of the program has so many bits (Schema.fbs, table "Decimal").
+abbrev pub decimal_form : DecimalWidth → Form
+decimal_form decimals.ThirtyTwo = forms.Numbers (numbers.Int ThirtyTwo true)
+decimal_form decimals.SixtyFour = forms.Numbers (numbers.Int SixtyFour true)
+decimal_form decimals.OneHundredTwentyEight = forms.Numbers numbers.Int128
+decimal_form decimals.TwoHundredFiftySix = forms.FixedBytes 32
 
 -- the form of the values of a type; a floating-point number is the number of its bits, a map the list of its entries
 abbrev pub form_of : Tag → Form
 form_of tags.null = forms.Nulls
 form_of tags.boolean = forms.Bits
-form_of (tags.int bits signed) = forms.Numbers bits signed
-form_of (tags.floating_point precision) = forms.Numbers (float_width_of precision) false
-form_of (tags.date unit) = forms.Numbers (date_width_of unit) true
-form_of (tags.time unit) = forms.Numbers (time_width_of unit) true
-form_of (tags.timestamp unit text) = forms.Numbers SixtyFour true
-form_of (tags.duration unit) = forms.Numbers SixtyFour true
+form_of (tags.int bits signed) = forms.Numbers (numbers.Int bits signed)
+form_of (tags.floating_point precision) = forms.Numbers (numbers.Int (float_width_of precision) false)
+form_of (tags.decimal width precision scale) = decimal_form width
+form_of (tags.date unit) = forms.Numbers (numbers.Int (date_width_of unit) true)
+form_of (tags.time unit) = forms.Numbers (numbers.Int (time_width_of unit) true)
+form_of (tags.timestamp unit text) = forms.Numbers (numbers.Int SixtyFour true)
+form_of (tags.duration unit) = forms.Numbers (numbers.Int SixtyFour true)
 form_of (tags.interval unit) = interval_form unit
 form_of tags.binary = forms.Bytes Small
 form_of tags.large_binary = forms.Bytes Large
@@ -41,10 +54,14 @@ form_of tags.large_list = forms.Lists Large
 form_of tags.struct = forms.Structs
 form_of (tags.map sorted) = forms.Lists Small
 
+-- the form of the indices of an encoding
+abbrev pub index_form : Encoding → Form
+index_form e = forms.Numbers (numbers.Int e.index.bits e.index.signed)
+
 -- the form of a node: a dictionary-encoded one has that of its indices (Columnar Format, "Dictionary-encoded Layout")
 abbrev pub node_form : Tag → Option Encoding → Form
 node_form tag None = form_of tag
-node_form tag (Some e) = forms.Numbers e.index.bits e.index.signed
+node_form tag (Some e) = index_form e
 
 -- how many bytes an offset takes (Columnar Format, "Variable-size Binary Layout")
 abbrev pub offset_bytes : OffsetWidth → ℕ
@@ -56,15 +73,25 @@ abbrev pub greatest_offset : OffsetWidth → ℕ
 greatest_offset Small = 2147483647
 greatest_offset Large = 2 ^ 63 - 1
 
--- how many bytes a number takes (Schema.fbs, "Int")
-abbrev pub number_width : BitWidth → ℕ
-number_width bits = bits_of bits / 8
+-- how many bytes an Int takes (Schema.fbs, "Int")
+abbrev pub int_width : BitWidth → ℕ
+int_width bits = bits_of bits / 8
+
+-- how many bytes a number takes
+abbrev pub number_width : NumberForm → ℕ
+number_width (numbers.Int bits signed) = int_width bits
+number_width numbers.Int128 = 16
+
+-- whether numbers have a sign
+abbrev pub has_sign : NumberForm → Bool
+has_sign (numbers.Int bits signed) = signed
+has_sign numbers.Int128 = true
 
 -- how many buffers a node of the form has
 abbrev pub buffers_of : Form → ℕ
 buffers_of forms.Nulls = 0
 buffers_of forms.Bits = 2
-buffers_of (forms.Numbers bits signed) = 2
+buffers_of (forms.Numbers number) = 2
 buffers_of (forms.Bytes width) = 3
 buffers_of (forms.Texts width) = 3
 buffers_of (forms.FixedBytes width) = 2
@@ -81,7 +108,7 @@ IsOneField (more head children (more head' children' rest)) = ⊥
 abbrev pub HasFieldsOf : Form → Fields → Type 0
 HasFieldsOf forms.Nulls fields = fields ≡ none
 HasFieldsOf forms.Bits fields = fields ≡ none
-HasFieldsOf (forms.Numbers bits signed) fields = fields ≡ none
+HasFieldsOf (forms.Numbers number) fields = fields ≡ none
 HasFieldsOf (forms.Bytes width) fields = fields ≡ none
 HasFieldsOf (forms.Texts width) fields = fields ≡ none
 HasFieldsOf (forms.FixedBytes width) fields = fields ≡ none
@@ -92,7 +119,7 @@ HasFieldsOf forms.Structs fields = ⊤
 abbrev pub IsLists : Form → Type 0
 IsLists forms.Nulls = ⊥
 IsLists forms.Bits = ⊥
-IsLists (forms.Numbers bits signed) = ⊥
+IsLists (forms.Numbers number) = ⊥
 IsLists (forms.Bytes width) = ⊥
 IsLists (forms.Texts width) = ⊥
 IsLists (forms.FixedBytes width) = ⊥
@@ -103,7 +130,7 @@ IsLists forms.Structs = ⊥
 abbrev pub IsLeaf : Form → Type 0
 IsLeaf forms.Nulls = ⊤
 IsLeaf forms.Bits = ⊤
-IsLeaf (forms.Numbers bits signed) = ⊤
+IsLeaf (forms.Numbers number) = ⊤
 IsLeaf (forms.Bytes width) = ⊤
 IsLeaf (forms.Texts width) = ⊤
 IsLeaf (forms.FixedBytes width) = ⊤

@@ -30,7 +30,7 @@ pub record IsFirstInvalid (validity : List ℕ) (start stop i : ℕ) : Type 0 wh
 abbrev pub width_in : Form → ℕ
 width_in forms.Nulls = 0
 width_in forms.Bits = 0
-width_in (forms.Numbers bits signed) = number_width bits
+width_in (forms.Numbers number) = number_width number
 width_in (forms.Bytes width) = 0
 width_in (forms.Texts width) = 0
 width_in (forms.FixedBytes width) = 0

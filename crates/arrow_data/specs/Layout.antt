@@ -53,7 +53,7 @@ child_count counts = get_or counts 0 0
 abbrev pub HoldsSlots : Form → ℕ → List (List ℕ) → List ℕ → Type 0
 HoldsSlots forms.Nulls len b counts = ⊤
 HoldsSlots forms.Bits len b counts = HasBools len (buffer b 0) (buffer b 1)
-HoldsSlots (forms.Numbers bits signed) len b counts = HasFixed len (number_width bits) (buffer b 0) (buffer b 1)
+HoldsSlots (forms.Numbers number) len b counts = HasFixed len (number_width number) (buffer b 0) (buffer b 1)
 HoldsSlots (forms.Bytes width) len b counts = HasStrings width len (buffer b 0) (buffer b 1) (buffer b 2)
 HoldsSlots (forms.Texts width) len b counts = HasStrings width len (buffer b 0) (buffer b 1) (buffer b 2)
 HoldsSlots (forms.FixedBytes width) len b counts = HasFixed len width (buffer b 0) (buffer b 1)
@@ -68,7 +68,7 @@ IsLaid tag e len b counts = HoldsSlots (node_form tag e) len b counts
 abbrev pub HoldsTexts : Form → ℕ → List (List ℕ) → Type 0
 HoldsTexts forms.Nulls len b = ⊤
 HoldsTexts forms.Bits len b = ⊤
-HoldsTexts (forms.Numbers bits signed) len b = ⊤
+HoldsTexts (forms.Numbers number) len b = ⊤
 HoldsTexts (forms.Bytes width) len b = ⊤
 HoldsTexts (forms.Texts width) len b = AreTexts width len (buffer b 0) (buffer b 1) (buffer b 2)
 HoldsTexts (forms.FixedBytes width) len b = ⊤

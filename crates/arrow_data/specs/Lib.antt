@@ -23,3 +23,4 @@ pub mod Laws
 pub mod Half
 pub mod Floats
 pub mod Intervals
+pub mod Decimals

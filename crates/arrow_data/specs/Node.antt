@@ -1,12 +1,12 @@
 -- What the ranges of a node stand for, and what is known of them in every array.
 use Rattle.std.specs.Prelude.{◌≡◌, ◌≤◌, ◌<◌, ℕ, ℤ, List, [], ◌∷◌, map, length, get_or, slice_range, Option, None, Some}
 use Rattle.std.specs.List.{AllByRecursion}
-use Rattle.arrow_bits.specs.Numbers.{IsWidth}
+use Rattle.arrow_bits.specs.Numbers.{IsIntWidth}
 use Rattle.arrow_bits.specs.Offsets.{plain_list}
 use Rattle.arrow_types.specs.Field.{TypeShape}
 use Rattle.arrow_types.specs.View.{type_view}
 use Rattle.arrow_types.specs.declared.field.Encoding.{Encoding}
-use Rattle.arrow_data.specs.Form.{HasFieldsOf, form_of, node_form, number_width, offset_bytes}
+use Rattle.arrow_data.specs.Form.{HasFieldsOf, form_of, node_form, number_width, offset_bytes, has_sign}
 use Rattle.arrow_data.specs.PlainValue.{PlainValue, null_value}
 use Rattle.arrow_data.specs.Column.{Column, ValueList, AreOf, IsColumn, IsValueList, listed_of, counts_of, slots_of}
 use Rattle.arrow_data.specs.Slots.{slots, bool_slot, int_slot, fixed_slot, binary_slot, utf8_slot, list_slot, struct_slot, entry_slot, AreTexts, AreIndices}
@@ -140,7 +140,7 @@ pub record AreBools (len : ℕ) (body : List ℕ) (b : Bools) : Type 0 where
 
 -- the ranges hold a number of the width for each slot
 pub record AreInts (len : ℕ) (body : List ℕ) (n : Ints) : Type 0 where
-  pub whole : IsWidth n.width
+  pub whole : IsIntWidth n.width n.signed
   pub validity : IsInside body n.validity
   pub values : IsInside body n.values
   pub laid : HasFixed len n.width (bytes_of body n.validity) (bytes_of body n.values)
@@ -177,7 +177,7 @@ pub record AreStructs (len : ℕ) (t : TypeShape) (body : List ℕ) (v : ByteRan
 abbrev pub IsFormat : Form → Ints → Type 0
 IsFormat forms.Nulls n = ⊥
 IsFormat forms.Bits n = ⊥
-IsFormat (forms.Numbers bits signed) n = (n.width ≡ number_width bits) × (n.signed ≡ signed)
+IsFormat (forms.Numbers number) n = (n.width ≡ number_width number) × (n.signed ≡ has_sign number)
 IsFormat (forms.Bytes width) n = ⊥
 IsFormat (forms.Texts width) n = ⊥
 IsFormat (forms.FixedBytes width) n = ⊥

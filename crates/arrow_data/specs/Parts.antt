@@ -6,7 +6,7 @@ use Rattle.arrow_types.specs.Schema.{has_encoding}
 use Rattle.arrow_types.specs.declared.field.Encoding.{Encoding}
 use Rattle.arrow_data.specs.PlainValue.{PlainValue, null_value}
 use Rattle.arrow_data.specs.Column.{Column, ValueList, AreOf, listed_of, slots_of}
-use Rattle.arrow_data.specs.Form.{form_of, number_width, offset_bytes}
+use Rattle.arrow_data.specs.Form.{form_of, number_width, offset_bytes, has_sign}
 use Rattle.arrow_data.specs.Layout.{buffer}
 use Rattle.arrow_data.specs.Slots.{slots, bool_slot, int_slot, fixed_slot, binary_slot, utf8_slot, list_slot, struct_slot, entry_slot, index_width}
 use Rattle.arrow_data.specs.declared.form.Form.{Form}
@@ -20,7 +20,7 @@ type_of f = record { tag = f.head.tag; children = f.children }
 abbrev pub value_slot : Form → List (List ℕ) → List (List PlainValue) → ℕ → PlainValue
 value_slot forms.Nulls b children j = null_value
 value_slot forms.Bits b children j = bool_slot (buffer b 0) (buffer b 1) j
-value_slot (forms.Numbers bits signed) b children j = int_slot (number_width bits) signed (buffer b 0) (buffer b 1) j
+value_slot (forms.Numbers number) b children j = int_slot (number_width number) (has_sign number) (buffer b 0) (buffer b 1) j
 value_slot (forms.Bytes width) b children j = binary_slot width (buffer b 0) (buffer b 1) (buffer b 2) j
 value_slot (forms.Texts width) b children j = utf8_slot width (buffer b 0) (buffer b 1) (buffer b 2) j
 value_slot (forms.FixedBytes width) b children j = fixed_slot width (buffer b 0) (buffer b 1) j
@@ -31,7 +31,7 @@ value_slot forms.Structs b children j = struct_slot (buffer b 0) children j
 abbrev pub node_offsets : Form → ℕ → List (List ℕ) → List ℕ
 node_offsets forms.Nulls len b = []
 node_offsets forms.Bits len b = []
-node_offsets (forms.Numbers bits signed) len b = []
+node_offsets (forms.Numbers number) len b = []
 node_offsets (forms.Bytes width) len b = []
 node_offsets (forms.Texts width) len b = []
 node_offsets (forms.FixedBytes width) len b = []

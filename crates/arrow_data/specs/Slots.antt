@@ -6,7 +6,7 @@ use Rattle.arrow_bits.specs.Bitmap.{bit_of}
 use Rattle.arrow_bits.specs.Numbers.{number_at, int_of}
 use Rattle.arrow_bits.specs.Offsets.{AreOffsetsOf}
 use Rattle.arrow_types.specs.declared.field.IndexType.{IndexType}
-use Rattle.arrow_data.specs.Form.{number_width, offset_bytes}
+use Rattle.arrow_data.specs.Form.{int_width, offset_bytes}
 use Rattle.arrow_data.specs.PlainValue.{PlainValue, null_value, bool_value, int_value, binary_value, utf8_value, list_value, struct_value, values_of, value_at}
 use Rattle.arrow_data.specs.declared.form.OffsetWidth.{OffsetWidth}
 
@@ -92,4 +92,4 @@ AreIndices len width signed validity indices count =
 
 -- how many bytes one index takes (Schema.fbs, "DictionaryEncoding")
 abbrev pub index_width : IndexType → ℕ
-index_width index = number_width index.bits
+index_width index = int_width index.bits

@@ -1,11 +1,11 @@
 -- What the buffers of a column hold (Columnar Format, "Physical Memory Layout").
 use Rattle.std.specs.Prelude.{◌≡◌, ◌<◌, ℕ, pos, Bool, List, length, map, None, is_some, IsTrue}
-use Rattle.arrow_bits.specs.Numbers.{IsWidth}
+use Rattle.arrow_bits.specs.Numbers.{IsIntWidth}
 use Rattle.arrow_bits.specs.Offsets.{plain_list}
-use Rattle.arrow_types.specs.declared.data_type.BitWidth.{BitWidth}
+use Rattle.arrow_data.specs.declared.form.NumberForm.{NumberForm}
 use Rattle.arrow_data.specs.PlainValue.{PlainValue, int_value, null_value, value_at}
 use Rattle.arrow_data.specs.Column.{Column, HasChild, HasDictionary, HasFields, ValueList}
-use Rattle.arrow_data.specs.Form.{node_form, number_width, offset_bytes}
+use Rattle.arrow_data.specs.Form.{has_sign, node_form, number_width, offset_bytes}
 use Rattle.arrow_data.specs.Layout.{HasBools, HasFixed, HasLists, HasStrings}
 use Rattle.arrow_data.specs.Slots.{AreIndices, AreTexts, HasBits, binary_slot, bool_slot, entry_slot, fixed_slot, int_slot, list_slot, struct_slot, utf8_slot}
 use Rattle.arrow_data.specs.declared.form.Form.{Form}
@@ -38,10 +38,11 @@ IsOf form c = (c.encoding ≡ None) × (node_form c.data_type.tag c.encoding ≡
 
 -- the column's slots hold numbers of so many bytes, with or without a sign: in a dictionary-encoded one its indices
 pub record IsOfNumbers (c : Column) (width : ℕ) (signed : Bool) : Type 0 where
-  pub bits : BitWidth
-  pub form : node_form c.data_type.tag c.encoding ≡ forms.Numbers bits signed
-  pub bytes : width ≡ number_width bits
-  pub whole : IsWidth width
+  pub number : NumberForm
+  pub form : node_form c.data_type.tag c.encoding ≡ forms.Numbers number
+  pub bytes : width ≡ number_width number
+  pub sign : signed ≡ has_sign number
+  pub whole : IsIntWidth width signed
 
 -- no value in any slot
 abbrev pub HoldNulls : Column → Type 0

@@ -11,6 +11,7 @@ ghost use Rattle.arrow_data.specs.Column.{values_from};
 ghost use Rattle.arrow_data.specs.Floats.{float_shown};
 ghost use Rattle.arrow_data.specs.Form.{node_form};
 ghost use Rattle.arrow_data.specs.FullSlots.{AreFull, IsFirstNull, value_bytes};
+ghost use Rattle.arrow_data.specs.Decimals.{decimal_shown};
 ghost use Rattle.arrow_data.specs.Intervals.{interval_shown};
 ghost use Rattle.arrow_data.specs.Node.{validity_in};
 ghost use Rattle.arrow_data.specs.Shown.{HoldsValue, Shows, value_shown};
@@ -18,6 +19,7 @@ ghost use Rattle.std.specs.List.{flat_map};
 
 use crate::buffers::{Bools, Fixed, Ints, SlotRange, Strings};
 use crate::byte_range::{ByteRange, bytes_in};
+use crate::decimals::{self, Decimal};
 use crate::dictionary::Dictionary;
 use crate::floats::number_of;
 use crate::form::OffsetWidth;
@@ -296,9 +298,10 @@ impl Array {
         }
     }
 
-    /// The number in slot `i` of a column of type Int, Date, Time, Timestamp or Duration, the months
-    /// of one of type Interval in months, the bits of one of type FloatingPoint, or the index in slot `i` of a dictionary-encoded column of any
-    /// type. None where the slot is null or holds something else.
+    /// The number in slot `i` of a column of type Int, Date, Time, Timestamp or Duration, the whole
+    /// number of one of type Decimal of at most 128 bits, the months of one of type Interval in months,
+    /// the bits of one of type FloatingPoint, or the index in slot `i` of a dictionary-encoded column
+    /// of any type. None where the slot is null or holds something else.
     #[inline(always)]
     pub fn int_at(&self, i: usize) -> Option<i128>
         requires { i < length self.now.raw }
@@ -325,6 +328,22 @@ impl Array {
         }
     }
 
+    /// The decimal in slot `i`. None if the slot is null, or the column has another type or is
+    /// dictionary-encoded.
+    pub fn decimal_at(&self, i: usize) -> Option<Decimal>
+        requires { i < length self.now.raw }
+        ensures { result ≡ decimal_shown self.now i }
+    {
+        match self.data_type() {
+            DataType::Decimal { scale, .. } if self.encoding().is_none() => match self.seen(i) {
+                Seen::Number(number) => Some(decimals::of_number(*scale, number)),
+                Seen::Binary(bytes) => decimals::of_bytes(*scale, bytes),
+                _ => None,
+            },
+            _ => None,
+        }
+    }
+
     /// The interval in slot `i`. None if the slot is null, or the column has another type or is
     /// dictionary-encoded.
     pub fn interval_at(&self, i: usize) -> Option<Interval>
@@ -342,7 +361,7 @@ impl Array {
     }
 
     /// The byte string in slot `i`, also one of a fixed size, or the bytes of an interval of several
-    /// numbers. None where the slot is null or holds something else.
+    /// numbers or of a decimal of 256 bits. None where the slot is null or holds something else.
     #[inline(always)]
     pub fn bytes_at(&self, i: usize) -> Option<&[u8]>
         requires { i < length self.now.raw }

@@ -2,15 +2,16 @@
 //! and slots go by.
 
 ghost use Rattle.std.specs.Prelude.{false, ◌≡◌, ◌↔◌, IsTrue, true};
-ghost use Rattle.arrow_bits.specs.Numbers.{IsWidth};
+ghost use Rattle.arrow_bits.specs.Numbers.{IsIntWidth, IsWidth};
 ghost use Rattle.arrow_types.specs.Field.{none};
 ghost use Rattle.arrow_types.specs.View.{type_view};
-ghost use Rattle.arrow_data.specs.Form.{buffers_of, form_of, greatest_offset, node_form};
-ghost use Rattle.arrow_data.specs.Form.{HasFieldsOf, interval_form, IsLeaf, number_width};
-ghost use Rattle.arrow_data.specs.Form.{offset_bytes};
+ghost use Rattle.arrow_data.specs.Form.{buffers_of, decimal_form, form_of, greatest_offset};
+ghost use Rattle.arrow_data.specs.Form.{has_sign, HasFieldsOf, int_width, interval_form, IsLeaf};
+ghost use Rattle.arrow_data.specs.Form.{node_form, number_width, offset_bytes};
 ghost use Rattle.arrow_data.specs.declared.form.Form.TheVariants as forms;
+ghost use Rattle.arrow_data.specs.declared.form.NumberForm.TheVariants as numbers;
 
-use arrow_types::{BitWidth, DataType, Encoding, IntervalUnit};
+use arrow_types::{BitWidth, DataType, DecimalWidth, Encoding, IndexType, IntervalUnit};
 
 /// How wide the offsets of a column of variable size are (Columnar Format, "Variable-size Binary
 /// Layout").
@@ -47,6 +48,51 @@ impl OffsetWidth {
     }
 }
 
+/// Which numbers the slots of a node hold, in two's complement where they have a sign.
+#[derive(Clone, Copy, Debug, PartialEq, Eq)]
+pub enum NumberForm {
+    /// Numbers of 8 to 64 bits, with a sign or without one.
+    Int { bits: BitWidth, signed: bool },
+    /// Numbers of 128 bits with a sign.
+    Int128,
+}
+
+impl NumberForm {
+    /// The form of indices.
+    #[inline(always)]
+    pub fn of_index(index: IndexType) -> NumberForm
+        ensures { result ≡ numbers.Int index.bits index.signed }
+    {
+        NumberForm::Int {
+            bits: index.bits,
+            signed: index.signed,
+        }
+    }
+
+    /// How many bytes a number takes.
+    #[inline(always)]
+    pub fn width(self) -> usize
+        ensures same { result ≡ number_width self }
+        ensures whole { IsIntWidth result (has_sign self) }
+    {
+        match self {
+            NumberForm::Int { bits, .. } => int_width(bits),
+            NumberForm::Int128 => 16,
+        }
+    }
+
+    /// Whether the numbers have a sign.
+    #[inline(always)]
+    pub fn is_signed(self) -> bool
+        ensures { result ≡ has_sign self }
+    {
+        match self {
+            NumberForm::Int { signed, .. } => signed,
+            NumberForm::Int128 => true,
+        }
+    }
+}
+
 /// How the buffers of a node hold its slots (Columnar Format, "Physical Memory Layout").
 #[derive(Clone, Copy, Debug, PartialEq, Eq)]
 pub enum Form {
@@ -54,8 +100,8 @@ pub enum Form {
     Nulls,
     /// A bit for each slot.
     Bits,
-    /// A number of this width for each slot, with a sign or without one.
-    Numbers { bits: BitWidth, signed: bool },
+    /// A number for each slot.
+    Numbers(NumberForm),
     /// Byte strings behind offsets.
     Bytes(OffsetWidth),
     /// Texts behind offsets.
@@ -77,7 +123,7 @@ impl Form {
         match self {
             Form::Nulls => 0,
             Form::Structs => 1,
-            Form::Bits | Form::Numbers { .. } | Form::FixedBytes(_) | Form::Lists(_) => 2,
+            Form::Bits | Form::Numbers(_) | Form::FixedBytes(_) | Form::Lists(_) => 2,
             Form::Bytes(_) | Form::Texts(_) => 3,
         }
     }
@@ -100,11 +146,12 @@ pub fn form_of(data_type: &DataType) -> Form
     match data_type {
         DataType::Null => Form::Nulls,
         DataType::Bool => Form::Bits,
-        DataType::Int { bits, signed } => Form::Numbers {
+        DataType::Int { bits, signed } => Form::Numbers(NumberForm::Int {
             bits: *bits,
             signed: *signed,
-        },
+        }),
         DataType::FloatingPoint(precision) => unsigned(precision.width()),
+        DataType::Decimal { width, .. } => decimal_form(*width),
         DataType::Date(unit) => signed(unit.width()),
         DataType::Time(unit) => signed(unit.time_width()),
         DataType::Timestamp(..) | DataType::Duration(_) => signed(BitWidth::SixtyFour),
@@ -133,23 +180,37 @@ fn interval_form(unit: IntervalUnit) -> Form
     }
 }
 
+// The form of decimals, which are leaves.
+#[inline(always)]
+fn decimal_form(width: DecimalWidth) -> Form
+    ensures same { result ≡ decimal_form width }
+    ensures below { HasFieldsOf result none }
+{
+    match width {
+        DecimalWidth::ThirtyTwo => signed(BitWidth::ThirtyTwo),
+        DecimalWidth::SixtyFour => signed(BitWidth::SixtyFour),
+        DecimalWidth::OneHundredTwentyEight => Form::Numbers(NumberForm::Int128),
+        DecimalWidth::TwoHundredFiftySix => Form::FixedBytes(32),
+    }
+}
+
 // Numbers of this width with a sign.
 #[inline(always)]
 fn signed(bits: BitWidth) -> Form
-    ensures { result ≡ forms.Numbers bits true }
+    ensures { result ≡ forms.Numbers (numbers.Int bits true) }
 {
-    Form::Numbers { bits, signed: true }
+    Form::Numbers(NumberForm::Int { bits, signed: true })
 }
 
 // Numbers of this width without a sign.
 #[inline(always)]
 fn unsigned(bits: BitWidth) -> Form
-    ensures { result ≡ forms.Numbers bits false }
+    ensures { result ≡ forms.Numbers (numbers.Int bits false) }
 {
-    Form::Numbers {
+    Form::Numbers(NumberForm::Int {
         bits,
         signed: false,
-    }
+    })
 }
 
 /// The form of a node of this type and encoding: a dictionary-encoded one has that of its indices.
@@ -158,18 +219,15 @@ pub fn node_form(data_type: &DataType, encoding: Option<Encoding>) -> Form
     ensures { result ≡ node_form (type_view data_type.now).tag encoding }
 {
     match encoding {
-        Some(encoding) => Form::Numbers {
-            bits: encoding.index.bits,
-            signed: encoding.index.signed,
-        },
+        Some(encoding) => Form::Numbers(NumberForm::of_index(encoding.index)),
         None => form_of(data_type),
     }
 }
 
-/// How many bytes a number of this width takes.
+/// How many bytes an Int of this width takes.
 #[inline(always)]
-pub fn number_width(bits: BitWidth) -> usize
-    ensures same { result ≡ number_width bits }
+pub fn int_width(bits: BitWidth) -> usize
+    ensures same { result ≡ int_width bits }
     ensures whole { IsWidth result }
 {
     (bits.bits() / 8) as usize

@@ -18,7 +18,7 @@ ghost use Rattle.arrow_data.specs.Node.{bytes_of, IsInside};
 ghost use Rattle.arrow_data.specs.Slots.{HasBits, HasOffsets, AreIndices, AreTexts, IsIndex};
 
 use crate::byte_range::{ByteRange, bytes_in, hold_bytes};
-use crate::form::{Form, OffsetWidth, node_form, number_width};
+use crate::form::{Form, OffsetWidth, node_form};
 use crate::offsets::OffsetBuffer;
 use crate::parts::NodeBuffers;
 use crate::texts::are_slots_utf8;
@@ -193,9 +193,9 @@ pub fn is_laid(
     match node_form(data_type, encoding) {
         Form::Nulls => true,
         Form::Bits => has_bools(len, buffer(body, buffers, 0), buffer(body, buffers, 1)),
-        Form::Numbers { bits, .. } => has_fixed(
+        Form::Numbers(form) => has_fixed(
             len,
-            number_width(bits),
+            form.width(),
             buffer(body, buffers, 0),
             buffer(body, buffers, 1),
         ),

@@ -20,7 +20,7 @@
 //! | what buffers hold at a slot | `specs/Slots.antt`: `int_slot`, `range_of` .. |
 //! | where the bytes of all texts may be cut | `specs/Cuts.antt`: `AreCuts` |
 //! | the floating-point number of a slot | `specs/Floats.antt`: `float_shown`; of 16 bits `specs/Half.antt` |
-//! | the interval of a slot | `specs/Intervals.antt`: `interval_shown` |
+//! | the interval, the decimal of a slot | `specs/Intervals.antt`: `interval_shown`; `specs/Decimals.antt` |
 //! | when buffers hold a node's slots | `specs/Layout.antt`: `IsLaid`, `IsText`, `IsIndexed` |
 //! | the column of a node | `specs/Parts.antt`: `node_column` |
 //! | the type that columns share | `specs/Shared.antt`: `NodeType`, `node_types` |
@@ -43,6 +43,7 @@ mod array;
 mod batch;
 mod buffers;
 mod byte_range;
+pub mod decimals;
 mod dictionary;
 pub mod floats;
 pub mod form;
@@ -65,6 +66,7 @@ mod view;
 pub use array::{Array, SlotValue};
 pub use batch::{Batch, BatchFault};
 pub use byte_range::ByteRange;
+pub use decimals::Decimal;
 pub use dictionary::Dictionary;
 pub use intervals::Interval;
 pub use listed::Listed;

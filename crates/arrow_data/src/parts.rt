@@ -17,10 +17,10 @@ use crate::array::{Array, Ranges};
 use crate::buffers::{Bools, Fixed, Ints, Strings};
 use crate::byte_range::{ByteRange, hold_bytes};
 use crate::dictionary::Dictionary;
-use crate::form::{Form, OffsetWidth, form_of, number_width};
+use crate::form::{Form, NumberForm, OffsetWidth, form_of};
 use crate::shared_body::SharedBody;
 use crate::shared_type::SharedType;
-use arrow_types::{BitWidth, DataType, Encoding, Field};
+use arrow_types::{DataType, Encoding, Field};
 use std::alloc::{AllocError, Global};
 use std::rc::Rc;
 
@@ -114,7 +114,7 @@ impl Array {
             Some(encoding) => {
                 let dictionary = Box::new(alloc, or_empty(alloc, data_type, below.dictionary)?)?;
                 let index = encoding.index;
-                let indices = numbers(index.bits, index.signed, node.ranges);
+                let indices = numbers(NumberForm::of_index(index), node.ranges);
                 let ranges = Ranges::Indices(indices, dictionary);
                 of_ranges(shared, Some(encoding), node, ranges)
             }
@@ -197,17 +197,17 @@ fn or_empty(
     Ok(dictionary)
 }
 
-// The buffers of numbers of this width and sign.
+// The buffers of numbers of this form.
 #[inline(always)]
-fn numbers(bits: BitWidth, signed: bool, buffers: &[ByteRange]) -> Ints
+fn numbers(form: NumberForm, buffers: &[ByteRange]) -> Ints
     requires { 2 ≤ length buffers.now }
-    ensures format { IsFormat (forms.Numbers bits signed) result }
+    ensures format { IsFormat (forms.Numbers form) result }
     ensures validity { result.validity ≡ slice_index_or buffers.now 0 result.validity }
     ensures values { result.values ≡ slice_index_or buffers.now 1 result.values }
 {
     Ints {
-        width: number_width(bits) as u32,
-        signed,
+        width: form.width() as u32,
+        signed: form.is_signed(),
         validity: buffers[0],
         values: buffers[1],
     }
@@ -303,7 +303,7 @@ fn value_ranges(
         }),
         Form::Nulls
         | Form::Bits
-        | Form::Numbers { .. }
+        | Form::Numbers(_)
         | Form::Bytes(_)
         | Form::Texts(_)
         | Form::FixedBytes(_) => Ok(leaf_ranges(data_type, node)),
@@ -331,7 +331,7 @@ fn leaf_ranges(data_type: &DataType, node: NodeBuffers<'_>) -> Ranges
     match form_of(data_type) {
         Form::Nulls => Ranges::Nulls,
         Form::Bits => Ranges::Bools(bools(node.ranges)),
-        Form::Numbers { bits, signed } => Ranges::Ints(numbers(bits, signed, node.ranges)),
+        Form::Numbers(form) => Ranges::Ints(numbers(form, node.ranges)),
         Form::Bytes(width) => Ranges::Binaries(strings(width, node.ranges)),
         Form::Texts(width) => Ranges::Texts(strings(width, node.ranges)),
         Form::FixedBytes(width) => Ranges::FixedBytes(fixed(width, node.ranges)),

@@ -1,7 +1,7 @@
 //! One slot of the buffers of a node.
 
 ghost use Rattle.std.specs.Prelude.{◌≡◌, ◌+◌, ◌*◌, ◌<◌, ◌≤◌, length, MatchOption, true, false};
-ghost use Rattle.arrow_bits.specs.Numbers.{IsWidth};
+ghost use Rattle.arrow_bits.specs.Numbers.{IsIntWidth};
 ghost use Rattle.arrow_data.specs.FullSlots.{IsFirstInvalid};
 ghost use Rattle.arrow_data.specs.PlainValue.{null_value, bool_value, int_value, binary_value};
 ghost use Rattle.arrow_data.specs.Slots.{is_valid_at, range_of, HasBits, HasOffsets};
@@ -53,7 +53,7 @@ impl NumberBuffers<'_> {
     #[inline(always)]
     pub(crate) fn number_at(self, i: usize) -> Option<i128>
         requires bits { HasBits (i + 1) self.validity.now }
-        requires width { IsWidth self.width }
+        requires width { IsIntWidth self.width self.signed }
         requires long { self.width * i + self.width ≤ length self.values.now }
         ensures { MatchOption result
             (int_slot self.entry.width self.entry.signed self.entry.validity.now

@@ -1,6 +1,7 @@
 //! Values by themselves, outside of any column.
 
 ghost use Rattle.std.specs.Prelude.{◌≡◌, ◌↔◌, IsTrue, IfOk};
+ghost use Rattle.arrow_data.specs.Decimals.{wide_decimal_value};
 ghost use Rattle.arrow_data.specs.Floats.{IsFloatValue};
 ghost use Rattle.arrow_data.specs.Intervals.{interval_value};
 ghost use Rattle.arrow_data.specs.Stored.{value_code};
@@ -9,6 +10,7 @@ ghost use Rattle.arrow_types.specs.Equality.{is_equal, is_equal_equivalence};
 ghost use Rattle.std.specs.Cmp.{on_per, on_equiv, partial_equiv_from_equiv};
 ghost use Rattle.std.specs.Ordering.{on};
 
+use crate::decimals::Decimal;
 use crate::half;
 use crate::intervals::Interval;
 use arrow_bits::put_int;
@@ -27,9 +29,11 @@ pub enum Value {
     /// A truth value.
     Bool(bool),
     /// A number of type Int, Date, Time, Timestamp or Duration, the bits of one of type
-    /// FloatingPoint (see [`Value::float`]), the months of an interval of nothing else, or an index.
+    /// FloatingPoint (see [`Value::float`]), the whole number of a decimal of at most 128 bits, the
+    /// months of an interval of nothing else, or an index.
     Int(i128),
-    /// A byte string, or an interval of several numbers (see [`Value::interval`]).
+    /// A byte string, an interval of several numbers (see [`Value::interval`]), or a decimal of 256
+    /// bits (see [`Value::wide_decimal`]).
     Bytes(Vec<u8>),
     /// A text.
     Text(String),
@@ -77,6 +81,18 @@ impl Value {
                 put_int(&mut bytes, 8, i128::from(nanoseconds))?;
             }
         }
+        Ok(Value::Bytes(bytes))
+    }
+
+    /// The value of a decimal in a column of 256 bits: the 32 bytes of its whole number. In a column of
+    /// fewer bits it is the `Value::Int` of that number. The only error is `AllocError`, if an
+    /// allocation failed.
+    pub fn wide_decimal(alloc: Global, decimal: Decimal) -> Result<Value, AllocError>
+        ensures { IfOk result (λ v. value_view v ≡ wide_decimal_value decimal) }
+    {
+        let mut bytes = Vec::new(alloc);
+        put_int(&mut bytes, 16, decimal.low.cast_signed())?;
+        put_int(&mut bytes, 16, decimal.high)?;
         Ok(Value::Bytes(bytes))
     }
 

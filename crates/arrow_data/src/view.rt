@@ -27,7 +27,8 @@ pub enum Buffers<'a> {
         validity: &'a [u8],
         values: &'a [u8],
     },
-    /// The numbers of a column of type Int, Date, Time, Timestamp or Duration.
+    /// The numbers of a column of type Int, FloatingPoint (their bits), Date, Time, Timestamp, Duration,
+    /// Decimal of at most 128 bits, or Interval of months.
     Numbers(NumberBuffers<'a>),
     /// Byte strings behind offsets.
     Binaries(StringBuffers<'a>),
@@ -59,7 +60,7 @@ pub enum Buffers<'a> {
 /// Numbers of one width: that of slot i begins at byte `width * i` ("Fixed-size Primitive Layout").
 #[derive(Clone, Copy)]
 pub struct NumberBuffers<'a> {
-    /// How many bytes a number takes: 1, 2, 4 or 8.
+    /// How many bytes a number takes: 1, 2, 4, 8 or, of numbers with a sign, 16.
     pub width: usize,
     /// Whether the numbers have a sign, as two's complement.
     pub signed: bool,

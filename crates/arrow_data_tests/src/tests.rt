@@ -3,8 +3,10 @@
 mod batches;
 mod buffers;
 mod columns;
+mod decimals;
 mod dictionaries;
 mod floats;
+mod forms;
 mod full;
 mod indices;
 mod intervals;

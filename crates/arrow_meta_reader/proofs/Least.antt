@@ -4,7 +4,7 @@ use Rattle.std.proofs.lemmas.Bool.{le-ltb, ltb-false}
 use Rattle.arrow_flatbuf.specs.Place.{◌>>=◌}
 use Rattle.arrow_types.specs.Field.{levels, count}
 use Rattle.arrow_types.specs.Notes.{pair_count}
-use Rattle.arrow_types.specs.Schema.{fault_of as schema_fault_of, is_nested, is_too_wide, some_lack_entries, types_differ, dictionary_fields}
+use Rattle.arrow_types.specs.Schema.{fault_of as schema_fault_of, is_nested, some_flawed, types_differ, dictionary_fields}
 use Rattle.arrow_types.specs.declared.schema.SchemaFault.{SchemaFault}
 use Rattle.arrow_types.specs.declared.schema.SchemaFault.TheVariants as schema_faults
 use Rattle.arrow_meta_reader.specs.declared.codes.HeaderKind.{HeaderKind}
@@ -20,13 +20,12 @@ use Rattle.arrow_meta_reader.specs.Conditions.{any, any_in, is_misfit, is_unsupp
 use Rattle.arrow_meta_reader.specs.Faults.{least, header_conditions, fault_of, version_in, header_in, header_of, data_of, body_of, is_bad_length, is_compressed, is_unsupported_schema, shares_an_id}
 use Rattle.arrow_meta_reader.specs.Judges.{AsksMemory, Judges, LengthFits}
 use Rattle.arrow_meta_reader.specs.Means.{PlainMessage, Means, message_by, message_view}
-use Rattle.arrow_meta_reader.specs.Parts.{nth, parts}
+use Rattle.arrow_meta_reader.specs.Parts.{parts}
 use Rattle.arrow_meta_reader.specs.SchemaMeaning.{schema_fields, schema_in}
 use Rattle.arrow_meta_reader.specs.Trees.{Tree, leaf, table, tables, Trees}
 use Rattle.arrow_meta_reader.specs.Within.{IsShallow}
 use Rattle.std.proofs.lemmas.Bool.{or_right, or_parts}
-use Rattle.arrow_meta_reader.proofs.Mapped.{mapped_in}
-use Rattle.arrow_meta_reader.proofs.Narrow.{narrow}
+use Rattle.arrow_meta_reader.proofs.Flawless.{flawless_in}
 use Rattle.arrow_meta_reader.proofs.Shallow.{schema_levels, schema_count, schema_pair_count}
 
 -- the faults that are told before those of a header, by the truth values of their conditions
@@ -122,26 +121,28 @@ pub refused : (fault : MetaFault) (max : ℕ) (x : Tree) → fault_of max (parts
 refused fault max x found = answered fault max x (λ e. never max (parts x) (subst (λ f. fault_of max (parts x) ≡ Some f) e found)) found
 
 -- the fields' own faults, by their truth values
-abbrev fields_chain : Bool → Bool → Bool → Bool → Bool → Bool → Bool → Option SchemaFault
-fields_chain deep many nested differ wide noted unmapped =
+abbrev fields_chain : Bool → Bool → Bool → Bool → Bool → Bool → Bool → Bool → Option SchemaFault
+fields_chain deep many nested differ wide noted unmapped decimal =
     if deep then Some schema_faults.TooDeep else
     (if many then Some schema_faults.TooManyFields else
     (if nested then Some schema_faults.NestedDictionary else
     (if differ then Some schema_faults.SharedIdTypesDiffer else
     (if wide then Some schema_faults.ByteWidth else
     (if noted then Some schema_faults.TooManyPairs else
-    (if unmapped then Some schema_faults.MapEntries else None))))))
+    (if unmapped then Some schema_faults.MapEntries else
+    (if decimal then Some schema_faults.DecimalRange else None)))))))
 
-fields_differ : (a b c d e f g : Bool) (fault : SchemaFault) → a ≡ false → b ≡ false → c ≡ false → e ≡ false → f ≡ false → g ≡ false → fields_chain a b c d e f g ≡ Some fault
+fields_differ : (a b c d e f g h : Bool) (fault : SchemaFault) → a ≡ false → b ≡ false → c ≡ false → e ≡ false → f ≡ false → g ≡ false → h ≡ false → fields_chain a b c d e f g h ≡ Some fault
     → (fault ≡ schema_faults.SharedIdTypesDiffer) × (d ≡ true)
-fields_differ false false false true e f g fault p q r s t u h = (cc, refl)
-fields_differ false false false false false false false fault p q r s t u h = absurd (cc)
-fields_differ false false false false false false true fault p q r s t u h = absurd (true≢false u)
-fields_differ false false false false false true g fault p q r s t u h = absurd (true≢false t)
-fields_differ false false false false true f g fault p q r s t u h = absurd (true≢false s)
-fields_differ true b c d e f g fault p q r s t u h = absurd (true≢false p)
-fields_differ a true c d e f g fault p q r s t u h = absurd (true≢false q)
-fields_differ a b true d e f g fault p q r s t u h = absurd (true≢false r)
+fields_differ false false false true e f g h fault p q r s t u v found = (cc, refl)
+fields_differ false false false false false false false false fault p q r s t u v found = absurd (cc)
+fields_differ false false false false false false false true fault p q r s t u v found = absurd (true≢false v)
+fields_differ false false false false false false true h fault p q r s t u v found = absurd (true≢false u)
+fields_differ false false false false false true g h fault p q r s t u v found = absurd (true≢false t)
+fields_differ false false false false true f g h fault p q r s t u v found = absurd (true≢false s)
+fields_differ true b c d e f g h fault p q r s t u v found = absurd (true≢false p)
+fields_differ a true c d e f g h fault p q r s t u v found = absurd (true≢false q)
+fields_differ a b true d e f g h fault p q r s t u v found = absurd (true≢false r)
 
 misfit_parts : (x : Tree) → any_in is_misfit (parts x) ≡ true → any is_misfit x ≡ true
 misfit_parts (leaf x) h = absurd (true≢false (sym h))
@@ -158,9 +159,11 @@ fields_fault x fault shallow supported fitting h =
     let deep : levels fields ≤ 32 = omega (arith, schema_levels x 2, shallow.levels_within) in
     let many : count fields ≤ 65536 = omega (arith, schema_count x 2, shallow.visits_within) in
     let noted : pair_count (schema_in (parts header)) ≤ 65536 = omega (arith, schema_pair_count x 2, shallow.entries_within) in
-    fields_differ (nat_lt 32 (levels fields)) (nat_lt 65536 (count fields)) (is_nested fields) (types_differ (dictionary_fields fields)) (is_too_wide fields) (nat_lt 65536 (pair_count (schema_in (parts header)))) (some_lack_entries fields) fault
+    fields_differ (nat_lt 32 (levels fields)) (nat_lt 65536 (count fields)) (is_nested fields) (types_differ (dictionary_fields fields)) (some_flawed schema_faults.ByteWidth fields)
+    (nat_lt 65536 (pair_count (schema_in (parts header)))) (some_flawed schema_faults.MapEntries fields) (some_flawed schema_faults.DecimalRange fields) fault
     (le-ltb 32 (levels fields) deep) (le-ltb 65536 (count fields) many) ((or_parts (any is_unsupported header) (is_nested fields) supported).1)
-    (narrow (nth 1 (parts header))) (le-ltb 65536 (pair_count (schema_in (parts header))) noted) (mapped_in 1 header fitting) h
+    (flawless_in schema_faults.ByteWidth 1 header fitting) (le-ltb 65536 (pair_count (schema_in (parts header))) noted)
+    (flawless_in schema_faults.MapEntries 1 header fitting) (flawless_in schema_faults.DecimalRange 1 header fitting) h
 
 -- Where no fault holds of a tree, building its schema fails for want of memory alone.
 late : (e : MetaFault) (max : ℕ) (x : Tree) → fault_of max (parts x) ≡ None → header_in (parts x) ≡ Some headers.Schema → IsShallow x

@@ -11,8 +11,8 @@ pub mod FirstFields
 pub mod OwnParts
 pub mod Places
 pub mod Misfits
-pub mod Narrow
-pub mod Mapped
+pub mod Decimals
+pub mod Flawless
 pub mod Shallow
 pub mod Least
 pub mod OneAnswer

@@ -1,7 +1,6 @@
 -- When the own parts of two types are equal.
 use Rattle.std.proofs.Common.{◌≡◌, Bool, ◌↔◌, IsTrue, Option, Some, None, refl, sym, ap, ◌∙◌}
 use Rattle.std.specs.Option.{unwrap_or}
-use Rattle.arrow_types.specs.DataType.{Tag}
 use Rattle.arrow_types.specs.Field.{Head, TypeShape}
 use Rattle.arrow_meta_reader.specs.declared.codes.TypeCode.{TypeCode}
 use Rattle.arrow_meta_reader.specs.declared.codes.TypeCode.TheVariants as codes
@@ -10,10 +9,12 @@ use Rattle.arrow_meta_reader.specs.Parts.{nth, parts, number_at}
 use Rattle.arrow_meta_reader.specs.SchemaMeaning.{fields_at, fields_from, head_of, tag_by}
 use Rattle.arrow_meta_reader.specs.Sharing.{AreLabelledAlike, code_in, tag_of, type_of}
 use Rattle.arrow_meta_reader.specs.Trees.{Trees}
+use Rattle.arrow_meta_reader.proofs.Decimals.{of_table}
 
 -- a type's own part keeps its code
 kept : (code : TypeCode) (xs : Trees) → code_of (tag_by (Some code) xs) ≡ code
 kept codes.Null xs = refl
+kept codes.Decimal xs = of_table (λ tag. code_of tag ≡ codes.Decimal) (λ width precision scale h. refl) xs
 kept code xs = refl
 
 -- a code outside the profile is read as Null

@@ -65,6 +65,7 @@ meta_fault body_len schema_faults.Memory = faults.Memory
 meta_fault body_len schema_faults.ByteWidth = faults.Schema body_len
 meta_fault body_len schema_faults.TooManyPairs = faults.Metadata
 meta_fault body_len schema_faults.MapEntries = faults.Schema body_len
+meta_fault body_len schema_faults.DecimalRange = faults.Schema body_len
 
 -- A fault that comes while the Schema table with these fields is built: want of memory, if it has a field or a pair, a
 -- misfit, or a fault of the schema that it says.

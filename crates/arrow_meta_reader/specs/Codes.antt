@@ -1,9 +1,12 @@
 -- The numbers of versions, headers, widths and units (Message.fbs, Schema.fbs).
-use Rattle.std.specs.Prelude.{ℕ, Option, Some, None, ◌==◌, nat_lt, if◌then◌else◌}
+use Rattle.std.specs.Prelude.{ℕ, ℤ, ◌%◌, ◌^◌, Option, Some, None, ◌==◌, nat_lt, if◌then◌else◌}
+use Rattle.std.specs.Int.{cast_signed, w32}
 use Rattle.arrow_types.specs.declared.data_type.BitWidth.{BitWidth}
 use Rattle.arrow_types.specs.declared.data_type.BitWidth.TheVariants as widths
 use Rattle.arrow_types.specs.declared.data_type.DateUnit.{DateUnit}
 use Rattle.arrow_types.specs.declared.data_type.DateUnit.TheVariants as dates
+use Rattle.arrow_types.specs.declared.data_type.DecimalWidth.{DecimalWidth}
+use Rattle.arrow_types.specs.declared.data_type.DecimalWidth.TheVariants as decimals
 use Rattle.arrow_types.specs.declared.data_type.IntervalUnit.{IntervalUnit}
 use Rattle.arrow_types.specs.declared.data_type.IntervalUnit.TheVariants as intervals
 use Rattle.arrow_types.specs.declared.data_type.Precision.{Precision}
@@ -66,6 +69,18 @@ bit_width n =
 -- of which those above the greatest stand for negative ones, which are no width.
 abbrev pub byte_width : ℕ → Option ℕ
 byte_width n = if nat_lt 2147483647 n then None else Some n
+
+-- the width of a Decimal (Schema.fbs, table "Decimal", field "bitWidth")
+abbrev pub decimal_width : ℕ → Option DecimalWidth
+decimal_width n =
+    if n == 32 then Some decimals.ThirtyTwo else
+    (if n == 64 then Some decimals.SixtyFour else
+    (if n == 128 then Some decimals.OneHundredTwentyEight else
+    (if n == 256 then Some decimals.TwoHundredFiftySix else None)))
+
+-- the scale of a Decimal (Schema.fbs, table "Decimal", field "scale"): the signed number that 32 bits are
+abbrev pub decimal_scale : ℕ → ℤ
+decimal_scale n = cast_signed w32 (n % 2 ^ 32)
 
 -- the unit of a Date (Schema.fbs, enum "DateUnit")
 abbrev pub date_unit : ℕ → Option DateUnit

@@ -62,8 +62,8 @@ abbrev pub entries_fit : Option TypeCode → Fields → Bool
 entries_fit (Some codes.Map) children = are_entries children
 entries_fit code children = true
 
--- Schema: a width or a unit outside its list, a time's width that is not its unit's, a number of children that the
--- type does not have, a map's child that cannot be its entries.
+-- Schema: a width or a unit outside its list, a time's width that is not its unit's, a decimal's precision or scale that its
+-- width does not allow, a number of children that the type does not have, a map's child that cannot be its entries.
 abbrev pub is_misfit : TableKind → Trees → Bool
 is_misfit (kinds.Message types) xs = false
 is_misfit (kinds.Schema types) xs = false

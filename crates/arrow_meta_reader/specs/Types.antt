@@ -1,13 +1,15 @@
 -- The types that are read: of each a row, with its number in the union "Type", its table, its children, and the values that
 -- its table may hold (Schema.fbs, union "Type" and the tables of its members).
-use Rattle.std.specs.Prelude.{ℕ, Bool, true, false, not, ◌==◌, if◌then◌else◌, List, [], ◌∷◌, Option, Some, None}
+use Rattle.std.specs.Prelude.{ℕ, ℤ, pos, Bool, true, false, not, ◌==◌, if◌then◌else◌, List, [], ◌∷◌, Option, Some, None}
 use Rattle.std.specs.Option.{is_none, unwrap_or}
 use Rattle.arrow_types.specs.DataType as tags
-use Rattle.arrow_types.specs.DataType.{Tag, bits_of, time_width_of}
+use Rattle.arrow_types.specs.DataType.{Tag, bits_of, is_decimal, time_width_of}
 use Rattle.arrow_types.specs.TypeSet.{leaves_out}
 use Rattle.arrow_types.specs.declared.data_type.BitWidth.{BitWidth}
 use Rattle.arrow_types.specs.declared.data_type.BitWidth.TheVariants as widths
 use Rattle.arrow_types.specs.declared.data_type.DateUnit.TheVariants as dates
+use Rattle.arrow_types.specs.declared.data_type.DecimalWidth.{DecimalWidth}
+use Rattle.arrow_types.specs.declared.data_type.DecimalWidth.TheVariants as decimals
 use Rattle.arrow_types.specs.declared.data_type.IntervalUnit.TheVariants as intervals
 use Rattle.arrow_types.specs.declared.data_type.Precision.TheVariants as precisions
 use Rattle.arrow_types.specs.declared.data_type.TimeUnit.{TimeUnit}
@@ -17,7 +19,7 @@ use Rattle.arrow_meta_reader.specs.declared.codes.TypeCode.{TypeCode}
 use Rattle.arrow_meta_reader.specs.declared.codes.TypeCode.TheVariants as codes
 use Rattle.arrow_meta_reader.specs.declared.kinds.FieldForm.{FieldForm}
 use Rattle.arrow_meta_reader.specs.declared.kinds.FieldForm.TheVariants as forms
-use Rattle.arrow_meta_reader.specs.Codes.{bit_width, byte_width, date_unit, interval_unit, precision, time_unit}
+use Rattle.arrow_meta_reader.specs.Codes.{bit_width, byte_width, date_unit, decimal_scale, decimal_width, interval_unit, precision, time_unit}
 use Rattle.arrow_meta_reader.specs.Parts.{nth, number_at, flag_at, some_text_in}
 use Rattle.arrow_meta_reader.specs.Trees.{Trees, none}
 
@@ -59,6 +61,15 @@ abbrev pub is_time : Option TimeUnit → ℕ → Bool
 is_time None bits = false
 is_time (Some unit) bits = bits == bits_of (time_width_of unit)
 
+-- decimals of a width, if it allows the precision and the scale (Schema.fbs, table "Decimal")
+abbrev pub decimal_by : Option DecimalWidth → ℕ → ℤ → Option Tag
+decimal_by None precision scale = None
+decimal_by (Some width) precision scale = if is_decimal width precision scale then Some (tags.decimal width precision scale) else None
+
+-- the decimals that a Decimal table says, if there are such
+abbrev pub decimal_in : Trees → Option Tag
+decimal_in xs = decimal_by (decimal_width (number_at 2 128 xs)) (number_at 0 0 xs) (decimal_scale (number_at 1 0 xs))
+
 -- The row of a type. A comment names the fields of its table, with their defaults where they are not 0. Where a table is a
 -- misfit the type's own part is some value or other, and means nothing.
 abbrev pub type_row : TypeCode → TypeRow
@@ -71,6 +82,9 @@ type_row codes.FloatingPoint =
 type_row codes.Binary = bare 4 (Some 0) tags.binary
 type_row codes.Utf8 = bare 5 (Some 0) tags.utf8
 type_row codes.Bool = bare 6 (Some 0) tags.boolean
+-- precision, scale, bitWidth (128)
+type_row codes.Decimal =
+    tabled 7 (forms.Int ∷ forms.Int ∷ forms.Int ∷ []) (λ xs. is_none (decimal_in xs)) (λ xs. unwrap_or (decimal_in xs) (tags.decimal decimals.ThirtyTwo 1 (pos 0)))
 -- unit (MILLISECOND)
 type_row codes.Date = tabled 8 (forms.Short ∷ []) (λ xs. is_none (date_unit (number_at 0 1 xs))) (λ xs. tags.date (unwrap_or (date_unit (number_at 0 1 xs)) dates.Day))
 -- unit (MILLISECOND), bitWidth (32)
@@ -97,7 +111,7 @@ type_row codes.LargeList = bare 21 (Some 1) tags.large_list
 -- all of them
 abbrev all_types : List TypeCode
 all_types =
-    codes.Null ∷ codes.Int ∷ codes.FloatingPoint ∷ codes.Binary ∷ codes.Utf8 ∷ codes.Bool ∷ codes.Date ∷ codes.Time ∷ codes.Timestamp ∷
+    codes.Null ∷ codes.Int ∷ codes.FloatingPoint ∷ codes.Binary ∷ codes.Utf8 ∷ codes.Bool ∷ codes.Decimal ∷ codes.Date ∷ codes.Time ∷ codes.Timestamp ∷
     codes.Interval ∷ codes.List ∷ codes.Struct ∷ codes.FixedSizeBinary ∷ codes.Map ∷ codes.Duration ∷ codes.LargeBinary ∷ codes.LargeUtf8 ∷ codes.LargeList ∷ []
 
 -- the first of these types that has this number
@@ -120,6 +134,7 @@ code_of tags.null = codes.Null
 code_of tags.boolean = codes.Bool
 code_of (tags.int bits signed) = codes.Int
 code_of (tags.floating_point precision) = codes.FloatingPoint
+code_of (tags.decimal width precision scale) = codes.Decimal
 code_of tags.binary = codes.Binary
 code_of tags.large_binary = codes.LargeBinary
 code_of (tags.fixed_size_binary width) = codes.FixedSizeBinary

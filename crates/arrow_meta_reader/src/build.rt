@@ -85,6 +85,7 @@ fn meta_fault(body_len: u64, fault: SchemaFault) -> MetaFault
         SchemaFault::ByteWidth => MetaFault::Schema { body_len },
         SchemaFault::TooManyPairs => MetaFault::Metadata,
         SchemaFault::MapEntries => MetaFault::Schema { body_len },
+        SchemaFault::DecimalRange => MetaFault::Schema { body_len },
     }
 }
 

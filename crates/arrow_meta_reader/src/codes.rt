@@ -1,10 +1,11 @@
 //! The numbers that stand for versions, headers, types, widths and units (`Message.fbs`, `Schema.fbs`).
 ghost use Rattle.std.specs.Prelude.{◌≡◌};
 ghost use Rattle.arrow_meta_reader.specs.Codes.{metadata_version, header_kind};
-ghost use Rattle.arrow_meta_reader.specs.Codes.{bit_width, byte_width, date_unit, interval_unit, precision, time_unit};
+ghost use Rattle.arrow_meta_reader.specs.Codes.{bit_width, byte_width, date_unit, decimal_scale, decimal_width};
+ghost use Rattle.arrow_meta_reader.specs.Codes.{interval_unit, precision, time_unit};
 
 use crate::message::MetadataVersion;
-use arrow_types::{BitWidth, DateUnit, IntervalUnit, Precision, Schema, TimeUnit};
+use arrow_types::{BitWidth, DateUnit, DecimalWidth, IntervalUnit, Precision, Schema, TimeUnit};
 
 /// The version of this number, None outside the profile: 0 is V1, 1 is V2 and 2 is V3.
 pub(crate) fn metadata_version(number: u64) -> Option<MetadataVersion>
@@ -49,6 +50,7 @@ pub(crate) enum TypeCode {
     Binary,
     Utf8,
     Bool,
+    Decimal,
     Date,
     Time,
     Timestamp,
@@ -100,6 +102,27 @@ pub(crate) fn byte_width(bytes: u64) -> Option<u32>
     } else {
         None
     }
+}
+
+/// The width of a decimal of this many bits.
+pub(crate) fn decimal_width(bits: u64) -> Option<DecimalWidth>
+    ensures width { result ≡ decimal_width bits }
+{
+    match bits {
+        32 => Some(DecimalWidth::ThirtyTwo),
+        64 => Some(DecimalWidth::SixtyFour),
+        128 => Some(DecimalWidth::OneHundredTwentyEight),
+        256 => Some(DecimalWidth::TwoHundredFiftySix),
+        // a number that is no decimal's width
+        _ => None,
+    }
+}
+
+/// The scale of a decimal: 32 bits with a sign. No field of 4 bytes has more of them.
+pub(crate) fn decimal_scale(bits: u64) -> i32
+    ensures scale { result ≡ decimal_scale bits }
+{
+    ((bits % 4_294_967_296) as u32).cast_signed()
 }
 
 /// The unit of a date.

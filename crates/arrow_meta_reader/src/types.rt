@@ -13,21 +13,24 @@ ghost use Rattle.arrow_meta_reader.specs.Parts.{flag_at, number_at};
 ghost use Rattle.arrow_meta_reader.specs.SchemaMeaning.{tag_by};
 ghost use Rattle.arrow_meta_reader.specs.Sharing.{lent_bytes};
 ghost use Rattle.arrow_meta_reader.specs.Trees.{none};
-ghost use Rattle.arrow_meta_reader.specs.Types.{is_time, sign_in, taken, time_in, type_code, type_row, width_in};
+ghost use Rattle.arrow_meta_reader.specs.Types.{decimal_in, is_time, sign_in, taken, time_in, type_code};
+ghost use Rattle.arrow_meta_reader.specs.Types.{type_row, width_in};
 ghost use Rattle.arrow_meta_reader.specs.Views.{plain_all};
+ghost use Rattle.arrow_types.specs.DataType.{decimal};
 ghost use Rattle.arrow_types.specs.Field.{none as empty};
 ghost use Rattle.arrow_types.specs.Notes.{unnoted};
 ghost use Rattle.arrow_types.specs.View.{fields_view, notes_view, type_notes, type_view};
 
 use crate::codes::{
-    TypeCode, bit_width, byte_width, date_unit, interval_unit, precision, time_unit,
+    TypeCode, bit_width, byte_width, date_unit, decimal_scale, decimal_width, interval_unit,
+    precision, time_unit,
 };
 use crate::fields::FieldFault;
 use crate::kinds::FieldForm;
 use crate::message_tree::Tree;
 use crate::parts::{flag_at, into_some_text, number_at, some_text_at, take};
 use arrow_types::{
-    BitWidth, DataType, DateUnit, Field, IntervalUnit, Precision, TimeUnit, TypeSet,
+    BitWidth, DataType, DateUnit, DecimalWidth, Field, IntervalUnit, Precision, TimeUnit, TypeSet,
 };
 use std::alloc::Global;
 
@@ -35,8 +38,11 @@ use std::alloc::Global;
 /// `keysSorted`.
 const FIRST: u16 = 0;
 
-/// The second one: `is_signed` of an Int, `bitWidth` of a Time, `timezone`.
+/// The second one: `is_signed` of an Int, `scale`, `bitWidth` of a Time, `timezone`.
 const SECOND: u16 = 1;
+
+/// The third one: `bitWidth` of a Decimal.
+const THIRD: u16 = 2;
 
 /// The type that a number names, None outside the profile.
 pub(crate) fn type_code(number: u64) -> Option<TypeCode>
@@ -49,6 +55,7 @@ pub(crate) fn type_code(number: u64) -> Option<TypeCode>
         4 => TypeCode::Binary,
         5 => TypeCode::Utf8,
         6 => TypeCode::Bool,
+        7 => TypeCode::Decimal,
         8 => TypeCode::Date,
         9 => TypeCode::Time,
         10 => TypeCode::Timestamp,
@@ -71,7 +78,10 @@ pub(crate) fn taken(types: TypeSet, code: Option<TypeCode>) -> Option<TypeCode>
     ensures code { result ≡ taken types code }
 {
     match (code, types) {
-        (Some(TypeCode::FloatingPoint | TypeCode::Interval | TypeCode::Map), TypeSet::Core) => None,
+        (
+            Some(TypeCode::FloatingPoint | TypeCode::Decimal | TypeCode::Interval | TypeCode::Map),
+            TypeSet::Core,
+        ) => None,
         (code, _) => code,
     }
 }
@@ -80,12 +90,13 @@ pub(crate) fn taken(types: TypeSet, code: Option<TypeCode>) -> Option<TypeCode>
 /// are none the table is not opened.
 pub(crate) fn type_fields(code: TypeCode) -> &'static [FieldForm]
     ensures value { result.now ≡ (type_row code).fields }
-    ensures few { length result.now ≤ 2 }
+    ensures few { length result.now ≤ 3 }
 {
     use FieldForm::{Byte, Int, Short, Text};
     match code {
         TypeCode::Int => &[Int, Byte],
         TypeCode::FloatingPoint => &[Short],
+        TypeCode::Decimal => &[Int, Int, Int],
         TypeCode::Date => &[Short],
         TypeCode::Time => &[Short, Int],
         TypeCode::Timestamp => &[Short, Text],
@@ -108,13 +119,15 @@ pub(crate) fn children_fit(code: Option<TypeCode>, count: usize) -> bool
     }
 }
 
-/// Whether a type's table with these fields holds a width or a unit that no type has.
+/// Whether a type's table with these fields holds a width or a unit that no type has, or a precision
+/// or a scale that no decimals of its width have.
 pub(crate) fn is_type_misfit(code: TypeCode, parts: &[Tree]) -> bool
     ensures misfit { result ≡ (type_row code).is_misfit (plain_all parts.now) }
 {
     match code {
         TypeCode::Int => bit_width(number_at(parts, FIRST, 0)).is_none(),
         TypeCode::FloatingPoint => precision(number_at(parts, FIRST, 0)).is_none(),
+        TypeCode::Decimal => decimal_in(parts).is_none(),
         TypeCode::Date => date_unit(number_at(parts, FIRST, 1)).is_none(),
         TypeCode::Time => {
             let unit = time_unit(number_at(parts, FIRST, 1));
@@ -146,6 +159,7 @@ pub(crate) fn data_type(
         Some(TypeCode::Binary) => childless(DataType::Binary, children),
         Some(TypeCode::Utf8) => childless(DataType::Utf8, children),
         Some(TypeCode::Bool) => childless(DataType::Bool, children),
+        Some(TypeCode::Decimal) => childless(decimal_type(&parts), children),
         Some(TypeCode::Date) => childless(DataType::Date(date_in(&parts)), children),
         Some(TypeCode::Time) => childless(DataType::Time(time_in(&parts, 1)), children),
         Some(TypeCode::Timestamp) => childless(timestamp_type(parts), children),
@@ -171,6 +185,7 @@ pub(crate) fn same_part(code: TypeCode, one: &[Tree], other: &[Tree]) -> bool
     match code {
         TypeCode::Int => { width_in(one) == width_in(other) && sign_in(one) == sign_in(other) }
         TypeCode::FloatingPoint => precision_in(one) == precision_in(other),
+        TypeCode::Decimal => decimal_or_other(one) == decimal_or_other(other),
         TypeCode::Date => date_in(one) == date_in(other),
         TypeCode::Time | TypeCode::Duration => time_in(one, 1) == time_in(other, 1),
         TypeCode::Timestamp => {
@@ -268,6 +283,23 @@ fn int_type(parts: &[Tree]) -> DataType
     }
 }
 
+fn decimal_type(parts: &[Tree]) -> DataType
+    ensures decimal { type_view result
+        ≡ leaf_type (tag_by (Some TypeCode.Decimal) (plain_all parts.now)) }
+    ensures notes { type_notes result ≡ unnoted }
+{
+    let Decimal {
+        width,
+        precision,
+        scale,
+    } = decimal_or_other(parts);
+    DataType::Decimal {
+        width,
+        precision,
+        scale,
+    }
+}
+
 fn timestamp_type(mut parts: Vec<Tree>) -> DataType
     ensures timestamp { type_view result
         ≡ leaf_type (tag_by (Some TypeCode.Timestamp) (plain_all parts.items)) }
@@ -298,6 +330,45 @@ fn precision_in(parts: &[Tree]) -> Precision
         ≡ unwrap_or (precision (number_at 0 0 (plain_all parts.now))) Precision.Half }
 {
     precision(number_at(parts, FIRST, 0)).unwrap_or(Precision::Half)
+}
+
+/// What a Decimal table says.
+#[derive(Clone, Copy, PartialEq, Eq)]
+struct Decimal {
+    width: DecimalWidth,
+    precision: u8,
+    scale: i8,
+}
+
+/// What a Decimal table with these fields says, if its width allows its precision and its scale.
+fn decimal_in(parts: &[Tree]) -> Option<Decimal>
+    ensures decimal { option_map (λ d. decimal d.width d.precision d.scale) result
+        ≡ decimal_in (plain_all parts.now) }
+{
+    let width = decimal_width(number_at(parts, THIRD, 128))?;
+    let precision = u8::try_from(number_at(parts, FIRST, 0)).ok()?;
+    let scale = i8::try_from(decimal_scale(number_at(parts, SECOND, 0))).ok()?;
+    if width.allows(precision, scale) {
+        Some(Decimal {
+            width,
+            precision,
+            scale,
+        })
+    } else {
+        None
+    }
+}
+
+/// The same, or some decimals or other where the width does not allow them.
+fn decimal_or_other(parts: &[Tree]) -> Decimal
+    ensures decimal { decimal result.width result.precision result.scale
+        ≡ tag_by (Some TypeCode.Decimal) (plain_all parts.now) }
+{
+    decimal_in(parts).unwrap_or(Decimal {
+        width: DecimalWidth::ThirtyTwo,
+        precision: 1,
+        scale: 0,
+    })
 }
 
 /// The unit that a Date table with these fields says.

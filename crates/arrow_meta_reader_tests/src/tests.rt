@@ -5,6 +5,7 @@
 //! metadata at places counted from its first byte.
 
 mod counts;
+mod decimals;
 mod hostile;
 mod messages;
 mod reading;

@@ -9,7 +9,6 @@ use Rattle.arrow_types.specs.DataType.{Tag}
 use Rattle.arrow_types.specs.Field as columns
 use Rattle.arrow_types.specs.Field.{Head, Fields, width}
 use Rattle.arrow_types.specs.Notes.{KeyValue, Notes, unnoted, noted, SchemaShape}
-use Rattle.arrow_types.specs.Schema.{is_wide, is_too_wide}
 use Rattle.arrow_types.specs.TypeSet.{leaves_out, leaves_some_out}
 use Rattle.arrow_types.specs.declared.data_type.BitWidth.TheVariants as widths
 use Rattle.arrow_types.specs.declared.type_set.TypeSet.{TypeSet}
@@ -29,6 +28,7 @@ use Rattle.arrow_meta_reader.specs.SchemaMeaning.{metadata_from, metadata_in, no
 use Rattle.arrow_meta_reader.specs.Trees.{Trees}
 use Rattle.arrow_meta_writer.specs.Writable.{IsLong, HasLongId, AreFields, AreNodes, AreBuffers}
 use Rattle.arrow_meta_writer.specs.Writable.{AreNotesOf, IsBatch, IsHeader, leaves_header_out}
+use Rattle.arrow_meta_writer.proofs.Flawless.{AreFlawless, IsFlawless, below_flawless, first_flawless, rest_flawless}
 use Rattle.arrow_meta_writer.proofs.TypeRows.{flag_again, width_again, tag_of_all}
 use Rattle.arrow_meta_writer.proofs.TypeTrees.{opened_in}
 use Rattle.arrow_meta_writer.specs.Written.{type_tree, encoding_tree, field_parts, field_trees}
@@ -40,8 +40,8 @@ long_again (pos n) h = to_z-of_z w64 (pos n) (record { sfits = h })
 long_again (negsuc n) h = to_z-of_z w64 (negsuc n) (record { sfits = h })
 
 -- a type
-tag_again : (types : TypeSet) (tag : Tag) → is_wide tag ≡ false → leaves_out types tag ≡ false → tag_by (type_code (tag_code tag)) (parts (type_tree types tag)) ≡ tag
-tag_again types tag narrow within = ap (λ tree. tag_by (type_code (tag_code tag)) (parts tree)) (opened_in types tag within) ∙ tag_of_all tag narrow
+tag_again : (types : TypeSet) (tag : Tag) (children : Fields) → IsFlawless tag children → leaves_out types tag ≡ false → tag_by (type_code (tag_code tag)) (parts (type_tree types tag)) ≡ tag
+tag_again types tag children flawless within = ap (λ tree. tag_by (type_code (tag_code tag)) (parts tree)) (opened_in types tag within) ∙ tag_of_all tag children flawless
 
 -- an encoding
 encoding_again : (e : Option Encoding) → HasLongId e → encoding_in (encoding_tree e) ≡ e
@@ -53,24 +53,25 @@ encoding_again (Some e) h = λ i. Some (record {
 })
 
 -- a field without its children
-head_again : (types : TypeSet) (head : Head) (ps : List KeyValue) (below : Trees) → HasLongId head.encoding → is_wide head.tag ≡ false → leaves_out types head.tag ≡ false → head_of (field_parts types head ps below) ≡ head
-head_again types head ps below h narrow within = λ i. record {
+head_again : (types : TypeSet) (head : Head) (children : Fields) (ps : List KeyValue) (below : Trees) → HasLongId head.encoding → IsFlawless head.tag children → leaves_out types head.tag ≡ false → head_of (field_parts types head ps below) ≡ head
+head_again types head children ps below h flawless within = λ i. record {
   name = head.name;
   nullable = flag_again head.nullable i;
-  tag = tag_again types head.tag narrow within i;
+  tag = tag_again types head.tag children flawless within i;
   encoding = encoding_again head.encoding h i;
 }
 
 -- the fields of a vector
-pub fields_again : (types : TypeSet) (fields : Fields) (n : Notes) → AreFields fields → is_too_wide fields ≡ false → leaves_some_out types fields ≡ false → fields_from (field_trees types fields n) ≡ fields
-fields_again types columns.none n h narrow within = refl
-fields_again types (columns.more head children rest) n h narrow within =
+pub fields_again : (types : TypeSet) (fields : Fields) (n : Notes) → AreFields fields → AreFlawless fields → leaves_some_out types fields ≡ false → fields_from (field_trees types fields n) ≡ fields
+fields_again types columns.none n h flawless within = refl
+fields_again types (columns.more head children rest) n h flawless within =
     let in_all = or_parts (leaves_out types head.tag || leaves_some_out types children) (leaves_some_out types rest) within in
     let in_own = or_parts (leaves_out types head.tag) (leaves_some_out types children) in_all.0 in
-    let both = or_parts (is_wide head.tag || is_too_wide children) (is_too_wide rest) narrow in
-    let own = or_parts (is_wide head.tag) (is_too_wide children) both.0 in
-    let below = field_trees types children (first_below n) in
-    λ i. columns.more (head_again types head (first_pairs n) below h.0.id own.0 in_own.0 i) (fields_again types children (first_below n) h.1 own.1 in_own.1 i) (fields_again types rest (first_rest n) h.2 both.1 in_all.1 i)
+    let own = first_flawless head children rest flawless in
+    let below = below_flawless head children rest flawless in
+    let later = rest_flawless head children rest flawless in
+    let trees = field_trees types children (first_below n) in
+    λ i. columns.more (head_again types head children (first_pairs n) trees h.0.id own in_own.0 i) (fields_again types children (first_below n) h.1 below in_own.1 i) (fields_again types rest (first_rest n) h.2 later in_all.1 i)
 
 -- the pairs of a vector
 pairs_again : (ps : List KeyValue) → metadata_from (pair_trees ps) ≡ ps
@@ -93,7 +94,7 @@ notes_again types (columns.more head children rest) (noted ps below later) h =
 -- a schema
 schema_again : (types : TypeSet) (s : SchemaShape) → IsHeader (schema s) → leaves_some_out types s.fields ≡ false → schema_in (schema_parts types s) ≡ s
 schema_again types s h within = λ i. record {
-  fields = fields_again types s.fields s.notes h.1.fields_are h.0.schema.bounded.narrow within i;
+  fields = fields_again types s.fields s.notes h.1.fields_are h.0.schema.bounded.flawless within i;
   pairs = metadata_again s.pairs i;
   notes = notes_again types s.fields s.notes h.1.notes_are i;
 }

@@ -7,8 +7,9 @@ use Rattle.arrow_types.specs.DataType.{Tag}
 use Rattle.arrow_types.specs.Field as columns
 use Rattle.arrow_types.specs.Field.{Head, Fields, width}
 use Rattle.arrow_types.specs.Notes.{KeyValue, Notes}
-use Rattle.arrow_types.specs.Schema.{is_nested, is_wide, is_too_wide, lacks_entries, some_lack_entries, types_differ, dictionary_fields}
+use Rattle.arrow_types.specs.Schema.{is_nested, lacks_entries, types_differ, dictionary_fields}
 use Rattle.arrow_types.specs.TypeSet.{leaves_out, leaves_some_out}
+use Rattle.arrow_types.specs.declared.schema.SchemaFault.TheVariants.{MapEntries}
 use Rattle.arrow_types.specs.declared.type_set.TypeSet.{TypeSet}
 use Rattle.arrow_types.specs.declared.field.Encoding.{Encoding}
 use Rattle.arrow_meta_reader.specs.declared.kinds.TableKind.{TableKind}
@@ -31,6 +32,7 @@ use Rattle.arrow_meta_writer.specs.Writable.{IsField, AreFields, IsHeader, leave
 use Rattle.arrow_meta_writer.specs.Written.{type_tree, encoding_tree, field_parts, field_trees}
 use Rattle.arrow_meta_writer.specs.Written.{header_tree, message_parts, pair_tree, pair_trees, metadata_tree}
 use Rattle.arrow_meta_writer.proofs.Again.{fields_again}
+use Rattle.arrow_meta_writer.proofs.Flawless.{AreFlawless, IsFlawless, below_flawless, first_flawless, rest_flawless}
 use Rattle.arrow_meta_writer.proofs.TypeRows.{width_again, fitting_all}
 use Rattle.arrow_meta_writer.proofs.TypeTrees.{whole_type, has_type, supported_type, known_type, opened_or_none}
 use Rattle.arrow_types.proofs.Clashes.{none_differ}
@@ -94,10 +96,10 @@ all_supported types (columns.more head children rest) n =
 
 -- Nothing is a misfit.
 
-fitting_type : (types : TypeSet) (tag : Tag) → is_wide tag ≡ false → any is_misfit (type_tree types tag) ≡ false
-fitting_type types tag narrow = elim (opened_or_none types tag) [
+fitting_type : (types : TypeSet) (tag : Tag) (children : Fields) → IsFlawless tag children → any is_misfit (type_tree types tag) ≡ false
+fitting_type types tag children flawless = elim (opened_or_none types tag) [
   | inl absent ↦ ap (any is_misfit) absent
-  | inr same ↦ ap (any is_misfit) same ∙ fitting_all tag narrow
+  | inr same ↦ ap (any is_misfit) same ∙ fitting_all tag children flawless
 ]
 
 fitting_encoding : (e : Option Encoding) → any is_misfit (encoding_tree e) ≡ false
@@ -109,28 +111,26 @@ fitting_entries : (tag : Tag) (children : Fields) → lacks_entries tag children
 fitting_entries (tags.map sorted) children mapped = mapped
 fitting_entries tag children mapped = refl
 
-fitting_field : (types : TypeSet) (head : Head) (ps : List KeyValue) (children : Fields) (n : Notes) → IsField head children → AreFields children → is_too_wide children ≡ false → lacks_entries head.tag children ≡ false
+fitting_field : (types : TypeSet) (head : Head) (ps : List KeyValue) (children : Fields) (n : Notes) → IsField head children → AreFields children → IsFlawless head.tag children → AreFlawless children
     → leaves_some_out types children ≡ false → is_misfit (kinds.Field types) (field_parts types head ps (field_trees types children n)) ≡ false
-fitting_field types head ps children n h below narrow mapped within =
+fitting_field types head ps children n h below own flawless within =
     let code = type_code (tag_code head.tag) in
-    let again = fields_again types children n below narrow within in
+    let again = fields_again types children n below flawless within in
     let fits : children_fit code (width (fields_from (field_trees types children n))) ≡ true = ap (λ fs. children_fit code (width fs)) again ∙ h.fits in
-    let entries : not (entries_fit code (fields_from (field_trees types children n))) ≡ false = ap (λ fs. not (entries_fit code fs)) again ∙ fitting_entries head.tag children mapped in
+    let entries : not (entries_fit code (fields_from (field_trees types children n))) ≡ false = ap (λ fs. not (entries_fit code fs)) again ∙ fitting_entries head.tag children (own MapEntries) in
     or_from _ _ (ap not fits) entries
 
-all_fitting : (types : TypeSet) (fields : Fields) (n : Notes) → AreFields fields → is_too_wide fields ≡ false → some_lack_entries fields ≡ false → leaves_some_out types fields ≡ false → any_in is_misfit (field_trees types fields n) ≡ false
-all_fitting types columns.none n h narrow mapped within = refl
-all_fitting types (columns.more head children rest) n h narrow mapped within =
+all_fitting : (types : TypeSet) (fields : Fields) (n : Notes) → AreFields fields → AreFlawless fields → leaves_some_out types fields ≡ false → any_in is_misfit (field_trees types fields n) ≡ false
+all_fitting types columns.none n h flawless within = refl
+all_fitting types (columns.more head children rest) n h flawless within =
     let in_all = or_parts (leaves_out types head.tag || leaves_some_out types children) (leaves_some_out types rest) within in
     let in_own = or_parts (leaves_out types head.tag) (leaves_some_out types children) in_all.0 in
-    let both = or_parts (is_wide head.tag || is_too_wide children) (is_too_wide rest) narrow in
-    let own = or_parts (is_wide head.tag) (is_too_wide children) both.0 in
-    let mapped_all = or_parts (lacks_entries head.tag children || some_lack_entries children) (some_lack_entries rest) mapped in
-    let mapped_own = or_parts (lacks_entries head.tag children) (some_lack_entries children) mapped_all.0 in
+    let own = first_flawless head children rest flawless in
+    let inner = below_flawless head children rest flawless in
     let ps = first_pairs n in
     let below = first_below n in
-    let here = field_passes types is_misfit head ps (field_trees types children below) (fitting_field types head ps children below h.0 h.1 own.1 mapped_own.0 in_own.1) (fitting_type types head.tag own.0) (fitting_encoding head.encoding) (all_fitting types children below h.1 own.1 mapped_own.1 in_own.1) (metadata_pass is_misfit (λ xs. refl) ps) in
-    let later = all_fitting types rest (first_rest n) h.2 both.1 mapped_all.1 in_all.1 in
+    let here = field_passes types is_misfit head ps (field_trees types children below) (fitting_field types head ps children below h.0 h.1 own inner in_own.1) (fitting_type types head.tag children own) (fitting_encoding head.encoding) (all_fitting types children below h.1 inner in_own.1) (metadata_pass is_misfit (λ xs. refl) ps) in
+    let later = all_fitting types rest (first_rest n) h.2 (rest_flawless head children rest flawless) in_all.1 in
     rw (here, later) refl
 
 -- The body's length is neither negative nor over the limit.
@@ -153,8 +153,8 @@ sound_header types max n version (schema s) h within low small =
     let length = good_length max n low small in
     let lacks = lacks_none types fields s.notes in
     let supported = all_supported types fields s.notes ∙ within in
-    let fitting = all_fitting types fields s.notes h.1.fields_are is.bounded.narrow is.bounded.mapped within in
-    let again = fields_again types fields s.notes h.1.fields_are is.bounded.narrow within in
+    let fitting = all_fitting types fields s.notes h.1.fields_are is.bounded.flawless within in
+    let again = fields_again types fields s.notes h.1.fields_are is.bounded.flawless within in
     let flat : is_nested (fields_from (field_trees types fields s.notes)) ≡ false = ap is_nested again ∙ is.bounded.flat in
     let shared : types_differ (dictionary_fields (fields_from (field_trees types fields s.notes))) ≡ false = ap (λ fs. types_differ (dictionary_fields fs)) again ∙ none_differ (dictionary_fields fields) is.one_type in
     let lacks_noted = metadata_pass lacks_table (λ xs. refl) s.pairs in

@@ -1,8 +1,7 @@
 -- What a message is laid out as can be written.
-use Rattle.std.proofs.Common.{◌≡◌, ◌+◌, ◌^◌, ◌<◌, ◌≤◌, ℤ, pos, negsuc, false, ◌||◌, List, [], ◌∷◌}
+use Rattle.std.proofs.Common.{◌≡◌, ◌+◌, ◌^◌, ◌<◌, ◌≤◌, ℤ, pos, negsuc, List, [], ◌∷◌}
 use Rattle.std.proofs.Common.{map, Option, Some, None, ap, arith}
 use Rattle.std.specs.Int.{cast_signed, cast_unsigned, w64}
-use Rattle.std.proofs.lemmas.Bool.{or_parts}
 use Rattle.std.proofs.lemmas.Int.{to_z-of_z}
 use mir.Val.{SFits}
 use Rattle.arrow_flatbuf.specs.Nodes.{Cells, NodeFits, NodesFit, CellsFit, PairsFit}
@@ -12,7 +11,6 @@ use Rattle.arrow_types.specs.DataType.{Tag, bits_of, time_width_of}
 use Rattle.arrow_types.specs.Field as columns
 use Rattle.arrow_types.specs.Field.{Head, Fields}
 use Rattle.arrow_types.specs.Notes.{KeyValue, Notes}
-use Rattle.arrow_types.specs.Schema.{is_wide, is_too_wide}
 use Rattle.arrow_types.specs.declared.field.Encoding.{Encoding}
 use Rattle.arrow_types.specs.declared.node.FieldNode.{FieldNode}
 use Rattle.arrow_types.specs.declared.node.Buffer.{Buffer}
@@ -27,6 +25,7 @@ use Rattle.arrow_meta_writer.specs.Layouts.{batch_cells, header_code, header_cel
 use Rattle.arrow_meta_reader.specs.Means.{PlainBatch, PlainHeader, schema, dictionary, batch, PlainMessage}
 use Rattle.arrow_meta_writer.specs.Writable.{IsLong, HasLongId, AreFields, AreNodes}
 use Rattle.arrow_meta_writer.specs.Writable.{AreBuffers, IsBatch, IsHeader}
+use Rattle.arrow_meta_writer.proofs.Flawless.{AreFlawless, below_flawless, first_flawless, rest_flawless}
 use Rattle.arrow_meta_writer.proofs.TypeRows.{flag_fits, int_fits, type_fits}
 
 pub long_fits : (z : ℤ) → IsLong z → cast_unsigned w64 z < 2 ^ 64
@@ -68,11 +67,12 @@ pub metadata_count : (ps : List KeyValue) → laid.count (metadata_cells ps) ≤
 metadata_count [] = omega arith
 metadata_count (p ∷ ps) = omega arith
 
-fields_fit : (fields : Fields) (n : Notes) → AreFields fields → is_too_wide fields ≡ false → NodesFit (field_nodes fields n)
-fields_fit columns.none n h narrow = tt
-fields_fit (columns.more head children rest) n h narrow =
-    let both = or_parts (is_wide head.tag || is_too_wide children) (is_too_wide rest) narrow in
-    let own = or_parts (is_wide head.tag) (is_too_wide children) both.0 in
+fields_fit : (fields : Fields) (n : Notes) → AreFields fields → AreFlawless fields → NodesFit (field_nodes fields n)
+fields_fit columns.none n h flawless = tt
+fields_fit (columns.more head children rest) n h flawless =
+    let own = first_flawless head children rest flawless in
+    let below = below_flawless head children rest flawless in
+    let later = rest_flawless head children rest flawless in
     let last : Cells = laid.offset (laid.tables (field_nodes children (first_below n))) (metadata_cells (first_pairs n)) in (
       (
         omega (arith, with_encoding_count head.encoding last, metadata_count (first_pairs n)),
@@ -83,14 +83,14 @@ fields_fit (columns.more head children rest) n h narrow =
             (
               code_fits head.tag,
               (
-                type_fits head.tag h.0.zone own.0,
-                encoding_fits head.encoding last h.0.id (fields_fit children (first_below n) h.1 own.1, metadata_fits (first_pairs n)),
+                type_fits head.tag children h.0.zone own,
+                encoding_fits head.encoding last h.0.id (fields_fit children (first_below n) h.1 below, metadata_fits (first_pairs n)),
               ),
             ),
           ),
         ),
       ),
-      fields_fit rest (first_rest n) h.2 both.1,
+      fields_fit rest (first_rest n) h.2 later,
     )
 
 nodes_fit : (ns : List FieldNode) → AreNodes ns → PairsFit (map node_pair ns)
@@ -106,7 +106,7 @@ batch_fits b h = (omega arith, (long_fits b.length h.length, (nodes_fit b.nodes 
 
 header_fits : (x : PlainHeader) → IsHeader x → NodeFits (laid.table (header_cells x))
 header_fits (schema s) h =
-    (omega (arith, metadata_count s.pairs), (omega arith, (fields_fit s.fields s.notes h.1.fields_are h.0.schema.bounded.narrow, metadata_fits s.pairs)))
+    (omega (arith, metadata_count s.pairs), (omega arith, (fields_fit s.fields s.notes h.1.fields_are h.0.schema.bounded.flawless, metadata_fits s.pairs)))
 header_fits (dictionary id delta b) h = (omega arith, (long_fits id h.0, (batch_fits b h.1, (flag_fits delta, tt))))
 header_fits (batch b) h = batch_fits b h
 

@@ -1,5 +1,7 @@
 pub mod Standing
 pub mod TypeTrees
+pub mod Flawless
+pub mod Decimals
 pub mod TypeRows
 pub mod StandingMessages
 pub mod Again

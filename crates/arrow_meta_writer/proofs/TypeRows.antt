@@ -1,23 +1,25 @@
 -- Of each type, that what is written of its table can be written, is no misfit, and says the type again: a row each, by the
 -- numbers of its widths and units.
-use Rattle.std.proofs.Common.{◌≡◌, ◌<◌, Bool, true, false, not, ◌==◌, if◌then◌else◌, Some, None, refl, ap, arith}
-use Rattle.std.specs.Option.{unwrap_or}
-use Rattle.std.proofs.lemmas.Bool.{ltb-false}
+use Rattle.std.proofs.Common.{◌≡◌, ◌<◌, pos, Bool, true, false, not, ◌||◌, ◌==◌, if◌then◌else◌, Some, None, refl, ap, arith}
+use Rattle.std.specs.Option.{is_none, unwrap_or}
+use Rattle.std.proofs.lemmas.Bool.{ltb-false, not-false}
 use Rattle.arrow_flatbuf.specs.Nodes.{NodeFits}
 use Rattle.arrow_flatbuf.specs.Nodes as laid
 use Rattle.arrow_types.specs.DataType as tags
-use Rattle.arrow_types.specs.DataType.{Tag, bits_of, time_width_of}
-use Rattle.arrow_types.specs.Schema.{is_wide}
+use Rattle.arrow_types.specs.DataType.{Tag, bits_of, is_decimal, time_width_of}
+use Rattle.arrow_types.specs.Field.{Fields}
 use Rattle.arrow_types.specs.declared.data_type.BitWidth.{BitWidth}
 use Rattle.arrow_types.specs.declared.data_type.BitWidth.TheVariants as widths
 use Rattle.arrow_types.specs.declared.data_type.DateUnit.{DateUnit}
 use Rattle.arrow_types.specs.declared.data_type.DateUnit.TheVariants as dates
+use Rattle.arrow_types.specs.declared.data_type.DecimalWidth.TheVariants as decimals
 use Rattle.arrow_types.specs.declared.data_type.IntervalUnit.{IntervalUnit}
 use Rattle.arrow_types.specs.declared.data_type.IntervalUnit.TheVariants as intervals
 use Rattle.arrow_types.specs.declared.data_type.Precision.{Precision}
 use Rattle.arrow_types.specs.declared.data_type.Precision.TheVariants as precisions
 use Rattle.arrow_types.specs.declared.data_type.TimeUnit.{TimeUnit}
 use Rattle.arrow_types.specs.declared.data_type.TimeUnit.TheVariants as times
+use Rattle.arrow_types.specs.declared.schema.SchemaFault.TheVariants.{ByteWidth, DecimalRange}
 use Rattle.arrow_types.specs.declared.type_set.TypeSet.TheVariants.{All}
 use Rattle.arrow_meta_reader.specs.Codes.{bit_width, date_unit, interval_unit, precision, time_unit}
 use Rattle.arrow_meta_reader.specs.Conditions.{any, is_misfit}
@@ -27,6 +29,8 @@ use Rattle.arrow_meta_reader.specs.Types.{is_time, type_code}
 use Rattle.arrow_meta_writer.specs.Layouts.{flag, tag_code, int_cells, type_cells, date_number, interval_number, precision_number, time_number}
 use Rattle.arrow_meta_writer.specs.Writable.{HasTextZone}
 use Rattle.arrow_meta_writer.specs.Written.{type_tree}
+use Rattle.arrow_meta_writer.proofs.Decimals.{decimal_again, decimal_bits_fit, precision_fits as digits_fit, scale_fits}
+use Rattle.arrow_meta_writer.proofs.Flawless.{IsFlawless}
 
 -- The number of a width or a unit is read as the same again.
 
@@ -100,45 +104,52 @@ interval_fits intervals.DayTime = omega arith
 interval_fits intervals.MonthDayNano = omega arith
 
 -- a type's table says the type again
-pub tag_of_all : (tag : Tag) → is_wide tag ≡ false → tag_by (type_code (tag_code tag)) (parts (type_tree All tag)) ≡ tag
-tag_of_all (tags.int bits signed) narrow = λ i. tags.int (unwrap_or (width_again bits i) widths.Eight) (flag_again signed i)
-tag_of_all (tags.floating_point precision) narrow = ap (λ p. tags.floating_point (unwrap_or p precisions.Half)) (precision_again precision)
-tag_of_all (tags.date unit) narrow = ap (λ u. tags.date (unwrap_or u dates.Day)) (date_again unit)
-tag_of_all (tags.time unit) narrow = ap (λ u. tags.time (unwrap_or u times.Second)) (time_again unit)
-tag_of_all (tags.timestamp unit None) narrow = ap (λ u. tags.timestamp (unwrap_or u times.Second) None) (time_again unit)
-tag_of_all (tags.timestamp unit (Some zone)) narrow = ap (λ u. tags.timestamp (unwrap_or u times.Second) (Some zone)) (time_again unit)
-tag_of_all (tags.fixed_size_binary width) narrow = ap (λ b. tags.fixed_size_binary (unwrap_or (if b then None else Some width) 0)) narrow
-tag_of_all (tags.duration unit) narrow = ap (λ u. tags.duration (unwrap_or u times.Second)) (time_again unit)
-tag_of_all (tags.map sorted) narrow = ap tags.map (flag_again sorted)
-tag_of_all (tags.interval unit) narrow = ap (λ u. tags.interval (unwrap_or u intervals.YearMonth)) (interval_again unit)
-tag_of_all tag narrow = refl
+pub tag_of_all : (tag : Tag) (children : Fields) → IsFlawless tag children → tag_by (type_code (tag_code tag)) (parts (type_tree All tag)) ≡ tag
+tag_of_all (tags.int bits signed) children flawless = λ i. tags.int (unwrap_or (width_again bits i) widths.Eight) (flag_again signed i)
+tag_of_all (tags.floating_point precision) children flawless = ap (λ p. tags.floating_point (unwrap_or p precisions.Half)) (precision_again precision)
+tag_of_all (tags.decimal width precision scale) children flawless =
+    ap (λ t. unwrap_or t (tags.decimal decimals.ThirtyTwo 1 (pos 0))) (decimal_again width precision scale (not-false _ (flawless DecimalRange)))
+tag_of_all (tags.date unit) children flawless = ap (λ u. tags.date (unwrap_or u dates.Day)) (date_again unit)
+tag_of_all (tags.time unit) children flawless = ap (λ u. tags.time (unwrap_or u times.Second)) (time_again unit)
+tag_of_all (tags.timestamp unit None) children flawless = ap (λ u. tags.timestamp (unwrap_or u times.Second) None) (time_again unit)
+tag_of_all (tags.timestamp unit (Some zone)) children flawless = ap (λ u. tags.timestamp (unwrap_or u times.Second) (Some zone)) (time_again unit)
+tag_of_all (tags.fixed_size_binary width) children flawless = ap (λ b. tags.fixed_size_binary (unwrap_or (if b then None else Some width) 0)) (flawless ByteWidth)
+tag_of_all (tags.duration unit) children flawless = ap (λ u. tags.duration (unwrap_or u times.Second)) (time_again unit)
+tag_of_all (tags.map sorted) children flawless = ap tags.map (flag_again sorted)
+tag_of_all (tags.interval unit) children flawless = ap (λ u. tags.interval (unwrap_or u intervals.YearMonth)) (interval_again unit)
+tag_of_all tag children flawless = refl
 
 -- a type's table is no misfit
-pub fitting_all : (tag : Tag) → is_wide tag ≡ false → any is_misfit (type_tree All tag) ≡ false
-fitting_all (tags.int bits signed) narrow = rw (width_again bits) refl
-fitting_all (tags.floating_point precision) narrow = rw (precision_again precision) refl
-fitting_all (tags.date unit) narrow = rw (date_again unit) refl
-fitting_all (tags.time unit) narrow = rw (width_of_time unit) refl
-fitting_all (tags.timestamp unit None) narrow = rw (time_again unit) refl
-fitting_all (tags.timestamp unit (Some zone)) narrow = rw (time_again unit) refl
-fitting_all (tags.fixed_size_binary width) narrow = rw narrow refl
-fitting_all (tags.duration unit) narrow = rw (time_again unit) refl
-fitting_all (tags.interval unit) narrow = rw (interval_again unit) refl
-fitting_all tag narrow = refl
+pub fitting_all : (tag : Tag) (children : Fields) → IsFlawless tag children → any is_misfit (type_tree All tag) ≡ false
+fitting_all (tags.int bits signed) children flawless = rw (width_again bits) refl
+fitting_all (tags.floating_point precision) children flawless = rw (precision_again precision) refl
+fitting_all (tags.decimal width precision scale) children flawless =
+    ap (λ t. is_none t || false) (decimal_again width precision scale (not-false _ (flawless DecimalRange)))
+fitting_all (tags.date unit) children flawless = rw (date_again unit) refl
+fitting_all (tags.time unit) children flawless = rw (width_of_time unit) refl
+fitting_all (tags.timestamp unit None) children flawless = rw (time_again unit) refl
+fitting_all (tags.timestamp unit (Some zone)) children flawless = rw (time_again unit) refl
+fitting_all (tags.fixed_size_binary width) children flawless = let narrow = flawless ByteWidth in rw narrow refl
+fitting_all (tags.duration unit) children flawless = rw (time_again unit) refl
+fitting_all (tags.interval unit) children flawless = rw (interval_again unit) refl
+fitting_all tag children flawless = refl
 
 pub int_fits : (bits : BitWidth) (signed : Bool) → NodeFits (laid.table (int_cells bits signed))
 int_fits bits signed = (omega arith, (omega (arith, bits_fit bits), (flag_fits signed, tt)))
 
 -- a type's table can be written
-pub type_fits : (tag : Tag) → HasTextZone tag → is_wide tag ≡ false → NodeFits (laid.table (type_cells tag))
-type_fits (tags.int bits signed) h narrow = int_fits bits signed
-type_fits (tags.floating_point precision) h narrow = (omega arith, (omega (arith, precision_fits precision), tt))
-type_fits (tags.date unit) h narrow = (omega arith, (omega (arith, date_fits unit), tt))
-type_fits (tags.time unit) h narrow = (omega arith, (omega (arith, time_fits unit), (omega (arith, bits_fit (time_width_of unit)), tt)))
-type_fits (tags.timestamp unit None) h narrow = (omega arith, (omega (arith, time_fits unit), tt))
-type_fits (tags.timestamp unit (Some zone)) h narrow = (omega arith, (omega (arith, time_fits unit), (h, tt)))
-type_fits (tags.fixed_size_binary width) h narrow = (omega arith, (omega (arith, ltb-false 2147483647 width narrow), tt))
-type_fits (tags.duration unit) h narrow = (omega arith, (omega (arith, time_fits unit), tt))
-type_fits (tags.map sorted) h narrow = (omega arith, (flag_fits sorted, tt))
-type_fits (tags.interval unit) h narrow = (omega arith, (omega (arith, interval_fits unit), tt))
-type_fits tag h narrow = (omega arith, tt)
+pub type_fits : (tag : Tag) (children : Fields) → HasTextZone tag → IsFlawless tag children → NodeFits (laid.table (type_cells tag))
+type_fits (tags.int bits signed) children h flawless = int_fits bits signed
+type_fits (tags.floating_point precision) children h flawless = (omega arith, (omega (arith, precision_fits precision), tt))
+type_fits (tags.decimal width precision scale) children h flawless =
+    let allowed : is_decimal width precision scale ≡ true = not-false _ (flawless DecimalRange) in
+    (omega arith, (omega (arith, digits_fit width precision scale allowed), (omega (arith, scale_fits width precision scale allowed), (omega (arith, decimal_bits_fit width), tt))))
+type_fits (tags.date unit) children h flawless = (omega arith, (omega (arith, date_fits unit), tt))
+type_fits (tags.time unit) children h flawless = (omega arith, (omega (arith, time_fits unit), (omega (arith, bits_fit (time_width_of unit)), tt)))
+type_fits (tags.timestamp unit None) children h flawless = (omega arith, (omega (arith, time_fits unit), tt))
+type_fits (tags.timestamp unit (Some zone)) children h flawless = (omega arith, (omega (arith, time_fits unit), (h, tt)))
+type_fits (tags.fixed_size_binary width) children h flawless = (omega arith, (omega (arith, ltb-false 2147483647 width (flawless ByteWidth)), tt))
+type_fits (tags.duration unit) children h flawless = (omega arith, (omega (arith, time_fits unit), tt))
+type_fits (tags.map sorted) children h flawless = (omega arith, (flag_fits sorted, tt))
+type_fits (tags.interval unit) children h flawless = (omega arith, (omega (arith, interval_fits unit), tt))
+type_fits tag children h flawless = (omega arith, tt)

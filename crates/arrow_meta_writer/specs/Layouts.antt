@@ -1,12 +1,12 @@
 -- How a message is laid out: its tables, with the fields that are written in each of them (Message.fbs, Schema.fbs).
 use Rattle.std.specs.Prelude.{ℕ, ℤ, Bool, true, false, List, [], ◌∷◌, map, Option, Some, None}
-use Rattle.std.specs.Int.{cast_unsigned, w64}
+use Rattle.std.specs.Int.{cast_unsigned, w32, w64}
 use Rattle.arrow_flatbuf.specs.declared.layout.Width.TheVariants.{One, Two, Four, Eight}
 use Rattle.arrow_flatbuf.specs.Nodes.{Node, text, byte_string, pairs, tables, table, Nodes, Cells, last, absent}
 use Rattle.arrow_flatbuf.specs.Nodes.{scalar, offset}
 use Rattle.arrow_flatbuf.specs.Nodes as laid
 use Rattle.arrow_types.specs.DataType as tags
-use Rattle.arrow_types.specs.DataType.{Tag, bits_of, time_width_of}
+use Rattle.arrow_types.specs.DataType.{Tag, bits_of, decimal_bits_of, time_width_of}
 use Rattle.arrow_types.specs.Field as columns
 use Rattle.arrow_types.specs.Field.{Head, Fields}
 use Rattle.arrow_types.specs.Notes.{KeyValue, Notes, unnoted, noted, SchemaShape}
@@ -73,12 +73,14 @@ abbrev pub zone_in : Tag → Option (List ℕ)
 zone_in (tags.timestamp unit zone) = zone
 zone_in _ = None
 
--- a type's table: of FloatingPoint the precision, of Date, Duration and Interval the unit, of Time the unit and bitWidth, of
--- Timestamp the unit and the time zone, of FixedSizeBinary the byteWidth, of Map keysSorted. The types that no reader
--- opens have a table without fields.
+-- a type's table: of FloatingPoint the precision, of Decimal the precision, the scale and bitWidth, of Date, Duration and
+-- Interval the unit, of Time the unit and bitWidth, of Timestamp the unit and the time zone, of FixedSizeBinary the
+-- byteWidth, of Map keysSorted. The types that no reader opens have a table without fields.
 abbrev pub type_cells : Tag → Cells
 type_cells (tags.int bits signed) = int_cells bits signed
 type_cells (tags.floating_point precision) = scalar Two (precision_number precision) last
+type_cells (tags.decimal width precision scale) =
+    scalar Four precision (scalar Four (cast_unsigned w32 scale) (scalar Four (decimal_bits_of width) last))
 type_cells (tags.date unit) = scalar Two (date_number unit) last
 type_cells (tags.time unit) = scalar Two (time_number unit) (scalar Four (bits_of (time_width_of unit)) last)
 type_cells (tags.timestamp unit zone) = scalar Two (time_number unit) (zone_cells zone)

@@ -2,10 +2,11 @@
 use Rattle.std.specs.Prelude.{List, []}
 use Rattle.arrow_flatbuf.specs.declared.layout.Slot.{Slot}
 use Rattle.arrow_meta_writer.specs.declared.types.TypeSlots.{TypeSlots}
-use Rattle.arrow_meta_writer.specs.declared.types.TypeSlots.TheVariants.{Zero, One, Two}
+use Rattle.arrow_meta_writer.specs.declared.types.TypeSlots.TheVariants.{Zero, One, Two, Three}
 
 -- the fields by number
 abbrev pub listed : TypeSlots → List Slot
 listed Zero = []
 listed (One fields) = fields
 listed (Two fields) = fields
+listed (Three fields) = fields

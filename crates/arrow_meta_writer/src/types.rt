@@ -1,6 +1,6 @@
 //! Types as they are written: the code in the field's table, and the type's own table
-//! (`Schema.fbs`, union `Type`, tables `Int`, `FloatingPoint`, `Date`, `Time`, `Timestamp`,
-//! `FixedSizeBinary`, `Duration`, `Interval`, `Map`).
+//! (`Schema.fbs`, union `Type`, tables `Int`, `FloatingPoint`, `Decimal`, `Date`, `Time`,
+//! `Timestamp`, `FixedSizeBinary`, `Duration`, `Interval`, `Map`).
 //!
 //! `type_slots` has one row for each type: the number of fields, the size and the bytes of a type's
 //! table are computed from that row. A type without parameters has a table without fields. A unit or
@@ -19,12 +19,13 @@ ghost use Rattle.arrow_meta_writer.specs.Layouts.{int_cells, type_cells, zone_in
 ghost use Rattle.arrow_meta_writer.specs.Layouts.{date_number, interval_number, precision_number, time_number};
 ghost use Rattle.arrow_meta_writer.specs.TypeSlots.{listed};
 ghost use Rattle.arrow_meta_writer.specs.Writable.{HasTextZone};
+ghost use Rattle.arrow_types.specs.DataType.{decimal};
 ghost use Rattle.arrow_types.specs.Field.{width as field_width};
 ghost use Rattle.arrow_types.specs.View.{type_view};
 
 use crate::tables::{INT_FIELDS, table_after, text_after};
 use arrow_flatbuf::{Slot, TableWriter, Width, aligned};
-use arrow_types::{BitWidth, DataType, DateUnit, IntervalUnit, Precision, TimeUnit};
+use arrow_types::{BitWidth, DataType, DateUnit, DecimalWidth, IntervalUnit, Precision, TimeUnit};
 use std::alloc::AllocError;
 
 /// The code of a type (`Schema.fbs`, union `Type`). A value of the type has the children that it
@@ -42,6 +43,7 @@ pub(crate) fn type_code(data_type: &DataType) -> u64
         DataType::Binary => 4,
         DataType::Utf8 => 5,
         DataType::Bool => 6,
+        DataType::Decimal { .. } => 7,
         DataType::Date(_) => 8,
         DataType::Time(_) => 9,
         DataType::Timestamp(..) => 10,
@@ -60,7 +62,7 @@ pub(crate) fn type_code(data_type: &DataType) -> u64
 /// How many fields a type's table has.
 pub(crate) fn type_fields(data_type: &DataType) -> usize
     ensures count { result ≡ count (type_cells (type_view data_type.now).tag) }
-    ensures few { result ≤ 2 }
+    ensures few { result ≤ 3 }
 {
     type_slots(data_type, 0).as_slice().len()
 }
@@ -104,6 +106,11 @@ fn type_slots(data_type: &DataType, zone: usize) -> TypeSlots
     match data_type {
         DataType::Int { bits, signed } => TypeSlots::Two(int_slots(*bits, *signed)),
         DataType::FloatingPoint(precision) => scalar(Width::Two, precision_number(*precision)),
+        DataType::Decimal {
+            width,
+            precision,
+            scale,
+        } => TypeSlots::Three(decimal_slots(*width, *precision, *scale)),
         DataType::Date(unit) => scalar(Width::Two, date_number(*unit)),
         DataType::Time(unit) => TypeSlots::Two([
             Slot::Scalar(Width::Two, time_number(*unit)),
@@ -143,24 +150,38 @@ fn int_slots(bits: BitWidth, signed: bool) -> [Slot; INT_FIELDS]
     ]
 }
 
+/// The fields of a Decimal table. A negative scale is written as the 32 bits of its two's complement.
+fn decimal_slots(width: DecimalWidth, precision: u8, scale: i8) -> [Slot; 3]
+    ensures slots { result ≡ slots 0 (type_cells (decimal width precision scale)) }
+    ensures fits { OwnFit (type_cells (decimal width precision scale)) }
+{
+    [
+        Slot::Scalar(Width::Four, u64::from(precision)),
+        Slot::Scalar(Width::Four, u64::from(i32::from(scale).cast_unsigned())),
+        Slot::Scalar(Width::Four, u64::from(width.bits())),
+    ]
+}
+
 /// The fields of a type's table, as many as it has.
 #[derive(Drop)]
 enum TypeSlots {
     Zero,
     One([Slot; 1]),
     Two([Slot; 2]),
+    Three([Slot; 3]),
 }
 
 impl TypeSlots {
     /// The fields by number.
     fn as_slice(&self) -> &[Slot]
         ensures slots { result.now ≡ listed self.now }
-        ensures few { length result.now ≤ 2 }
+        ensures few { length result.now ≤ 3 }
     {
         match self {
             TypeSlots::Zero => &[],
             TypeSlots::One(slots) => slots,
             TypeSlots::Two(slots) => slots,
+            TypeSlots::Three(slots) => slots,
         }
     }
 }

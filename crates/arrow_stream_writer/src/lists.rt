@@ -137,7 +137,7 @@ fn below(column: &Array) -> Option<&[Array]>
         Form::Structs => column.fields(),
         Form::Nulls
         | Form::Bits
-        | Form::Numbers { .. }
+        | Form::Numbers(_)
         | Form::Bytes(_)
         | Form::Texts(_)
         | Form::FixedBytes(_) => None,

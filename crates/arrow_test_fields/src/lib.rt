@@ -6,8 +6,8 @@
 #![tactic(auto)]
 
 use arrow_types::{
-    BitWidth, DataType, DateUnit, Encoding, Field, IndexType, IntervalUnit, Precision, Schema,
-    TimeUnit,
+    BitWidth, DataType, DateUnit, DecimalWidth, Encoding, Field, IndexType, IntervalUnit,
+    Precision, Schema, TimeUnit,
 };
 use std::alloc::Global;
 
@@ -80,6 +80,7 @@ fn data_type(alloc: Global, word: &str, behind: &mut Vec<Field>) -> Option<DataT
         "halffloat" => DataType::FloatingPoint(Precision::Half),
         "float" => DataType::FloatingPoint(Precision::Single),
         "double" => DataType::FloatingPoint(Precision::Double),
+        "decimal" => decimal(unit)?,
         "utf8" => DataType::Utf8,
         "large_utf8" => DataType::LargeUtf8,
         "date" if unit == "day" => DataType::Date(DateUnit::Day),
@@ -95,6 +96,24 @@ fn data_type(alloc: Global, word: &str, behind: &mut Vec<Field>) -> Option<DataT
             let IndexType { bits, signed } = integer(name)?;
             DataType::Int { bits, signed }
         }
+    })
+}
+
+// A width in bits, a precision and a scale, with colons between them.
+fn decimal(words: &str) -> Option<DataType> {
+    let (width, digits) = words.split_once(':')?;
+    let (precision, scale) = digits.split_once(':')?;
+    let width = match width {
+        "32" => DecimalWidth::ThirtyTwo,
+        "64" => DecimalWidth::SixtyFour,
+        "128" => DecimalWidth::OneHundredTwentyEight,
+        "256" => DecimalWidth::TwoHundredFiftySix,
+        _ => return None,
+    };
+    Some(DataType::Decimal {
+        width,
+        precision: precision.parse::<u8>().ok()?,
+        scale: scale.parse::<i8>().ok()?,
     })
 }
 

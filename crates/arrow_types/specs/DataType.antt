@@ -1,22 +1,25 @@
 -- Types without what stands below them (Schema.fbs, union "Type"), and the widths that units ask for.
-use Rattle.std.specs.Prelude.{ℕ, Bool, List, Option}
+use Rattle.std.specs.Prelude.{ℕ, ℤ, pos, negsuc, nat_lt, Bool, ◌&&◌, not, List, Option}
 use Rattle.arrow_types.specs.declared.data_type.BitWidth.{BitWidth}
 use Rattle.arrow_types.specs.declared.data_type.BitWidth.TheVariants.{Eight, Sixteen, ThirtyTwo, SixtyFour}
 use Rattle.arrow_types.specs.declared.data_type.DateUnit.{DateUnit}
 use Rattle.arrow_types.specs.declared.data_type.DateUnit.TheVariants as dates
+use Rattle.arrow_types.specs.declared.data_type.DecimalWidth.{DecimalWidth}
+use Rattle.arrow_types.specs.declared.data_type.DecimalWidth.TheVariants as decimals
 use Rattle.arrow_types.specs.declared.data_type.IntervalUnit.{IntervalUnit}
 use Rattle.arrow_types.specs.declared.data_type.Precision.{Precision}
 use Rattle.arrow_types.specs.declared.data_type.Precision.TheVariants.{Half, Single, Double}
 use Rattle.arrow_types.specs.declared.data_type.TimeUnit.{TimeUnit}
 use Rattle.arrow_types.specs.declared.data_type.TimeUnit.TheVariants as times
 
--- A type's own part. A zone is given by the bytes of its name, a fixed size by its number of bytes, a map by
--- whether its keys are sorted.
+-- A type's own part. A zone is given by the bytes of its name, a fixed size by its number of bytes, a decimal by its width,
+-- precision and scale, a map by whether its keys are sorted.
 pub data Tag : Type 0 where
   null : Tag
   boolean : Tag
   int : BitWidth → Bool → Tag
   floating_point : Precision → Tag
+  decimal : DecimalWidth → ℕ → ℤ → Tag
   binary : Tag
   large_binary : Tag
   fixed_size_binary : ℕ → Tag
@@ -44,6 +47,29 @@ abbrev pub float_width_of : Precision → BitWidth
 float_width_of Half = Sixteen
 float_width_of Single = ThirtyTwo
 float_width_of Double = SixtyFour
+
+-- the width of a decimal in bits (Schema.fbs, table "Decimal")
+abbrev pub decimal_bits_of : DecimalWidth → ℕ
+decimal_bits_of decimals.ThirtyTwo = 32
+decimal_bits_of decimals.SixtyFour = 64
+decimal_bits_of decimals.OneHundredTwentyEight = 128
+decimal_bits_of decimals.TwoHundredFiftySix = 256
+
+-- the greatest number of digits of which each number has a place in a width with a sign
+abbrev pub digits_of : DecimalWidth → ℕ
+digits_of decimals.ThirtyTwo = 9
+digits_of decimals.SixtyFour = 18
+digits_of decimals.OneHundredTwentyEight = 38
+digits_of decimals.TwoHundredFiftySix = 76
+
+-- a scale from -76 to 76 (the bounds are this project's own; `negsuc n` is -(n + 1))
+abbrev pub is_scale : ℤ → Bool
+is_scale (pos n) = nat_lt n 77
+is_scale (negsuc n) = nat_lt n 76
+
+-- Whether decimals of a width may have this precision and this scale (Schema.fbs, table "Decimal").
+abbrev pub is_decimal : DecimalWidth → ℕ → ℤ → Bool
+is_decimal width precision scale = nat_lt 0 precision && not (nat_lt (digits_of width) precision) && is_scale scale
 
 -- the width of a date (Schema.fbs, table "Date")
 abbrev pub date_width_of : DateUnit → BitWidth

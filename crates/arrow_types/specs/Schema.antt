@@ -3,14 +3,14 @@ use Rattle.std.specs.Prelude.{◌≡◌, ◌≤◌, ℕ, ℤ, Bool, true, false,
 use Rattle.std.specs.List.{list_any}
 use Rattle.std.specs.Option.{is_none}
 use Rattle.std.specs.Ordering.{int_eq}
-use Rattle.arrow_types.specs.DataType.{Tag}
+use Rattle.arrow_types.specs.DataType.{Tag, is_decimal}
 use Rattle.arrow_types.specs.DataType as tags
 use Rattle.arrow_types.specs.Equality.{is_equal}
 use Rattle.arrow_types.specs.Field.{Head, Fields, none, more, TypeShape, FieldShape, levels, count, width}
 use Rattle.arrow_types.specs.Notes.{SchemaShape, pair_count}
 use Rattle.arrow_types.specs.Stored.{type_code}
 use Rattle.arrow_types.specs.declared.schema.SchemaFault.{SchemaFault}
-use Rattle.arrow_types.specs.declared.schema.SchemaFault.TheVariants.{TooDeep, TooManyFields, NestedDictionary, SharedIdTypesDiffer, Memory, ByteWidth, TooManyPairs, MapEntries}
+use Rattle.arrow_types.specs.declared.schema.SchemaFault.TheVariants.{TooDeep, TooManyFields, NestedDictionary, SharedIdTypesDiffer, Memory, ByteWidth, TooManyPairs, MapEntries, DecimalRange}
 
 -- whether a field of these, on any level, is dictionary-encoded
 abbrev pub has_encoding : Fields → Bool
@@ -30,15 +30,6 @@ field_is_nested f = (is_some f.head.encoding && has_encoding f.children) || is_n
 abbrev pub is_wide : Tag → Bool
 is_wide (tags.fixed_size_binary width) = nat_lt 2147483647 width
 is_wide _ = false
-
--- whether a field of these, on any level, has such a type
-abbrev pub is_too_wide : Fields → Bool
-is_too_wide none = false
-is_too_wide (more head children rest) = is_wide head.tag || is_too_wide children || is_too_wide rest
-
--- the same of one field and those below it
-abbrev pub field_is_too_wide : FieldShape → Bool
-field_is_too_wide f = is_wide f.head.tag || is_too_wide f.children
 
 -- whether a type is that of structs
 abbrev pub is_struct : Tag → Bool
@@ -60,14 +51,26 @@ are_entries (more head children rest) = is_struct head.tag && is_none head.encod
 abbrev pub lacks_entries : Tag → Fields → Bool
 lacks_entries tag children = is_map tag && not (are_entries children)
 
--- whether a field of these, on any level, has such a type
-abbrev pub some_lack_entries : Fields → Bool
-some_lack_entries none = false
-some_lack_entries (more head children rest) = lacks_entries head.tag children || some_lack_entries children || some_lack_entries rest
+-- whether a type is a decimal of a precision or a scale that its width does not allow (Schema.fbs, table "Decimal")
+abbrev pub is_bad_decimal : Tag → Bool
+is_bad_decimal (tags.decimal width precision scale) = not (is_decimal width precision scale)
+is_bad_decimal _ = false
+
+-- whether a fault applies to a type with these child fields; the faults that are not of a single type apply to none
+abbrev pub is_flawed : SchemaFault → Tag → Fields → Bool
+is_flawed ByteWidth tag children = is_wide tag
+is_flawed MapEntries tag children = lacks_entries tag children
+is_flawed DecimalRange tag children = is_bad_decimal tag
+is_flawed fault tag children = false
+
+-- whether it does to the type of a field of these, on any level
+abbrev pub some_flawed : SchemaFault → Fields → Bool
+some_flawed fault none = false
+some_flawed fault (more head children rest) = is_flawed fault head.tag children || some_flawed fault children || some_flawed fault rest
 
 -- the same of one field and those below it
-abbrev pub field_lacks_entries : FieldShape → Bool
-field_lacks_entries f = lacks_entries f.head.tag f.children || some_lack_entries f.children
+abbrev pub field_is_flawed : SchemaFault → FieldShape → Bool
+field_is_flawed fault f = is_flawed fault f.head.tag f.children || some_flawed fault f.children
 
 -- what a dictionary-encoded field says of its dictionary: the id, and the type of the values
 pub record DictionaryField : Type 0 where
@@ -115,14 +118,12 @@ pub record AreIdsOfOneType (ids : List ℤ) (ds : List DictionaryField) : Type 0
   pub once : ids ≡ each_once (map (λ (d : DictionaryField). d.id) ds)
   pub one_type : types_differ ds ≡ false
 
--- at most 32 levels, at most 65,536 fields, no dictionary below a dictionary, no width over the limit, no map without
--- entries
+-- at most 32 levels, at most 65,536 fields, no dictionary below a dictionary, and no type to which a fault applies by itself
 pub record IsBounded (s : Fields) : Type 0 where
   pub shallow : levels s ≤ 32
   pub few : count s ≤ 65536
   pub flat : is_nested s ≡ false
-  pub narrow : is_too_wide s ≡ false
-  pub mapped : some_lack_entries s ≡ false
+  pub flawless : (fault : SchemaFault) → some_flawed fault s ≡ false
 
 -- what is known of the fields of every schema
 pub record IsSchema (s : Fields) : Type 0 where
@@ -147,12 +148,14 @@ fault_or other s =
     (if is_nested s then Some NestedDictionary else
     (if types_differ (dictionary_fields s) then Some SharedIdTypesDiffer else other)))
 
--- the faults after Memory: a width over the limit, more than 65,536 pairs, and a map without entries
+-- the faults after Memory: a width over the limit, more than 65,536 pairs, a map without entries, and a decimal out of its
+-- range
 abbrev pub late_fault : SchemaShape → Option SchemaFault
 late_fault s =
-    if is_too_wide s.fields then Some ByteWidth else
+    if some_flawed ByteWidth s.fields then Some ByteWidth else
     (if nat_lt 65536 (pair_count s) then Some TooManyPairs else
-    (if some_lack_entries s.fields then Some MapEntries else None))
+    (if some_flawed MapEntries s.fields then Some MapEntries else
+    (if some_flawed DecimalRange s.fields then Some DecimalRange else None)))
 
 -- the first of the faults that apply to fields and pairs; none where they make a schema
 abbrev pub fault_of : SchemaShape → Option SchemaFault
@@ -176,6 +179,7 @@ number_of Memory = 5
 number_of ByteWidth = 6
 number_of TooManyPairs = 7
 number_of MapEntries = 8
+number_of DecimalRange = 9
 
 -- the words of a fault
 abbrev pub words_of : SchemaFault → List ℕ
@@ -187,3 +191,4 @@ words_of Memory = codes "out of memory"
 words_of ByteWidth = codes "byte strings of more than 2,147,483,647 bytes"
 words_of TooManyPairs = codes "more than 65,536 pairs of metadata"
 words_of MapEntries = codes "a map whose child is not a struct of two fields"
+words_of DecimalRange = codes "a decimal of a precision or a scale out of range"

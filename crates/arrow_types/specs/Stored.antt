@@ -1,11 +1,12 @@
 -- How the logic stores plain types and fields: as trees of numbers, another one for each other value.
 use Rattle.std.specs.Prelude.{◌≡◌, ℕ, Bool, List, Option}
 use Rattle.std.proofs.Common.{ap, refl}
-use Rattle.std.specs.Coded.{Coded, code_by, coded×, coded_ℕ, coded_bool, coded_list, coded_option}
+use Rattle.std.specs.Coded.{Coded, code_by, coded×, coded_ℕ, coded_ℤ, coded_bool, coded_list, coded_option}
 use base.Stored.{Gv, gnil, gnum, gcons}
 use Rattle.arrow_types.specs.declared.field.Encoding.{Encoding}
 use Rattle.arrow_types.specs.contracts.data_type.BitWidth.{the_row as width_row}
 use Rattle.arrow_types.specs.contracts.data_type.DateUnit.{the_row as date_row}
+use Rattle.arrow_types.specs.contracts.data_type.DecimalWidth.{the_row as decimal_row}
 use Rattle.arrow_types.specs.contracts.data_type.IntervalUnit.{the_row as interval_row}
 use Rattle.arrow_types.specs.contracts.data_type.Precision.{the_row as precision_row}
 use Rattle.arrow_types.specs.contracts.data_type.TimeUnit.{the_row as time_row}
@@ -39,6 +40,7 @@ tag_gv (tags.fixed_size_binary width) = gcons (gnum 5) (coded_ℕ.code width)
 tag_gv (tags.floating_point precision) = gcons (gnum 6) (precision_row.coded.code precision)
 tag_gv (tags.interval unit) = gcons (gnum 7) (interval_row.coded.code unit)
 tag_gv (tags.map sorted) = gcons (gnum 8) (coded_bool.code sorted)
+tag_gv (tags.decimal width precision scale) = gcons (gnum 9) (gcons (decimal_row.coded.code width) (gcons (coded_ℕ.code precision) (coded_ℤ.code scale)))
 
 -- own parts with one tree are equal
 pub tag_inj : (x y : Tag) → tag_gv x ≡ tag_gv y → x ≡ y
@@ -60,6 +62,7 @@ tag_inj (tags.fixed_size_binary m) (tags.fixed_size_binary n) p = ap tags.fixed_
 tag_inj (tags.floating_point a) (tags.floating_point b) p = ap tags.floating_point (precision_row.coded.inj a b (cc))
 tag_inj (tags.interval u) (tags.interval v) p = ap tags.interval (interval_row.coded.inj u v (cc))
 tag_inj (tags.map a) (tags.map b) p = ap tags.map (coded_bool.inj a b (cc))
+tag_inj (tags.decimal v m x) (tags.decimal w n y) p = λ i. tags.decimal (decimal_row.coded.inj v w (cc) i) (coded_ℕ.inj m n (cc) i) (coded_ℤ.inj x y (cc) i)
 tag_inj x y p = cc
 
 -- so these trees tell types' own parts apart

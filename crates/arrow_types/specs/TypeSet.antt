@@ -2,13 +2,14 @@
 use Rattle.std.specs.Prelude.{Bool, true, false, ◌&&◌, ◌||◌}
 use Rattle.arrow_types.specs.DataType.{Tag}
 use Rattle.arrow_types.specs.DataType as tags
-use Rattle.arrow_types.specs.Field.{Head, Fields, none, more, FieldShape}
+use Rattle.arrow_types.specs.Field.{Fields, none, more, FieldShape}
 use Rattle.arrow_types.specs.declared.type_set.TypeSet.{TypeSet}
 use Rattle.arrow_types.specs.declared.type_set.TypeSet.TheVariants.{Core, All}
 
 -- whether a type is outside of the core
 abbrev pub is_late : Tag → Bool
 is_late (tags.floating_point _) = true
+is_late (tags.decimal _ _ _) = true
 is_late (tags.interval _) = true
 is_late (tags.map _) = true
 is_late _ = false

@@ -9,7 +9,7 @@ use Rattle.arrow_types.specs.declared.data_type.DataType.TheOpen.{DataType-F, Fi
 use Rattle.arrow_types.specs.declared.field.Field.{Field, fold-Field}
 
 -- a type that has no children
-abbrev leaf : Tag → TypeShape
+abbrev pub leaf : Tag → TypeShape
 leaf tag = record { tag = tag; children = none }
 
 -- one level of a type, whose children are plain already
@@ -18,6 +18,7 @@ type_step DataType-F.Null = leaf tags.null
 type_step DataType-F.Bool = leaf tags.boolean
 type_step (DataType-F.Int bits signed) = leaf (tags.int bits signed)
 type_step (DataType-F.FloatingPoint precision) = leaf (tags.floating_point precision)
+type_step (DataType-F.Decimal width precision scale) = leaf (tags.decimal width precision scale)
 type_step DataType-F.Binary = leaf tags.binary
 type_step DataType-F.LargeBinary = leaf tags.large_binary
 type_step (DataType-F.FixedSizeBinary width) = leaf (tags.fixed_size_binary width)

@@ -3,9 +3,11 @@
 
 ghost use Rattle.std.specs.Prelude.{◌≡◌, ◌↔◌, IsTrue, IfOk};
 ghost use Rattle.arrow_types.specs.DataType.{bits_of, time_width_of, date_width_of, float_width_of};
+ghost use Rattle.arrow_types.specs.DataType.{decimal, decimal_bits_of, digits_of, is_decimal};
 ghost use Rattle.arrow_types.specs.Equality.{is_equal, is_equal_equivalence};
 ghost use Rattle.arrow_types.specs.Stored.{type_code, whole_type_code};
-ghost use Rattle.arrow_types.specs.View.{fields_view, notes_view, type_notes, type_view, whole_type};
+ghost use Rattle.arrow_types.specs.View.{fields_view, leaf, notes_view, type_notes, type_view};
+ghost use Rattle.arrow_types.specs.View.{whole_type};
 ghost use Rattle.std.specs.Cmp.{on_per, on_equiv, partial_equiv_from_equiv};
 ghost use Rattle.std.specs.Ordering.{on};
 
@@ -123,6 +125,54 @@ pub enum IntervalUnit {
     MonthDayNano,
 }
 
+/// How many bits a decimal number takes (`Schema.fbs`, table `Decimal`, field `bitWidth`).
+#[derive(Clone, Copy, Debug, PartialEq, Eq)]
+pub enum DecimalWidth {
+    /// 32 bits.
+    ThirtyTwo,
+    /// 64 bits.
+    SixtyFour,
+    /// 128 bits.
+    OneHundredTwentyEight,
+    /// 256 bits.
+    TwoHundredFiftySix,
+}
+
+impl DecimalWidth {
+    /// The width in bits: 32, 64, 128 or 256.
+    pub fn bits(self) -> u16
+        ensures { result ≡ decimal_bits_of self }
+    {
+        match self {
+            DecimalWidth::ThirtyTwo => 32,
+            DecimalWidth::SixtyFour => 64,
+            DecimalWidth::OneHundredTwentyEight => 128,
+            DecimalWidth::TwoHundredFiftySix => 256,
+        }
+    }
+
+    /// The greatest precision: the greatest number of digits of which each number has a place in
+    /// the width.
+    pub fn digits(self) -> u8
+        ensures { result ≡ digits_of self }
+    {
+        match self {
+            DecimalWidth::ThirtyTwo => 9,
+            DecimalWidth::SixtyFour => 18,
+            DecimalWidth::OneHundredTwentyEight => 38,
+            DecimalWidth::TwoHundredFiftySix => 76,
+        }
+    }
+
+    /// Whether decimals of this width may have so many digits, and so many of them after the point:
+    /// a precision from 1 up to the greatest, and a scale from -76 to 76.
+    pub fn allows(self, precision: u8, scale: i8) -> bool
+        ensures { result ≡ is_decimal self precision scale }
+    {
+        1 <= precision && precision <= self.digits() && -76 <= scale && scale <= 76
+    }
+}
+
 /// The type of a column's values, without a dictionary (`Schema.fbs`, union `Type`).
 ///
 /// Any tree of types can be built; that it keeps to the limits is tested where a `Schema` is made
@@ -135,9 +185,20 @@ pub enum DataType {
     /// Truth values, a bit each.
     Bool,
     /// Whole numbers of this width, with a sign or without one.
-    Int { bits: BitWidth, signed: bool },
+    Int {
+        bits: BitWidth,
+        signed: bool,
+    },
     /// Floating-point numbers, each given by its bits.
     FloatingPoint(Precision),
+    /// Decimal numbers of at most so many digits, each given by the whole number that it is times 10
+    /// to the power of the scale: 1.25 with the scale 2 is 125. In a `Schema` the width allows the
+    /// precision and the scale; that no number has more digits than the precision is tested nowhere.
+    Decimal {
+        width: DecimalWidth,
+        precision: u8,
+        scale: i8,
+    },
     /// Byte strings of any length, between offsets of 32 bits.
     Binary,
     /// The same between offsets of 64 bits.
@@ -201,6 +262,15 @@ impl DataType {
                 signed: *signed,
             }),
             DataType::FloatingPoint(precision) => Ok(DataType::FloatingPoint(*precision)),
+            DataType::Decimal {
+                width,
+                precision,
+                scale,
+            } => Ok(DataType::Decimal {
+                width: *width,
+                precision: *precision,
+                scale: *scale,
+            }),
             DataType::Binary => Ok(DataType::Binary),
             DataType::LargeBinary => Ok(DataType::LargeBinary),
             DataType::FixedSizeBinary(width) => Ok(DataType::FixedSizeBinary(*width)),
@@ -250,6 +320,11 @@ pub(crate) fn same_type(one: &DataType, other: &DataType) -> bool
         DataType::FloatingPoint(precision) => {
             matches!(other, DataType::FloatingPoint(p) if p == precision)
         }
+        DataType::Decimal {
+            width,
+            precision,
+            scale,
+        } => is_decimal_of(other, *width, *precision, *scale),
         DataType::Binary => matches!(other, DataType::Binary),
         DataType::LargeBinary => matches!(other, DataType::LargeBinary),
         DataType::FixedSizeBinary(width) => {
@@ -275,6 +350,21 @@ pub(crate) fn same_type(one: &DataType, other: &DataType) -> bool
             matches!(other, DataType::Map(e, s) if s == sorted && same_field(entries, e))
         }
     }
+}
+
+/// Whether the type is that of decimals of this width, precision and scale.
+fn is_decimal_of(data_type: &DataType, width: DecimalWidth, precision: u8, scale: i8) -> bool
+    ensures { IsTrue result
+        ↔ (type_view data_type.now ≡ leaf (decimal width precision scale)) }
+{
+    matches!(
+        data_type,
+        DataType::Decimal {
+            width: w,
+            precision: p,
+            scale: s,
+        } if *w == width && *p == precision && *s == scale
+    )
 }
 
 /// Types are equal where everything that they hold is: widths, units, zones, names, `nullable`,

@@ -26,8 +26,8 @@ mod data_type;
 mod dictionaries;
 mod differing;
 mod dismantle;
-mod entries;
 mod field;
+mod flaws;
 pub mod laws;
 mod limits;
 mod nesting;
@@ -36,9 +36,10 @@ mod notes;
 mod schema;
 mod size;
 mod type_set;
-mod widths;
 
-pub use data_type::{BitWidth, DataType, DateUnit, IntervalUnit, Precision, TimeUnit};
+pub use data_type::{
+    BitWidth, DataType, DateUnit, DecimalWidth, IntervalUnit, Precision, TimeUnit,
+};
 pub use field::{Encoding, Field, IndexType};
 pub use limits::Limits;
 pub use node::{Buffer, FieldNode};

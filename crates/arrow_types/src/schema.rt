@@ -8,12 +8,11 @@ ghost use Rattle.arrow_types.specs.View.{fields_view, notes_view, schema_view};
 use crate::dictionaries::ids_of;
 use crate::differing::types_differ;
 use crate::dismantle::dismantle;
-use crate::entries::some_lack_entries;
 use crate::field::{Field, copy_fields, same_fields};
+use crate::flaws::some_flawed;
 use crate::nesting::are_nested;
 use crate::notes::{after_notes, after_pairs, are_noted_alike, copy_pairs, same_pairs};
 use crate::size::{after_fields, have_levels};
-use crate::widths::are_too_wide;
 use std::alloc::{AllocError, Global};
 use std::error::Error;
 use std::fmt;
@@ -39,6 +38,9 @@ pub enum SchemaFault {
     TooManyPairs,
     /// The child of a map is not a struct of two fields, or it is dictionary-encoded.
     MapEntries,
+    /// The precision of a decimal is 0 or greater than its width has digits for, or its scale is not
+    /// from -76 to 76.
+    DecimalRange,
 }
 
 impl SchemaFault {
@@ -57,6 +59,7 @@ impl SchemaFault {
             SchemaFault::ByteWidth => 6,
             SchemaFault::TooManyPairs => 7,
             SchemaFault::MapEntries => 8,
+            SchemaFault::DecimalRange => 9,
         }
     }
 }
@@ -81,6 +84,9 @@ impl fmt::Display for SchemaFault {
             SchemaFault::MapEntries => f.write_str(
                 "a map whose child is not a struct of two fields",
             ),
+            SchemaFault::DecimalRange => f.write_str(
+                "a decimal of a precision or a scale out of range",
+            ),
         }
     }
 }
@@ -91,9 +97,10 @@ impl Error for SchemaFault {}
 ///
 /// Its fields keep to the limits of 32 levels and 65,536 fields; none of its dictionaries stands
 /// below another, those of one id have one value type, no width in bytes is over the greatest
-/// signed 32-bit number, and the child of each map is a struct of two fields that is not
-/// dictionary-encoded. It has at most 65,536 pairs of metadata, those of its fields among them.
-/// Nobody who holds a schema has to test that again.
+/// signed 32-bit number, the child of each map is a struct of two fields that is not
+/// dictionary-encoded, and the width of each decimal allows its precision and scale. It has at most
+/// 65,536 pairs of metadata, those of its fields among them. Nobody who holds a schema has to test
+/// that again.
 #[derive(Debug, Drop)]
 pub struct Schema {
     fields: Vec<Field>,
@@ -227,14 +234,17 @@ impl Schema {
 fn late_fault(fields: &[Field], pairs: &[(Vec<u8>, Vec<u8>)]) -> Option<SchemaFault>
     ensures { result ≡ late_fault (schema_view fields.now (pairs_view pairs.now)) }
 {
-    if are_too_wide(fields) {
+    if some_flawed(SchemaFault::ByteWidth, fields) {
         return Some(SchemaFault::ByteWidth);
     }
     if have_too_many_pairs(fields, pairs) {
         return Some(SchemaFault::TooManyPairs);
     }
-    if some_lack_entries(fields) {
+    if some_flawed(SchemaFault::MapEntries, fields) {
         return Some(SchemaFault::MapEntries);
+    }
+    if some_flawed(SchemaFault::DecimalRange, fields) {
+        return Some(SchemaFault::DecimalRange);
     }
     None
 }

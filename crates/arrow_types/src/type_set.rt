@@ -15,7 +15,7 @@ pub enum TypeSet {
     /// The types that have always been there: Null, Bool, Int, Binary, LargeBinary, FixedSizeBinary,
     /// Utf8, LargeUtf8, Date, Time, Timestamp, Duration, List, LargeList and Struct.
     Core,
-    /// These, FloatingPoint, Interval and Map.
+    /// These, FloatingPoint, Decimal, Interval and Map.
     All,
 }
 
@@ -65,6 +65,9 @@ fn is_late(data_type: &DataType) -> bool
 {
     matches!(
         data_type,
-        DataType::FloatingPoint(_) | DataType::Interval(_) | DataType::Map(..)
+        DataType::FloatingPoint(_)
+            | DataType::Decimal { .. }
+            | DataType::Interval(_)
+            | DataType::Map(..)
     )
 }

@@ -1,6 +1,6 @@
 //! Values as a text tells them.
 
-use arrow_data::{Array, Batch, Dictionary, Interval, SlotValue, floats, half};
+use arrow_data::{Array, Batch, Decimal, Dictionary, Interval, SlotValue, floats, half};
 use arrow_types::{DataType, Field, Precision};
 use ryu::{Buffer, Float};
 use std::alloc::AllocError;
@@ -8,6 +8,12 @@ use std::num::{f32_from_bits_with_nan, f64_from_bits_with_nan};
 
 /// More levels than a type has.
 const LEVELS: u32 = 40;
+
+/// How many bytes 256 bits are.
+const BYTES: usize = 32;
+
+/// As many decimal digits as 256 bits have.
+const DIGITS: usize = 78;
 
 /// Appends `batch of K`, and a line for each row.
 pub(crate) fn push_batch(text: &mut String, batch: &Batch) -> Result<(), AllocError> {
@@ -70,10 +76,12 @@ fn push_plain(text: &mut String, column: &Array, at: usize, levels: u32) -> Resu
         SlotValue::Bool(truth) => write!(text, "{truth}"),
         SlotValue::Int(number) => {
             push_number(text, column.data_type(), number)?;
+            push_decimal(text, column.decimal_at(at))?;
             push_interval(text, column.interval_at(at))
         }
         SlotValue::Bytes(bytes) => {
             push_bytes(text, bytes)?;
+            push_decimal(text, column.decimal_at(at))?;
             push_interval(text, column.interval_at(at))
         }
         SlotValue::Text(words) => push_text(text, words),
@@ -110,6 +118,74 @@ fn push_interval(text: &mut String, interval: Option<Interval>) -> Result<(), Al
             },
         ) => write!(text, "={months}M{days}d{nanoseconds}ns"),
     }
+}
+
+/// Appends the text of a decimal after the number or the bytes that it is.
+fn push_decimal(text: &mut String, decimal: Option<Decimal>) -> Result<(), AllocError> {
+    let Some(decimal) = decimal else {
+        return Ok(());
+    };
+    text.push_str(if decimal.high < 0 { "=-" } else { "=" })?;
+    let digits = digits_of(decimal);
+    let places = decimal.scale.max(0) as usize;
+    let mut is_shown = false;
+    for at in 0..DIGITS {
+        if places > 0 && at + places == DIGITS {
+            text.push('.')?;
+        }
+        is_shown = is_shown || digits[at] > 0 || at + places + 1 >= DIGITS;
+        if is_shown {
+            write!(text, "{}", digits[at])?;
+        }
+    }
+    if decimal.scale < 0 {
+        write!(text, "e{}", decimal.scale.unsigned_abs())?;
+    }
+    Ok(())
+}
+
+/// The digits of the whole number of a decimal, without its sign and with zeros in front.
+fn digits_of(decimal: Decimal) -> [u8; DIGITS] {
+    let mut number = magnitude(decimal);
+    let mut digits = [0; DIGITS];
+    for at in 0..DIGITS {
+        digits[DIGITS - 1 - at] = divide_by_ten(&mut number);
+    }
+    digits
+}
+
+/// The whole number of a decimal without its sign, the least significant byte first.
+fn magnitude(decimal: Decimal) -> [u8; BYTES] {
+    let high = decimal.high.unsigned_abs();
+    let (high, low) = if decimal.high >= 0 {
+        (high, decimal.low)
+    } else if decimal.low == 0 {
+        (high, 0)
+    } else {
+        (high - 1, u128::MAX - decimal.low + 1)
+    };
+    let mut number = [0; BYTES];
+    number[..BYTES / 2].copy_from_slice(&low.to_le_bytes());
+    number[BYTES / 2..].copy_from_slice(&high.to_le_bytes());
+    number
+}
+
+/// Divides a number by ten, and gives what is left.
+fn divide_by_ten(number: &mut [u8; BYTES]) -> u8 {
+    let mut rest = 0;
+    for at in 0..BYTES {
+        let (tenth, left) = tenth_of(rest, number[BYTES - 1 - at]);
+        number[BYTES - 1 - at] = tenth;
+        rest = left;
+    }
+    rest
+}
+
+/// The next byte of a long division by ten: it and what is left of the bytes above it, divided, and
+/// what is left of it.
+fn tenth_of(rest: u8, byte: u8) -> (u8, u8) {
+    let part = u16::from(rest) * 256 + u16::from(byte);
+    ((part / 10 % 256) as u8, (part % 10) as u8)
 }
 
 /// Appends the bits of a floating-point number in hexadecimal, and its text.

@@ -48,6 +48,10 @@ bare_column layout slots place = record { layout = layout; has_sign = false; wid
 abbrev pub no_column : PlainColumn
 no_column = bare_column 0 0 0
 
+-- values of so many bytes each, or of a bit
+abbrev pub with_values : PlainColumn → ℕ → List ℕ → List ℕ → PlainColumn
+with_values c width validity values = record c { width = width; validity = validity; values = values }
+
 -- numbers
 abbrev pub with_numbers : PlainColumn → NumberBuffers → PlainColumn
 with_numbers c of = record c { has_sign = of.signed; width = of.width; validity = of.validity.now; values = of.values.now }
@@ -64,11 +68,11 @@ is_float _ = false
 -- the plain column of buffers of a type, with so many slots, of which one is meant
 abbrev pub told_of : Tag → ℕ → ℕ → Buffers → PlainColumn
 told_of tag slots place buffers.Nulls = bare_column 1 slots place
-told_of tag slots place (buffers.Bools validity values) = record (bare_column 2 slots place) { validity = validity.now; values = values.now }
+told_of tag slots place (buffers.Bools validity values) = with_values (bare_column 2 slots place) 0 validity.now values.now
 told_of tag slots place (buffers.Numbers of) = with_numbers (bare_column (if is_float tag then 10 else 3) slots place) of
 told_of tag slots place (buffers.Binaries of) = with_strings (bare_column 4 slots place) of
 told_of tag slots place (buffers.Texts of) = with_strings (bare_column 5 slots place) of
-told_of tag slots place (buffers.FixedBytes width validity values) = record (bare_column 6 slots place) { width = width; validity = validity.now; values = values.now }
+told_of tag slots place (buffers.FixedBytes width validity values) = with_values (bare_column 6 slots place) width validity.now values.now
 told_of tag slots place (buffers.Lists width validity offsets child) = record (bare_column 7 slots place) { width = offset_bytes width; children = 1; validity = validity.now; offsets = offsets.now }
 told_of tag slots place (buffers.Structs validity children) = record (bare_column 8 slots place) { children = length children.now; validity = validity.now }
 told_of tag slots place (buffers.Indices of dictionary) = record (with_numbers (bare_column 9 slots place) of) { entries = length dictionary.now.values }

@@ -5,7 +5,7 @@ ghost use Rattle.arrow_data.specs.Column.{HasValue};
 ghost use Rattle.arrowflow_c.specs.Columns.{ColumnAt, HasNothing, IsBelow, IsColumnOf, ShowsBelow};
 ghost use Rattle.arrow_types.specs.View.{type_view};
 ghost use Rattle.arrowflow_c.specs.Columns.{bare_column, is_float, no_column, plain_of, told_of};
-ghost use Rattle.arrowflow_c.specs.Columns.{with_numbers, with_strings};
+ghost use Rattle.arrowflow_c.specs.Columns.{with_numbers, with_strings, with_values};
 
 use arrow_data::{Array, Batch, Buffers, Dictionary, NumberBuffers, StringBuffers};
 use arrow_types::DataType;
@@ -64,6 +64,18 @@ impl<'a> ColumnC<'a> {
         }
     }
 
+    /// Values of so many bytes each, or of a bit.
+    fn of_values(self, width: usize, validity: &'a [u8], values: &'a [u8]) -> ColumnC<'a>
+        ensures { plain_of result ≡ with_values (plain_of self.entry) width validity.now values.now }
+    {
+        ColumnC {
+            width: width as u64,
+            validity,
+            values,
+            ..self
+        }
+    }
+
     /// Numbers or indices.
     fn of_numbers(self, of: NumberBuffers<'a>) -> ColumnC<'a>
         ensures { plain_of result ≡ with_numbers (plain_of self.entry) of.entry }
@@ -97,11 +109,9 @@ impl<'a> ColumnC<'a> {
     {
         match buffers {
             Buffers::Nulls => ColumnC::bare(1, slots, place),
-            Buffers::Bools { validity, values } => ColumnC {
-                validity,
-                values,
-                ..ColumnC::bare(2, slots, place)
-            },
+            Buffers::Bools { validity, values } => {
+                ColumnC::bare(2, slots, place).of_values(0, validity, values)
+            }
             Buffers::Numbers(of) => {
                 let layout = if is_float(data_type) { 10 } else { 3 };
                 ColumnC::bare(layout, slots, place).of_numbers(of)
@@ -112,12 +122,7 @@ impl<'a> ColumnC<'a> {
                 width,
                 validity,
                 values,
-            } => ColumnC {
-                width: width as u64,
-                validity,
-                values,
-                ..ColumnC::bare(6, slots, place)
-            },
+            } => ColumnC::bare(6, slots, place).of_values(width, validity, values),
             Buffers::Lists {
                 width,
                 validity,

@@ -1,12 +1,14 @@
 //! The format strings of types.
 
+ghost use Rattle.std.specs.Prelude.{◌++◌, codes};
+ghost use Rattle.std.specs.Fmt.{decimal, signed_decimal};
 ghost use Rattle.arrow_types.specs.View.{type_view};
 ghost use Rattle.arrowflow_c.specs.Pens.{Puts};
 ghost use Rattle.arrowflow_report.specs.TypeWords.{format_of};
 
 use crate::pens::Pen;
 use arrow_types::DataType;
-use arrowflow_report::words_of;
+use arrowflow_report::{format_width, words_of};
 use itoa::Buffer;
 
 /// Puts the format string of a type into the room.
@@ -15,8 +17,23 @@ pub(crate) fn put_type(room: &mut [u8], pen: Pen, data_type: &DataType) -> Pen
 {
     let pen = pen.put(room, words_of(data_type).format.as_bytes());
     match data_type {
+        DataType::Decimal {
+            width,
+            precision,
+            scale,
+        } => put_digits(room, pen, *precision, *scale).put(room, format_width(*width).as_bytes()),
         DataType::FixedSizeBinary(width) => pen.put(room, Buffer::new().format(*width).as_bytes()),
         DataType::Timestamp(_, Some(zone)) => pen.put(room, zone.as_bytes()),
         _ => pen,
     }
+}
+
+/// Puts the precision and the scale of a decimal into the room.
+fn put_digits(room: &mut [u8], pen: Pen, precision: u8, scale: i8) -> Pen
+    ensures { Puts room.old pen (decimal precision ++ codes "," ++ signed_decimal scale) result
+        room.new }
+{
+    pen.put(room, Buffer::new().format(precision).as_bytes())
+        .put(room, b",")
+        .put(room, Buffer::new().format(scale).as_bytes())
 }

@@ -1,10 +1,13 @@
 -- The words of types (Schema.fbs, union "Type"): the name in the text of a schema, which is this project's own, and the format
 -- string (Arrow C data interface, "Data type description -- format strings"). A row for each type, and for each unit of one.
 use Rattle.std.specs.Prelude.{ℕ, true, false, List, [], ◌++◌, Some, None, codes}
-use Rattle.std.specs.Fmt.{decimal}
+use Rattle.std.specs.Fmt.{decimal, signed_decimal}
+use Rattle.arrow_types.specs.DataType as tags
 use Rattle.arrow_types.specs.DataType.{Tag, null, boolean, int, floating_point, binary, large_binary, fixed_size_binary, utf8, large_utf8, date, time, timestamp, duration, interval, list, large_list, map, struct}
 use Rattle.arrow_types.specs.declared.data_type.BitWidth.TheVariants.{Eight, Sixteen, ThirtyTwo, SixtyFour}
 use Rattle.arrow_types.specs.declared.data_type.DateUnit.TheVariants as dates
+use Rattle.arrow_types.specs.declared.data_type.DecimalWidth.{DecimalWidth}
+use Rattle.arrow_types.specs.declared.data_type.DecimalWidth.TheVariants as decimals
 use Rattle.arrow_types.specs.declared.data_type.IntervalUnit.TheVariants.{YearMonth, DayTime, MonthDayNano}
 use Rattle.arrow_types.specs.declared.data_type.Precision.TheVariants.{Half, Single, Double}
 use Rattle.arrow_types.specs.declared.data_type.TimeUnit.TheVariants as times
@@ -19,7 +22,7 @@ pub record Texts : Type 0 where
 abbrev pub words : List ℕ → List ℕ → Texts
 words name format = record { name = name; format = format }
 
--- the fixed texts of a type without its children: whole, or up to its width or its time zone
+-- the fixed texts of a type without its children: whole, or up to its width, its time zone or its precision
 abbrev pub words_of : Tag → Texts
 words_of null = words (codes "null") (codes "n")
 words_of boolean = words (codes "bool") (codes "b")
@@ -34,6 +37,10 @@ words_of (int SixtyFour false) = words (codes "uint64") (codes "L")
 words_of (floating_point Half) = words (codes "halffloat") (codes "e")
 words_of (floating_point Single) = words (codes "float") (codes "f")
 words_of (floating_point Double) = words (codes "double") (codes "g")
+words_of (tags.decimal decimals.ThirtyTwo _ _) = words (codes "decimal32(") (codes "d:")
+words_of (tags.decimal decimals.SixtyFour _ _) = words (codes "decimal64(") (codes "d:")
+words_of (tags.decimal decimals.OneHundredTwentyEight _ _) = words (codes "decimal128(") (codes "d:")
+words_of (tags.decimal decimals.TwoHundredFiftySix _ _) = words (codes "decimal256(") (codes "d:")
 words_of binary = words (codes "binary") (codes "z")
 words_of large_binary = words (codes "large_binary") (codes "Z")
 words_of (fixed_size_binary _) = words (codes "fixed_size_binary[") (codes "w:")
@@ -62,16 +69,25 @@ words_of (map false) = words (codes "map") (codes "+m")
 words_of (map true) = words (codes "map[sorted]") (codes "+m")
 words_of struct = words (codes "struct") (codes "+s")
 
--- what follows the name: the width, or the time zone if there is one, which may be empty
+-- what follows the name: the width, the time zone if there is one, which may be empty, or the precision and the scale
 abbrev pub name_end : Tag → List ℕ
 name_end (fixed_size_binary width) = decimal width ++ codes "]"
+name_end (tags.decimal _ precision scale) = decimal precision ++ codes ", " ++ signed_decimal scale ++ codes ")"
 name_end (timestamp _ None) = codes "]"
 name_end (timestamp _ (Some zone)) = codes ", " ++ escaped zone ++ codes "]"
 name_end _ = []
 
--- what follows the format string: the width, or the time zone if there is one
+-- the width at the end of a format string of decimals: of 128 bits none is given
+abbrev pub format_width : DecimalWidth → List ℕ
+format_width decimals.ThirtyTwo = codes ",32"
+format_width decimals.SixtyFour = codes ",64"
+format_width decimals.OneHundredTwentyEight = []
+format_width decimals.TwoHundredFiftySix = codes ",256"
+
+-- what follows the format string: the width, the time zone if there is one, or the precision and the scale
 abbrev pub format_end : Tag → List ℕ
 format_end (fixed_size_binary width) = decimal width
+format_end (tags.decimal width precision scale) = decimal precision ++ codes "," ++ signed_decimal scale ++ format_width width
 format_end (timestamp _ (Some zone)) = zone
 format_end _ = []
 

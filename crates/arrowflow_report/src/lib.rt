@@ -67,5 +67,5 @@ pub use reports::{check, check_quietly, show, show_columns, show_first};
 pub use schema_call::schema_text;
 pub use schema_lines::schema_lines_of;
 pub use tool_fault::ToolFault;
-pub use type_words::{TypeWords, int_words, words_of};
+pub use type_words::{TypeWords, format_width, int_words, words_of};
 pub use what::What;

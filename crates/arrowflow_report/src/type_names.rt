@@ -58,6 +58,11 @@ fn push_type(line: &mut String, data_type: &DataType) -> Result<(), AllocError>
 {
     line.push_str(words_of(data_type).name)?;
     match data_type {
+        DataType::Decimal {
+            precision,
+            scale,
+            ..
+        } => write!(line, "{}, {})", *precision, *scale),
         DataType::FixedSizeBinary(width) => write!(line, "{}]", *width),
         DataType::Timestamp(_, None) => line.push_str("]"),
         DataType::Timestamp(_, Some(zone)) => {

@@ -1,14 +1,14 @@
 //! The words of types: their names and their format strings, side by side.
 
-ghost use Rattle.std.specs.Prelude.{◌≡◌};
-ghost use Rattle.arrow_types.specs.DataType.{int};
+ghost use Rattle.std.specs.Prelude.{◌≡◌, ℕ, ℤ};
+ghost use Rattle.arrow_types.specs.DataType.{decimal, int};
 ghost use Rattle.arrow_types.specs.View.{type_view};
-ghost use Rattle.arrowflow_report.specs.TypeWords.{words_of};
+ghost use Rattle.arrowflow_report.specs.TypeWords.{format_width, words_of};
 
-use arrow_types::{BitWidth, DataType, DateUnit, IntervalUnit, Precision, TimeUnit};
+use arrow_types::{BitWidth, DataType, DateUnit, DecimalWidth, IntervalUnit, Precision, TimeUnit};
 
-/// The fixed texts of a type: whole, or up to the width of a FixedSizeBinary or the time zone of a
-/// Timestamp.
+/// The fixed texts of a type: whole, or up to the width of a FixedSizeBinary, the time zone of a
+/// Timestamp or the precision of a Decimal.
 #[derive(Clone, Copy, Debug)]
 pub struct TypeWords {
     /// The name in the text of a schema.
@@ -19,7 +19,8 @@ pub struct TypeWords {
 
 /// The words of a type without its children. The width of a FixedSizeBinary follows them, and so
 /// does the time zone of a Timestamp if it has one, in the name after `, `; these names end with
-/// `]`.
+/// `]`. The precision and the scale of a Decimal follow them, in the name with `, ` between and `)`
+/// after them, in the format string with `,` between them and its [`format_width`] after them.
 pub fn words_of(data_type: &DataType) -> TypeWords
     ensures name { result.name.now ≡ (words_of (type_view data_type.now).tag).name }
     ensures format { result.format.now ≡ (words_of (type_view data_type.now).tag).format }
@@ -31,6 +32,7 @@ pub fn words_of(data_type: &DataType) -> TypeWords
         DataType::FloatingPoint(Precision::Half) => words("halffloat", "e"),
         DataType::FloatingPoint(Precision::Single) => words("float", "f"),
         DataType::FloatingPoint(Precision::Double) => words("double", "g"),
+        DataType::Decimal { width, .. } => decimal_words(*width),
         DataType::Binary => words("binary", "z"),
         DataType::LargeBinary => words("large_binary", "Z"),
         DataType::FixedSizeBinary(_) => words("fixed_size_binary[", "w:"),
@@ -75,6 +77,33 @@ pub fn int_words(bits: BitWidth, signed: bool) -> TypeWords
         (BitWidth::Sixteen, false) => words("uint16", "S"),
         (BitWidth::ThirtyTwo, false) => words("uint32", "I"),
         (BitWidth::SixtyFour, false) => words("uint64", "L"),
+    }
+}
+
+/// The words of decimals of this width.
+fn decimal_words(width: DecimalWidth) -> TypeWords
+    ensures name { (precision : ℕ) (scale : ℤ)
+        → result.name.now ≡ (words_of (decimal width precision scale)).name }
+    ensures format { (precision : ℕ) (scale : ℤ)
+        → result.format.now ≡ (words_of (decimal width precision scale)).format }
+{
+    match width {
+        DecimalWidth::ThirtyTwo => words("decimal32(", "d:"),
+        DecimalWidth::SixtyFour => words("decimal64(", "d:"),
+        DecimalWidth::OneHundredTwentyEight => words("decimal128(", "d:"),
+        DecimalWidth::TwoHundredFiftySix => words("decimal256(", "d:"),
+    }
+}
+
+/// What follows the precision and the scale in the format string of decimals of this width.
+pub fn format_width(width: DecimalWidth) -> &'static str
+    ensures { result.now ≡ format_width width }
+{
+    match width {
+        DecimalWidth::ThirtyTwo => ",32",
+        DecimalWidth::SixtyFour => ",64",
+        DecimalWidth::OneHundredTwentyEight => "",
+        DecimalWidth::TwoHundredFiftySix => ",256",
     }
 }
 

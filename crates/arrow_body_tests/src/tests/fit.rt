@@ -9,7 +9,7 @@ use std::process::Abort;
 
 // The types of the fields, the type of the values of dictionary 0, or nothing where there is none, and
 // whether both fit.
-static FITTING: [(&str, &str, bool); 16] = [
+static FITTING: [(&str, &str, bool); 23] = [
     ("by:0:int8 utf8", "", true),
     ("by:0:int8 utf8", "utf8", true),
     ("by:0:int8 utf8", "large_utf8", false),
@@ -29,6 +29,17 @@ static FITTING: [(&str, &str, bool); 16] = [
         "fixed_size_binary[4]",
         false,
     ),
+    ("by:0:int8 decimal[128:38:2]", "decimal[128:38:2]", true),
+    ("by:0:int8 decimal[128:38:2]", "decimal[128:38:-2]", false),
+    ("by:0:int8 decimal[128:38:2]", "decimal[128:37:2]", false),
+    ("by:0:int8 decimal[64:18:2]", "decimal[128:18:2]", false),
+    ("by:0:int8 decimal[32:9:0]", "int32", false),
+    (
+        "by:0:int8 decimal[256:76:2]",
+        "fixed_size_binary[32]",
+        false,
+    ),
+    ("by:0:int8 decimal[256:76:2]", "decimal[256:76:2]", true),
     ("utf8 by:0:int8 utf8", "binary", false),
     ("list struct[2] bool by:0:int8 utf8", "utf8", true),
     ("list struct[2] bool by:0:int8 utf8", "binary", false),

@@ -118,17 +118,22 @@ fn store_twice(alloc: Global, room: &mut Body, columns: &[Array], wanted: &Wante
     is_so.then_some(())
 }
 
+// That the columns of rows are stored as these say.
+pub(super) fn are_stored(rt: &(impl Abort + AllocGlobal), rows: &[&str]) {
+    let mut room = Body::new(rt.alloc());
+    for row in rows {
+        let (of, wanted) = row.split_once(" => ").expect(rt, row);
+        let (of, parts) = of.split_once(" | ").expect(rt, row);
+        let (_, of) = of.split_once(": ").expect(rt, row);
+        let columns = loaded(rt, of, parts, &[]).expect(rt, "a body that is sound");
+        let wanted = Wanted::of(rt, wanted);
+        store_twice(rt.alloc(), &mut room, &columns, &wanted).expect(rt, row);
+    }
+}
+
 #[test]
 fn columns_are_laid_out_again(rt: HostRuntime) {
-    let mut room = Body::new(rt.alloc());
-    for row in &COLUMNS {
-        let (of, wanted) = row.split_once(" => ").expect(&rt, row);
-        let (of, parts) = of.split_once(" | ").expect(&rt, row);
-        let (_, of) = of.split_once(": ").expect(&rt, row);
-        let columns = loaded(&rt, of, parts, &[]).expect(&rt, "a body that is sound");
-        let wanted = Wanted::of(&rt, wanted);
-        store_twice(rt.alloc(), &mut room, &columns, &wanted).expect(&rt, row);
-    }
+    are_stored(&rt, &COLUMNS);
 }
 
 // The dictionary of segments.
@@ -159,17 +164,22 @@ fn store_rest_twice(
     is_so.then_some(())
 }
 
+// The same of the rests of dictionaries.
+pub(super) fn are_rests(rt: &(impl Abort + AllocGlobal), rows: &[&str]) {
+    let mut room = Body::new(rt.alloc());
+    for row in rows {
+        let (of, wanted) = row.split_once(" => ").expect(rt, row);
+        let (of, from) = of.split_once(" from ").expect(rt, row);
+        let (of, segments) = of.split_once(" | ").expect(rt, row);
+        let (_, of) = of.split_once(": ").expect(rt, row);
+        let whole = of_segments(rt, of, segments);
+        let from = from.parse::<usize>().ok().expect(rt, row);
+        let wanted = Wanted::of(rt, wanted);
+        store_rest_twice(rt.alloc(), &mut room, (&whole, from), &wanted).expect(rt, row);
+    }
+}
+
 #[test]
 fn rests_are_laid_out(rt: HostRuntime) {
-    let mut room = Body::new(rt.alloc());
-    for row in &RESTS {
-        let (of, wanted) = row.split_once(" => ").expect(&rt, row);
-        let (of, from) = of.split_once(" from ").expect(&rt, row);
-        let (of, segments) = of.split_once(" | ").expect(&rt, row);
-        let (_, of) = of.split_once(": ").expect(&rt, row);
-        let whole = of_segments(&rt, of, segments);
-        let from = from.parse::<usize>().ok().expect(&rt, row);
-        let wanted = Wanted::of(&rt, wanted);
-        store_rest_twice(rt.alloc(), &mut room, (&whole, from), &wanted).expect(&rt, row);
-    }
+    are_rests(&rt, &RESTS);
 }

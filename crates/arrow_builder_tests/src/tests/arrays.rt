@@ -19,7 +19,7 @@ const A: &str = "7 utf8 = 'a'";
 type Finish = (&'static str, &'static str);
 
 // The type of a column and its values; how it is finished, again and again.
-static FINISHES: [(&str, &str, &[Finish]); 7] = [
+static FINISHES: [(&str, &str, &[Finish]); 9] = [
     (
         "by:7:uint8 utf8",
         "0 null 2",
@@ -75,6 +75,32 @@ static FINISHES: [(&str, &str, &[Finish]); 7] = [
         "list by:7:uint8 utf8",
         "",
         &[("", ""), ("7 bool =", "fault 1")],
+    ),
+    // Decimals of another width, precision or scale are of another type.
+    (
+        "by:7:uint8 decimal[128:38:2]",
+        "0 null 1",
+        &[
+            (
+                "7 decimal[128:38:2] = -5 170141183460469231731687303715884105727",
+                "0=-5, null, 1=170141183460469231731687303715884105727",
+            ),
+            ("7 decimal[128:38:2] = -5", "fault 2"),
+            ("7 decimal[128:38:3] = -5 6", "fault 1"),
+            ("7 decimal[128:38:-2] = -5 6", "fault 1"),
+            ("7 decimal[128:37:2] = -5 6", "fault 1"),
+            ("7 decimal[64:18:2] = -5 6", "fault 1"),
+            ("7 decimal[256:38:2] = null null", "fault 1"),
+            ("7 int64 = -5 6", "fault 1"),
+        ],
+    ),
+    (
+        "by:7:uint8 decimal[256:76:-3]",
+        "0 null",
+        &[
+            ("7 decimal[256:76:-3] = null", "0=null, null"),
+            ("7 fixed_size_binary[32] = null", "fault 1"),
+        ],
     ),
 ];
 

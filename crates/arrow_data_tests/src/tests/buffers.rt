@@ -9,7 +9,7 @@ use std::process::Abort;
 const MEMORY: &str = "memory";
 
 // Columns, and their buffers; of children what they are of themselves.
-static COLUMNS: [&str; 19] = [
+static COLUMNS: [&str; 23] = [
     "null; 4 => nulls",
     "bool; 4; 251 / 249 => truths [251] [249]",
     "int32; 2; / i 1 2 => 4 signed bytes [] [1, 0, 0, 0, 2, 0, 0, 0]",
@@ -17,6 +17,13 @@ static COLUMNS: [&str; 19] = [
     "halffloat; 2; 1 / 2 1 4 3 => 2 bytes [1] [2, 1, 4, 3]",
     "double; 1; / l -2 => 8 bytes [] [254, 255, 255, 255, 255, 255, 255, 255]",
     "timestamp[s]; 1; / l -2 => 8 signed bytes [] [254, 255, 255, 255, 255, 255, 255, 255]",
+    "decimal[32:9:2]; 1; / i -2 => 4 signed bytes [] [254, 255, 255, 255]",
+    "decimal[64:18:2]; 1; 1 / l 3 => 8 signed bytes [1] [3, 0, 0, 0, 0, 0, 0, 0]",
+    "decimal[128:38:2]; 1; / l -2 3 => 16 signed bytes [] \
+     [254, 255, 255, 255, 255, 255, 255, 255, 3, 0, 0, 0, 0, 0, 0, 0]",
+    "decimal[256:76:2]; 1; 1 / l 1 2 3 4 => strings of 32 [1] \
+     [1, 0, 0, 0, 0, 0, 0, 0, 2, 0, 0, 0, 0, 0, 0, 0, \
+     3, 0, 0, 0, 0, 0, 0, 0, 4, 0, 0, 0, 0, 0, 0, 0]",
     "utf8; 3; 5 / i 0 1 1 3 / 'abc??' => \
      small texts [5] [0, 0, 0, 0, 1, 0, 0, 0, 1, 0, 0, 0, 3, 0, 0, 0] [97, 98, 99, 63, 63]",
     "large_utf8; 1; / l 0 2 / 'ab' => \

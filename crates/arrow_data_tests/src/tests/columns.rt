@@ -5,7 +5,7 @@ use super::told::{has_same, shows};
 
 // Columns, and what they show. A validity of 253 has a null in the second slot, and all spare bits are
 // set.
-static COLUMNS: [&str; 44] = [
+static COLUMNS: [&str; 54] = [
     "int32; 3; 5 / i 1 0 3 => 3: 1, null, 3",
     "utf8; 3; 5 / i 0 1 1 3 / 'abc' => 3: 'a', null, 'bc'",
     "binary; 2; / i 0 1 1 / 255 => 2: [255], []",
@@ -59,6 +59,27 @@ static COLUMNS: [&str; 44] = [
     "struct[1] int32; 2 2; 1 / 1 / i 5 0 => 2: {0}, null | 1 fields | field 0 2: 5, null",
     "struct[1] int32; 3 5; 253 / / i 1 2 3 4 5 => \
      3: {0}, null, {2} | 1 fields | field 0 5: 1, 2, 3, 4, 5",
+    // The bytes F1 to F8 and 9 to 16, nines under a null, and the least number.
+    "decimal[128:38:2]; 3; 253 / 241 242 243 244 245 246 247 248 9 10 11 12 13 14 15 16 \
+     9 9 9 9 9 9 9 9 9 9 9 9 9 9 9 9 0 0 0 0 0 0 0 0 0 0 0 0 0 0 0 128 => \
+     3: 21345817372864405899208700669361124081, null, -170141183460469231731687303715884105728",
+    // The last byte has the sign.
+    "decimal[128:38:2]; 1; / 9 10 11 12 13 14 15 16 241 242 243 244 245 246 247 248 => \
+     1: -9346317682749651623210535491940447735",
+    "decimal[128:38:0]; 2; / l -1 9223372036854775807 -1 -1 => \
+     2: 170141183460469231731687303715884105727, -1",
+    "decimal[128:38:0]; 0; / => 0:",
+    // A byte short of a number, and of two.
+    "decimal[32:9:2]; 1; / 1 2 3 => no column",
+    "decimal[64:18:2]; 1; / 1 2 3 4 5 6 7 => no column",
+    "decimal[128:38:0]; 1; / 1 2 3 4 5 6 7 8 9 10 11 12 13 14 15 => no column",
+    "decimal[128:38:0]; 2; / 0 0 0 0 0 0 0 0 0 0 0 0 0 0 0 0 0 0 0 0 0 0 0 0 0 0 0 0 0 0 0 => \
+     no column",
+    "decimal[256:76:2]; 1; / 0 0 0 0 0 0 0 0 0 0 0 0 0 0 0 0 0 0 0 0 0 0 0 0 0 0 0 0 0 0 0 => \
+     no column",
+    "decimal[256:76:2]; 2; 1 / l 1 2 3 -1 9 9 9 9 => \
+     2: [1, 0, 0, 0, 0, 0, 0, 0, 2, 0, 0, 0, 0, 0, 0, 0, 3, 0, 0, 0, 0, 0, 0, 0, \
+     255, 255, 255, 255, 255, 255, 255, 255], null",
 ];
 
 #[test]
@@ -75,7 +96,7 @@ const NUMBERS: &str = "; 3; 253 / 241 242 243 244 245 246 247 248 9 10 11 12 13 
 
 // Types of numbers, and what three slots show, of which the second is null: how wide they are, and
 // whether they have a sign.
-static TYPES: [&str; 25] = [
+static TYPES: [&str; 27] = [
     "uint8 => 3: 241, null, 243",
     "int8 => 3: -15, null, -13",
     "uint16 => 3: 62193, null, 63221",
@@ -101,6 +122,8 @@ static TYPES: [&str; 25] = [
     "duration[ms] => 3: -506664896818842895, null, 1735880461161533969",
     "duration[us] => 3: -506664896818842895, null, 1735880461161533969",
     "duration[ns] => 3: -506664896818842895, null, 1735880461161533969",
+    "decimal[32:9:2] => 3: -185339151, null, 202050057",
+    "decimal[64:18:-2] => 3: -506664896818842895, null, 1735880461161533969",
 ];
 
 #[test]
@@ -136,12 +159,14 @@ const SMALL_LISTS: &str = "list int32; 3 1; 253 / i 0 1 1 1 / / i 1";
 
 const STRUCTS: &str = "struct[1] int32; 2 2; 1 / 1 / i 5 0";
 
+const DECIMALS: &str = "decimal[128:38:2]; 4; 253 / l 5 0 9 9 5 1 -5 0";
+
 const TWO_STRUCTS: &str = "struct[1] int32; 2 2; 253 / / i 1 1";
 
 // Two columns, and a word for each slot of the first: which slots of the second are equal to it.
 // Values are the same whatever the width of the offsets, or whether they have any; what a null hides
 // makes no difference, and a null is equal to another one alone.
-static SAME: [(&str, &str, &str); 11] = [
+static SAME: [(&str, &str, &str); 14] = [
     (TEXTS, TEXTS, "=-- -=- --="),
     ("null; 4", "bool; 4; 251 / 249", "--=- --=- --=- --=-"),
     (LISTS, LISTS, "=-- -=- --="),
@@ -153,6 +178,14 @@ static SAME: [(&str, &str, &str); 11] = [
     (TRIPLES, HIDDEN_TRIPLES, "=-- -=-"),
     (LATER, HIDDEN_TRIPLES, "=-- --- --="),
     (LARGE_LISTS, SMALL_LISTS, "=-- -=- --="),
+    (DECIMALS, DECIMALS, "=--- -=-- --=- ---="),
+    // A number is a number in each width, and what is above 64 bits counts.
+    (DECIMALS, "int64; 3; 253 / l 5 9 -5", "=-- -=- --- ---"),
+    (
+        DECIMALS,
+        "decimal[256:76:2]; 2; 2 / l 5 0 0 0 5 0 0 0",
+        "-- =- -- --",
+    ),
 ];
 
 #[test]

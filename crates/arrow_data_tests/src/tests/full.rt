@@ -7,11 +7,24 @@ use std::process::Abort;
 // The first null after each null, at last the end, and the bytes of the values before it.
 type Runs = &'static [(usize, &'static [u8])];
 
-static COLUMNS: [(&str, Runs); 8] = [
+static COLUMNS: [(&str, Runs); 9] = [
     // 1, null with a 9 under it, and 3.
     (
         "int32; 3; 253 / i 1 9 3 7",
         &[(1, &[1, 0, 0, 0]), (3, &[3, 0, 0, 0])],
+    ),
+    // -2, null with nines under it, and 3 * 2^64 + 1.
+    (
+        "decimal[128:38:2]; 3; 253 / l -2 -1 9 9 1 3",
+        &[
+            (
+                1,
+                &[
+                    254, 255, 255, 255, 255, 255, 255, 255, 255, 255, 255, 255, 255, 255, 255, 255,
+                ],
+            ),
+            (3, &[1, 0, 0, 0, 0, 0, 0, 0, 3, 0, 0, 0, 0, 0, 0, 0]),
+        ],
     ),
     // Without a bitmap there is no null.
     ("uint8; 3; / 7 8 255 9", &[(3, &[7, 8, 255])]),

@@ -7,7 +7,7 @@ ghost use Rattle.arrow_data.specs.Slots.{index_width};
 use super::making::{column, dictionary, listed};
 use super::told::shows;
 use arrow_data::NumberBuffers;
-use arrow_data::form::{Form, node_form};
+use arrow_data::form::{Form, NumberForm, node_form};
 use arrow_data::layout::{are_indices, has_fixed};
 use arrow_test_fields::fields_of;
 use arrow_types::BitWidth::{self, Eight, Sixteen, SixtyFour, ThirtyTwo};
@@ -165,7 +165,7 @@ fn a_node_of_indices_has_their_form(rt: HostRuntime) {
             &rt,
             words,
             &fields_of(rt.alloc(), words).expect(&rt, "fields"),
-            Form::Numbers { bits, signed },
+            Form::Numbers(NumberForm::Int { bits, signed }),
         );
     }
 }

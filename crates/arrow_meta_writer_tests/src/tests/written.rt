@@ -5,7 +5,8 @@ use arrow_meta_reader::{Header, Message, MetadataVersion, decode};
 use arrow_meta_writer::{encode, encode_in, encoded_size};
 use arrow_test_streams::parts::Source::{Bytes, Growing, OneBatch};
 use arrow_test_streams::parts::{Edit, Part, joined};
-use arrow_types::{BitWidth, DataType, Field, Limits, Schema};
+use arrow_types::DecimalWidth::{OneHundredTwentyEight, SixtyFour, ThirtyTwo, TwoHundredFiftySix};
+use arrow_types::{BitWidth, DataType, DecimalWidth, Field, Limits, Schema, TypeSet};
 use std::process::Abort;
 
 pub(super) const MEMORY: &str = "memory";
@@ -17,10 +18,11 @@ pub(super) const ONE_BATCH: Part = (OneBatch, 160, 304);
 
 const ABC: Part = (Growing, 208, 400);
 
-// The message that bytes mean to a reader with the widest limits.
+// The message that bytes mean to a reader of all types with the widest limits.
 pub(super) fn decoded(rt: &(impl Abort + AllocGlobal), bytes: &[u8]) -> Message {
     let limits = Limits::new(Limits::METADATA_CEILING, Limits::BODY_CEILING, 0);
-    decode(rt.alloc(), bytes, &limits.expect(rt, "the ceilings")).expect(rt, "a message")
+    let limits = limits.expect(rt, "the ceilings").with_types(TypeSet::All);
+    decode(rt.alloc(), bytes, &limits).expect(rt, "a message")
 }
 
 // A schema that is equal, or a batch or a dictionary that is shown as this one.
@@ -169,4 +171,48 @@ fn a_schema_with_a_pair_is_written(rt: HostRuntime) {
         body_len: 0,
     };
     assert_eq!(rt; written(&rt, &message).len(), 200);
+}
+
+// The metadata of one column `n` of decimals of 128 bits, of precision 38 and scale 10: the precision
+// is at byte 132, the scale at 136 and the number of bits at 140, each in four bytes.
+const DECIMAL: &[u8; 152] = b"\x10\0\0\0\x0c\0\x18\0\x04\0\x06\0\x08\0\x10\0\x0c\0\0\0\x04\0\x01\0\
+    \x18\0\0\0\0\0\0\0\0\0\0\0\0\0\0\0\x08\0\x0c\0\x04\0\x08\0\x08\0\0\0\0\0\0\0\x04\0\0\0\x01\0\0\
+    \0\x18\0\0\0\x10\0\x14\0\x04\0\x08\0\t\0\x0c\0\0\0\x10\0\0\0\0\0\x14\0\0\0\x10\0\0\0\x01\x07\0\
+    \0\x1c\0\0\0(\0\0\0\x01\0\0\0n\0\n\0\x10\0\x04\0\x08\0\x0c\0\0\0\0\0\x0e\0\0\0&\0\0\0\n\0\0\0\
+    \x80\0\0\0\0\0\0\0\0\0\0\0";
+
+// Widths, precisions and scales, and what they are in other bytes of it.
+static DECIMALS: [(DecimalWidth, u8, i8, &[Edit]); 6] = [
+    (OneHundredTwentyEight, 38, 10, &[]),
+    (OneHundredTwentyEight, 1, 0, &[(132, &[1]), (136, &[0])]),
+    (ThirtyTwo, 9, 76, &[(132, &[9]), (136, &[76]), (140, &[32])]),
+    (
+        SixtyFour,
+        18,
+        -1,
+        &[(132, &[18]), (136, &[255; 4]), (140, &[64])],
+    ),
+    (
+        TwoHundredFiftySix,
+        76,
+        -76,
+        &[(132, &[76]), (136, &[180, 255, 255, 255]), (140, &[0, 1])],
+    ),
+    (TwoHundredFiftySix, 38, 10, &[(140, &[0, 1])]),
+];
+
+#[test]
+fn decimals_are_written_byte_for_byte(rt: HostRuntime) {
+    for &(width, precision, scale, edits) in &DECIMALS {
+        let of = DataType::Decimal {
+            width,
+            precision,
+            scale,
+        };
+        let mut columns = Vec::new(rt.alloc());
+        columns.push(field(&rt, "n", true, of)).expect(&rt, MEMORY);
+        let bytes = written(&rt, &schema(&rt, columns));
+        let want = bytes_of(&rt, &[(Bytes(DECIMAL), 0, 152)], edits);
+        assert!(rt; bytes.as_slice() == want.as_slice(), "{precision} {scale}");
+    }
 }

@@ -548,3 +548,71 @@ fn integers_are_appended(rt: HostRuntime) {
     put_int(&mut out, 8, -2).expect(&rt, "memory");
     assert!(rt; out.as_slice() == APPENDED.as_slice());
 }
+
+// Integers of 128 bits with a sign, and their bytes.
+static LONG_INTEGERS: [([u8; 16], i128); 9] = [
+    ([0; 16], 0),
+    ([1, 0, 0, 0, 0, 0, 0, 0, 0, 0, 0, 0, 0, 0, 0, 0], 1),
+    ([255; 16], -1),
+    (
+        [0, 0, 0, 0, 0, 0, 0, 0, 1, 0, 0, 0, 0, 0, 0, 0],
+        18446744073709551616,
+    ),
+    (
+        [
+            0, 0, 0, 0, 0, 0, 0, 0, 255, 255, 255, 255, 255, 255, 255, 255,
+        ],
+        -18446744073709551616,
+    ),
+    (
+        [0, 0, 0, 0, 0, 0, 0, 128, 0, 0, 0, 0, 0, 0, 0, 0],
+        9223372036854775808,
+    ),
+    (
+        [
+            255, 255, 255, 255, 255, 255, 255, 255, 255, 255, 255, 255, 255, 255, 255, 127,
+        ],
+        170141183460469231731687303715884105727,
+    ),
+    (
+        [0, 0, 0, 0, 0, 0, 0, 0, 0, 0, 0, 0, 0, 0, 0, 128],
+        -170141183460469231731687303715884105728,
+    ),
+    (
+        [
+            0xee, 0xff, 0x0f, 0x1e, 0x2d, 0x3c, 0x4b, 0x5a, 0x69, 0x78, 0x87, 0x96, 0xa5, 0xb4,
+            0xc3, 0xd2,
+        ],
+        -0x2d3c_4b5a_6978_8796_a5b4_c3d2_e1f0_0012,
+    ),
+];
+
+// All of their bytes, one after another.
+fn long_integers(rt: &(impl Abort + AllocGlobal)) -> Vec<u8> {
+    let mut all = Vec::new(rt.alloc());
+    for (bytes, _) in &LONG_INTEGERS {
+        all.extend_from_slice(bytes).expect(rt, "memory");
+    }
+    all
+}
+
+#[test]
+fn integers_of_128_bits(rt: HostRuntime) {
+    for row in LONG_INTEGERS.iter() {
+        let (bytes, number) = *row;
+        assert_eq!(rt; int_at(&bytes, 16, true, 0), number);
+        let mut out = Vec::new(rt.alloc());
+        put_int(&mut out, 16, number).expect(&rt, "memory");
+        assert!(rt; out.as_slice() == bytes.as_slice(), "{number}");
+    }
+}
+
+#[test]
+fn slots_of_128_bits(rt: HostRuntime) {
+    let all = long_integers(&rt);
+    assert!(rt; all.len() == 144);
+    for (i, (_, number)) in LONG_INTEGERS.iter().enumerate() {
+        assert!(rt; i < 9);
+        assert_eq!(rt; int_at(&all, 16, true, i), *number);
+    }
+}

@@ -1,8 +1,8 @@
 // Fields that are built of what stands in words.
 
 use arrow_types::{
-    BitWidth, DataType, Encoding, Field, IndexType, IntervalUnit, Precision, Schema, SchemaFault,
-    TimeUnit,
+    BitWidth, DataType, DateUnit, DecimalWidth, Encoding, Field, IndexType, IntervalUnit,
+    Precision, Schema, SchemaFault, TimeUnit,
 };
 use std::process::Abort;
 
@@ -58,9 +58,30 @@ fn interval_unit_in(rt: &impl Abort, word: &str) -> IntervalUnit {
     }
 }
 
+fn decimal_width_in(rt: &impl Abort, bits: &str) -> DecimalWidth {
+    match bits {
+        "32" => DecimalWidth::ThirtyTwo,
+        "64" => DecimalWidth::SixtyFour,
+        "128" => DecimalWidth::OneHundredTwentyEight,
+        "256" => DecimalWidth::TwoHundredFiftySix,
+        _ => panic!(rt; "{bits} is no width of decimals"),
+    }
+}
+
+// Decimals of these bits, this precision and this scale, as `128,38,-2`.
+fn decimals_of(rt: &impl Abort, numbers: &str) -> DataType {
+    let (bits, more) = numbers.split_once(',').expect(rt, "a width");
+    let (precision, scale) = more.split_once(',').expect(rt, "a precision and a scale");
+    DataType::Decimal {
+        width: decimal_width_in(rt, bits),
+        precision: precision.parse::<u8>().ok().expect(rt, "a precision"),
+        scale: scale.parse::<i8>().ok().expect(rt, "a scale"),
+    }
+}
+
 // The type that a word names. Behind a dot stand the width of byte strings, the unit of times, the
-// zone of timestamps in microseconds, how many fields before it a struct takes, or that the keys of a
-// map are sorted; a list and a map take one field.
+// zone of timestamps in microseconds, the numbers of decimals, how many fields before it a struct
+// takes, or that the keys of a map are sorted; a list and a map take one field.
 fn data_type(rt: &(impl Abort + AllocGlobal), before: &mut Vec<Field>, word: &str) -> DataType {
     let (name, more) = word.split_once('.').unwrap_or((word, ""));
     match name {
@@ -70,14 +91,20 @@ fn data_type(rt: &(impl Abort + AllocGlobal), before: &mut Vec<Field>, word: &st
         "map" => DataType::Map(boxed(rt, before), more == "sorted"),
         "null" => DataType::Null,
         "bool" => DataType::Bool,
+        "int" => DataType::Int {
+            bits: BitWidth::ThirtyTwo,
+            signed: true,
+        },
         "binary" => DataType::Binary,
         "large_binary" => DataType::LargeBinary,
         "fixed" => DataType::FixedSizeBinary(count_in(rt, more)),
         "halffloat" => DataType::FloatingPoint(Precision::Half),
         "float" => DataType::FloatingPoint(Precision::Single),
         "double" => DataType::FloatingPoint(Precision::Double),
+        "decimal" => decimals_of(rt, more),
         "utf8" => DataType::Utf8,
         "large_utf8" => DataType::LargeUtf8,
+        "date" => DataType::Date(DateUnit::Day),
         "time" => DataType::Time(unit_in(rt, more)),
         "duration" => DataType::Duration(unit_in(rt, more)),
         "interval" => DataType::Interval(interval_unit_in(rt, more)),

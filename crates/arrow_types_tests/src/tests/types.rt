@@ -2,11 +2,12 @@
 
 use super::fields::{MEMORY, add_empty, column, columns, number};
 use arrow_types::SchemaFault::{
-    ByteWidth, MapEntries, Memory, NestedDictionary, SharedIdTypesDiffer, TooDeep, TooManyFields,
-    TooManyPairs,
+    ByteWidth, DecimalRange, MapEntries, Memory, NestedDictionary, SharedIdTypesDiffer, TooDeep,
+    TooManyFields, TooManyPairs,
 };
 use arrow_types::{
-    BitWidth, DateUnit, Field, Limits, Precision, Schema, SchemaFault, TimeUnit, TypeSet,
+    BitWidth, DateUnit, DecimalWidth, Field, Limits, Precision, Schema, SchemaFault, TimeUnit,
+    TypeSet,
 };
 use std::process::Abort;
 
@@ -51,8 +52,9 @@ fn a_set_of_types_changes_no_number(rt: HostRuntime) {
 }
 
 // Columns, and whether the core leaves the type of a field among them out.
-static LATE: [(&str, bool); 16] = [
+static LATE: [(&str, bool); 20] = [
     ("", false),
+    ("i:int d:date", false),
     (
         "a:null b:bool c:fixed.4 d:time.s e:timestamp f:duration.ns",
         false,
@@ -77,6 +79,9 @@ static LATE: [(&str, bool); 16] = [
     ),
     ("k:utf8 v:bool e:struct.2 m:map", true),
     ("k:utf8 v:bool e:struct.2 m:map.sorted l:list", true),
+    ("d:decimal.32,9,2 n:null", true),
+    ("d@1:decimal.128,38,0", true),
+    ("n:null d:decimal.256,76,-76 s:struct.2 l:list", true),
 ];
 
 #[test]
@@ -107,6 +112,24 @@ fn units_have_their_widths(rt: HostRuntime) {
     ];
     for (row, (width, bits)) in widths.iter().enumerate() {
         assert!(rt; width.bits() == *bits, "number {row}");
+    }
+}
+
+// The widths of decimals, their bits and the greatest number of digits.
+static DECIMAL_WIDTHS: [(DecimalWidth, u16, u8); 4] = [
+    (DecimalWidth::ThirtyTwo, 32, 9),
+    (DecimalWidth::SixtyFour, 64, 18),
+    (DecimalWidth::OneHundredTwentyEight, 128, 38),
+    (DecimalWidth::TwoHundredFiftySix, 256, 76),
+];
+
+#[test]
+fn decimals_have_their_widths(rt: HostRuntime) {
+    for (width, bits, digits) in &DECIMAL_WIDTHS {
+        assert!(rt;
+            width.bits() == *bits && width.digits() == *digits,
+            "{bits}"
+        );
     }
 }
 
@@ -192,8 +215,52 @@ fn maps_have_entries(rt: HostRuntime) {
     are_judged(&rt, &MAPS);
 }
 
+// The same of decimals.
+static DECIMALS: [(&str, usize, u8); 31] = [
+    // The least and the greatest precision of each width, and those next to them.
+    ("d:decimal.32,0,0", 0, 9),
+    ("d:decimal.32,1,0", 0, 0),
+    ("d:decimal.32,9,0", 0, 0),
+    ("d:decimal.32,10,0", 0, 9),
+    ("d:decimal.64,0,0", 0, 9),
+    ("d:decimal.64,18,0", 0, 0),
+    ("d:decimal.64,19,0", 0, 9),
+    ("d:decimal.128,0,0", 0, 9),
+    ("d:decimal.128,38,0", 0, 0),
+    ("d:decimal.128,39,0", 0, 9),
+    ("d:decimal.256,0,0", 0, 9),
+    ("d:decimal.256,1,0", 0, 0),
+    ("d:decimal.256,76,0", 0, 0),
+    ("d:decimal.256,77,0", 0, 9),
+    ("d:decimal.256,255,0", 0, 9),
+    // The same of the scale, which may be greater than the precision.
+    ("d:decimal.32,9,-77", 0, 9),
+    ("d:decimal.32,9,-76", 0, 0),
+    ("d:decimal.32,9,76", 0, 0),
+    ("d:decimal.32,9,77", 0, 9),
+    ("d:decimal.256,76,-128", 0, 9),
+    ("d:decimal.256,76,127", 0, 9),
+    ("d:decimal.256,76,-76", 1, 0),
+    // Below other fields, by a dictionary, and beside decimals that are allowed.
+    ("d:decimal.64,19,0 l:list s:struct.1", 0, 9),
+    ("d@1:decimal.128,0,3", 0, 9),
+    ("d@1:decimal.128,1,3", 0, 0),
+    ("d:decimal.128,38,3 e:decimal.64,38,3", 0, 9),
+    ("k:utf8 d:decimal.32,0,0 e:struct.2 m:map", 0, 9),
+    // The last of all faults.
+    ("d:decimal.32,0,0 f:fixed.2147483648", 0, 6),
+    ("d:decimal.32,0,0", 65_537, 7),
+    ("d:decimal.32,0,0 m:map", 0, 8),
+    ("d@1:decimal.32,0,0 l@2:list", 0, 3),
+];
+
+#[test]
+fn decimals_keep_to_their_range(rt: HostRuntime) {
+    are_judged(&rt, &DECIMALS);
+}
+
 // The faults in the order of their numbers, which begin at 1, and what each says.
-static WORDS: [(SchemaFault, &str); 8] = [
+static WORDS: [(SchemaFault, &str); 9] = [
     (TooDeep, "more than 32 levels of fields"),
     (TooManyFields, "more than 65,536 fields"),
     (NestedDictionary, "a dictionary below a dictionary"),
@@ -204,6 +271,10 @@ static WORDS: [(SchemaFault, &str); 8] = [
     (
         MapEntries,
         "a map whose child is not a struct of two fields",
+    ),
+    (
+        DecimalRange,
+        "a decimal of a precision or a scale out of range",
     ),
 ];
 
@@ -266,7 +337,7 @@ fn children_of_lists_and_structs(rt: HostRuntime) {
 const COPIED: &str = "k@1:utf8 z:timestamp.UTC i:time.s l:list d:duration.ns f:fixed.16 \
     b:large_binary t:large_utf8 m:large_list n:large_list s:struct.6 d:double f:float \
     m:interval.year_month t:interval.day_time i:interval.month_day_nano s:struct.3 \
-    k:utf8 v:bool e:struct.2 y:map.sorted";
+    k:utf8 v:bool e:struct.2 y:map.sorted p:decimal.256,76,-76";
 
 fn is_copied(rt: &(impl Abort + AllocGlobal), field: &Field) {
     assert!(rt; field.copy(rt.alloc()).expect(rt, MEMORY) == *field);
@@ -282,7 +353,7 @@ fn copies_are_equal(rt: HostRuntime) {
     }
     let copy = schema.copy(rt.alloc()).expect(&rt, MEMORY);
     assert!(rt; copy == schema);
-    assert!(rt; has_ids(&copy, &[1], 6));
+    assert!(rt; has_ids(&copy, &[1], 7));
 }
 
 // Fields that each differ from `k@0:timestamp.UTC`, and whether their type is the same.
@@ -320,16 +391,18 @@ fn equality_reads_everything(rt: HostRuntime) {
 const APART: &str = "c:binary c:large_binary c:fixed.0 c:fixed.3 c:fixed.4 c:utf8 c:large_utf8 \
     c:time.s c:duration.s c:duration.ms c:duration.us c:duration.ns c:struct.0 c:null \
     c:halffloat c:float c:double c:interval.year_month c:interval.day_time \
-    c:interval.month_day_nano e:struct.0 c:map e:struct.0 c:map.sorted k:null c:map";
+    c:interval.month_day_nano e:struct.0 c:map e:struct.0 c:map.sorted k:null c:map \
+    c:decimal.64,9,2 c:decimal.128,9,2 c:decimal.64,8,2 c:decimal.64,9,-2 c:decimal.64,9,1";
 
 const LISTS: &str =
     "t:utf8 l:list t:utf8 l:large_list t:large_utf8 l:list t:large_utf8 l:large_list";
 
-// That each type is the same as itself alone.
+// That each type is the same as itself alone, and equal to it.
 fn are_apart(rt: &impl Abort, columns: &[Field]) {
     for (i, one) in columns.iter().enumerate() {
         for (j, other) in columns.iter().enumerate() {
             assert!(rt; one.data_type.same(&other.data_type) == (i == j), "{i} {j}");
+            assert!(rt; (one.data_type == other.data_type) == (i == j), "{i} {j}");
         }
     }
 }

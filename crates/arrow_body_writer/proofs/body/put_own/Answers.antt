@@ -23,6 +23,6 @@ returns-in_ok-put_bytes-in-Some-Numbers-clause-stored c =
     let full = c.in-Some-Numbers.ensures in
     let bytes = c.value_bytes.result.now in
     subst (λ chunks. Stores align (own_node a.raw ∷ []) chunks c.args.body.now c.put_bytes.new.body)
-    (full_numbers a c.in-Some-Numbers.field-0 c.in-Some-Numbers.field-0-0 c.in-Some-Numbers.field-0-1 c.len.result bytes full.known full.form c.in-Some-Numbers.field-0-is full.full c.len.ensures.count c.value_bytes.ensures)
+    (full_numbers a c.in-Some-Numbers.field-0 c.in-Some-Numbers.field-0-0 c.len.result bytes full.known full.form c.in-Some-Numbers.field-0-is full.full c.len.ensures.count c.value_bytes.ensures)
     (stores_more align (own_node a.raw ∷ []) [] ([] ∷ []) (bytes ∷ []) c.args.body.now c.put_full-in-Some-Numbers.new.body c.put_bytes.new.body (some_alignment c.args.align)
     c.in_ok-put_full-in-Some-Numbers.ensures c.in_ok-put_bytes-in-Some-Numbers.ensures)

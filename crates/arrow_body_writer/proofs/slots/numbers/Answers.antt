@@ -12,8 +12,8 @@ pub returns-then-holds_numbers : goal.returns-then-holds_numbers
 returns-then-holds_numbers c =
     let a = c.args.slice.array.now in
     let vs = values_from a.raw c.args.slice.start c.args.slice.stop in
-    let known = c.own_form-form.ensures in
+    let known = c.own_form.ensures in
     let holds = c.if-holds_numbers.ensures refl in
-    let form : node_form a.data_type.tag a.encoding ≡ forms.Numbers c.args.bits holds.0 = sym known.form ∙ holds.1 in
+    let form : node_form a.data_type.tag a.encoding ≡ forms.Numbers c.args.form = sym known.form ∙ holds in
     let all = subst (λ f. AllByRecursion (IsFullOf f a.data_type.children) vs) form (full_of a c.args.slice.start c.args.slice.stop known.known c.requires.slots.inside c.requires.full) in
-    c.value_bytes.ensures ∙ ap (λ f. flat_map (value_bytes f) vs) form ∙ numbers_are c.args.bits holds.0 a.data_type.children vs all
+    c.value_bytes.ensures ∙ ap (λ f. flat_map (value_bytes f) vs) form ∙ numbers_are c.args.form a.data_type.children vs all

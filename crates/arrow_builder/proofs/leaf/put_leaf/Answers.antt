@@ -8,8 +8,8 @@ pub returns-in-Numbers-clause-put : goal.returns-in-Numbers-clause-put
 returns-in-Numbers-clause-put c =
     let b' = buffers_in c.put_number.new.buffers in
     ok_gives c.put_number.result
-    (number_leaf c.args.form c.in-Numbers.bits c.in-Numbers.signed c.number_width.result (value_view c.args.value.now) c.number_in.result c.args.at (buffers_in c.args.buffers.now) b'
-    c.in-Numbers.is c.number_width.ensures.same c.requires.fits c.number_in.ensures)
+    (number_leaf c.args.form c.in-Numbers.form c.width.result (value_view c.args.value.now) c.number_in.result c.args.at (buffers_in c.args.buffers.now) b'
+    c.in-Numbers.is c.width.ensures.same c.requires.fits c.number_in.ensures)
     c.put_number.ensures.put
 
 pub returns-in-Bytes-clause-put : goal.returns-in-Bytes-clause-put

@@ -1,7 +1,6 @@
 use mir.Syntax.{w128}
 use mir.Val.{to_z, of_z}
-use Rattle.arrow_builder.proofs.Storing.{whole_number}
-use Rattle.std.proofs.Common.{◌≡◌, ◌*◌, ◌++◌, Bool, length, take, refl, ap, subst, arith, ◌∙◌, length-take}
+use Rattle.std.proofs.Common.{◌≡◌, ◌*◌, ◌++◌, Bool, length, take, refl, ap, subst, arith, rules, ◌∙◌, length-take}
 use Rattle.std.proofs.lemmas.Grind.{common_steps}
 use Rattle.std.proofs.lemmas.List.{take-take}
 use Rattle.arrow_bits.specs.Numbers.{int_bytes, int_of, FitsInt}
@@ -27,7 +26,7 @@ returns-clause-put c =
     let cut : c.truncate.new.self.items ≡ take n old = grind (arith, common_steps) in
     let long : length (take n old) ≡ n = grind (arith, length-take, c.requires.kept.long) in
     let more = int_bytes c.args.width c.stored_number.result in
-    let whole : to_z w128 (of_z w128 c.stored_number.result) ≡ c.stored_number.result = whole_number c.args.width c.stored_number.result c.requires.width c.stored_number.ensures.fits in
+    let whole : to_z w128 (of_z w128 c.stored_number.result) ≡ c.stored_number.result = search rules in
     let items : c.put_int.new.out.items ≡ take n old ++ more =
     c.in_ok-put_int.ensures.bytes ∙ ap (λ xs. xs ++ int_bytes c.args.width (to_z w128 (of_z w128 c.stored_number.result))) cut ∙ ap (λ z. take n old ++ int_bytes c.args.width z) whole in
     let start : take n c.put_int.new.out.items ≡ take n old = ap (take n) items ∙ start_stays old more n c.requires.kept.long in
@@ -50,7 +49,7 @@ returns-clause-stay c =
     let n = c.args.width * c.args.at in
     let cut : c.truncate.new.self.items ≡ take n old = grind (arith, common_steps) in
     let more = int_bytes c.args.width c.stored_number.result in
-    let whole : to_z w128 (of_z w128 c.stored_number.result) ≡ c.stored_number.result = whole_number c.args.width c.stored_number.result c.requires.width c.stored_number.ensures.fits in
+    let whole : to_z w128 (of_z w128 c.stored_number.result) ≡ c.stored_number.result = search rules in
     let items : c.put_int.new.out.items ≡ take n old ++ more =
     c.in_ok-put_int.ensures.bytes ∙ ap (λ xs. xs ++ int_bytes c.args.width (to_z w128 (of_z w128 c.stored_number.result))) cut ∙ ap (λ z. take n old ++ int_bytes c.args.width z) whole in
     let start : take n c.put_int.new.out.items ≡ take n old = ap (take n) items ∙ start_stays old more n c.requires.kept.long in

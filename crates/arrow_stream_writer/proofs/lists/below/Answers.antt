@@ -21,7 +21,7 @@ returns-in-Nulls c plain =
       | inr a ↦ elim (a) [
         | inl e ↦ no_field c.form_of.result forms.Bits fields has (λ h. h) e
         | inr b ↦ elim (b) [
-          | inl e ↦ no_field c.form_of.result (forms.Numbers e.0 e.1) fields has (λ h. h) e.2
+          | inl e ↦ no_field c.form_of.result (forms.Numbers e.0) fields has (λ h. h) e.1
           | inr d ↦ elim (d) [
             | inl e ↦ no_field c.form_of.result (forms.Bytes e.0) fields has (λ h. h) e.1
             | inr f ↦ elim (f) [

@@ -23,8 +23,8 @@ pub returns-in-Some-numbers_of : goal.returns-in-Some-numbers_of
 returns-in-Some-numbers_of c =
     let raw = c.args.slice.array.now.raw in
     on_ok_weaker c.put.result
-    (λ added. numbers_written c.args.part c.in-Numbers.width c.args.self.now (record c.args.self.now { out = c.put.new.out }) c.in-Some-numbers_of.numbers raw c.args.slice.start c.args.slice.stop
-    c.in-Numbers.is (c.in-Some-numbers_of.ensures.width ∙ c.number_width.ensures.same) (added raw c.in-Some-numbers_of.ensures.held c.requires.slots.inside))
+    (λ added. numbers_written c.args.part c.in-Numbers.form c.args.self.now (record c.args.self.now { out = c.put.new.out }) c.in-Some-numbers_of.numbers raw c.args.slice.start c.args.slice.stop
+    c.in-Numbers.is (c.in-Some-numbers_of.ensures.width ∙ c.width.ensures.same) (added raw c.in-Some-numbers_of.ensures.held c.requires.slots.inside))
     c.put.ensures
 
 -- the buffer is still the same, and no slots are added so far

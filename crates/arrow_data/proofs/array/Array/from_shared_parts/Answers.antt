@@ -2,7 +2,8 @@ use Rattle.std.proofs.Common.{◌≡◌, ◌≤◌, ap, sym, ◌∙◌, subst, l
 use Rattle.std.proofs.lemmas.Result.{IfOk-weaker}
 use Rattle.arrow_types.specs.View.{type_view}
 use Rattle.arrow_data.specs.Layout.{buffer_count}
-use Rattle.arrow_data.specs.Node.{bytes_of, column_by}
+use Rattle.arrow_data.specs.Node.{IsFormat, bytes_of, column_by}
+use Rattle.arrow_data.specs.declared.form.Form.TheVariants as forms
 use Rattle.arrow_data.specs.Parts.{node_column, values_in}
 use Rattle.arrow_data.specs.declared.array.Ranges.TheVariants.{Indices}
 use Rattle.arrow_data.proofs.NodeParts.{index_same}
@@ -34,8 +35,9 @@ returns-in_ok-dictionary-in-Some c =
     let two : 2 ≤ length c.args.node.ranges.now = subst (λ e. buffer_count t.tag e ≤ length c.args.node.ranges.now) encoded c.requires.count in
     let d = c.in_ok-dictionary-in-Some.dictionary in
     let whole = c.in_ok-dictionary-in-Some.ensures.ok ∙ c.in_ok-or_empty-in-Some.ensures.same ∙ ap (λ x. record { data_type = x; values = values_in c.args.below.dictionary }) shape in
+    let format = subst (λ form. IsFormat (forms.Numbers form) c.numbers-indices.result) c.of_index.ensures c.numbers-indices.ensures.format in
     let indexed = index_same own c.in-Some.encoding c.args.node.len c.args.node.body.now c.args.node.ranges.now c.args.below.children.items c.numbers-indices.result d (values_in c.args.below.dictionary)
-    c.numbers-indices.ensures.format c.numbers-indices.ensures.validity c.numbers-indices.ensures.values whole two in
+    format c.numbers-indices.ensures.validity c.numbers-indices.ensures.values whole two in
     let same = indexed ∙ ap (λ x. node_column x (Some c.in-Some.encoding) c.args.node.len b c.args.below.children.items (values_in c.args.below.dictionary)) c.data_type-shared.ensures
     ∙ ap (λ e. node_column t e c.args.node.len b c.args.below.children.items (values_in c.args.below.dictionary)) (sym encoded) in
     IfOk-weaker c.of_ranges.result (λ a. a ≡ column_by own (Some c.in-Some.encoding) c.args.node.len c.args.node.body.now (Indices c.numbers-indices.result d))

@@ -1,9 +1,0 @@
-use Rattle.std.proofs.Common.{arith}
-use Rattle.arrow_types.proofs.Fields.{fewer_below}
-use Rattle.arrow_types.proofs.widths.+widths.Goals as goal
-
--- fewer fields stand below one of them
-pub are_too_wide-is_too_wide-requires : goal.are_too_wide-is_too_wide-requires
-are_too_wide-is_too_wide-requires t c =
-    let fewer = fewer_below c.args.fields.now c.loop-field.field-index c.field-item.result c.loop-field-test.true c.field-item.is in
-    (omega (arith, c.decreases, fewer), tt)
