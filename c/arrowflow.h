@@ -105,8 +105,8 @@ size_t arrowflow_error_text(uint32_t kind, uint64_t place, char *out, size_t roo
 enum arrowflow_types {
     ARROWFLOW_TYPES_CORE = 0, /* Null, Bool, Int, Binary, Utf8 and these Large, FixedSizeBinary, Date,
                                * Time, Timestamp, Duration, List, LargeList, Struct: never others */
-    ARROWFLOW_TYPES_ALL = 1   /* also FloatingPoint, Decimal, Interval, Map, and what later versions of the
-                               * library read */
+    ARROWFLOW_TYPES_ALL = 1   /* also FloatingPoint, Decimal, Interval, FixedSizeList, Map, and what later
+                               * versions of the library read */
 };
 
 /* How much a stranger's stream may ask for, and which types it may have. */
@@ -333,8 +333,9 @@ enum arrowflow_layout {
     ARROWFLOW_LAYOUT_LISTS = 7,       /* slot i are the child's slots from offset i up to offset i + 1 */
     ARROWFLOW_LAYOUT_STRUCTS = 8,     /* slot i is slot i of each child */
     ARROWFLOW_LAYOUT_INDICES = 9,     /* slot i is the number of a value of the dictionary, as NUMBERS */
-    ARROWFLOW_LAYOUT_FLOATS = 10      /* slot i is the floating-point number (IEEE 754) of `width` bytes, 2,
+    ARROWFLOW_LAYOUT_FLOATS = 10,     /* slot i is the floating-point number (IEEE 754) of `width` bytes, 2,
                                        * 4 or 8, at byte width * i, bit for bit as it came */
+    ARROWFLOW_LAYOUT_FIXED_LISTS = 11 /* slot i are the `width` slots of the child from slot width * i on */
 };
 
 /* A column as its buffers. Numbers and offsets are little-endian, and may lie at any address: they
@@ -343,9 +344,10 @@ enum arrowflow_layout {
 typedef struct {
     uint32_t layout;         /* enum arrowflow_layout */
     bool has_sign;           /* of numbers and indices: two's complement */
-    uint64_t width;          /* bytes of a number, an index, a byte string of FIXED_BYTES or an offset */
+    uint64_t width;          /* bytes of a number, an index, a byte string of FIXED_BYTES or an offset; of
+                              * FIXED_LISTS the items of each list */
     uint64_t slots;          /* of a column of the batch, as many as rows */
-    uint64_t children;       /* of LISTS 1, of STRUCTS one for each field */
+    uint64_t children;       /* of LISTS and FIXED_LISTS 1, of STRUCTS one for each field */
     uint64_t entries;        /* of INDICES, how many values the dictionary has */
     uint64_t slot;           /* if the path ends with a value of a dictionary, the slot that it is in */
     const uint8_t *validity; /* bit i: slot i has a value; of 0 bytes: each slot has one */
@@ -357,7 +359,7 @@ typedef struct {
 } arrowflow_column;
 
 /* Returns a column of the reader's batch, with its buffers. path[0] is the number of the column, and each
- * number after it leads a level down: below LISTS it is 0, below STRUCTS that of a field, and below INDICES
+ * number after it leads a level down: below LISTS and FIXED_LISTS it is 0, below STRUCTS that of a field, below INDICES
  * that of a value of the dictionary, which leads to the array that this value is in, at `slot`.
  * The array's other slots are the dictionary's values around it, one after another, so that value
  * n - slot + slots is the first of the next array. Each message of the dictionary brought one such array, of no

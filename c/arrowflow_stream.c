@@ -384,7 +384,12 @@ static size_t offset_at(const uint8_t *offsets, size_t width, size_t i) {
     return narrow;
 }
 
-/* What lies inside slots with offsets: bytes, or slots of the child. `like` is the first of the columns. */
+/* Where what lies inside slot i begins, and inside the one before it ends. */
+static size_t place_inside(const arrowflow_column *of, size_t i) {
+    return of->layout == ARROWFLOW_LAYOUT_FIXED_LISTS ? of->width * i : offset_at(of->offsets, of->width, i);
+}
+
+/* What lies inside slots: bytes, or slots of the child. `like` is the first of the columns. */
 static void find_inside(struct source *it, const struct slots *from, const arrowflow_column *like, bool is_front,
                         struct run *inside) {
     for (size_t k = 0; k < from->count; k++) {
@@ -393,8 +398,8 @@ static void find_inside(struct source *it, const struct slots *from, const arrow
         inside[k].start = inside[k].end = 0;
         if (run->start == run->end) continue;
         arrowflow_column of = k == 0 ? *like : column_of(it, from, k);
-        if (!is_front) inside[k].start = offset_at(of.offsets, of.width, run->start);
-        inside[k].end = offset_at(of.offsets, of.width, run->end);
+        if (!is_front) inside[k].start = place_inside(&of, run->start);
+        inside[k].end = place_inside(&of, run->end);
     }
 }
 
@@ -455,6 +460,7 @@ static bool has_nulls(struct source *it, const struct slots *from, const arrowfl
 static int64_t buffers_of(uint32_t layout) {
     switch (layout) {
     case ARROWFLOW_LAYOUT_NULLS: return 0;
+    case ARROWFLOW_LAYOUT_FIXED_LISTS:
     case ARROWFLOW_LAYOUT_STRUCTS: return 1;
     case ARROWFLOW_LAYOUT_BINARIES:
     case ARROWFLOW_LAYOUT_TEXTS: return 3;
@@ -486,6 +492,7 @@ static bool take_room(struct source *it, struct ArrowArray *out, const arrowflow
     size_t width = like->width, had = (size_t)out->length;
     switch (like->layout) {
     case ARROWFLOW_LAYOUT_NULLS:
+    case ARROWFLOW_LAYOUT_FIXED_LISTS:
     case ARROWFLOW_LAYOUT_STRUCTS: return true;
     case ARROWFLOW_LAYOUT_BITS: return resize(it, out, 1, (struct change){(had + 7) / 8, (slots + 7) / 8, false});
     case ARROWFLOW_LAYOUT_LISTS: return take_offsets(it, out, width, slots);
@@ -510,7 +517,8 @@ static int build_children(struct source *it, const struct slots *from, struct Ar
 static int build_empty(struct source *it, const struct ArrowSchema *schema, struct ArrowArray *out) {
     const char *format = schema->format;
     if (!new_array(out, (size_t)schema->n_children, false)) return ENOMEM;
-    out->n_buffers = *format == 'n' ? 0 : strcmp(format, "+s") == 0 ? 1 : strchr("zZuU", *format) != NULL ? 3 : 2;
+    bool is_bare = strcmp(format, "+s") == 0 || strncmp(format, "+w", 2) == 0;
+    out->n_buffers = *format == 'n' ? 0 : is_bare ? 1 : strchr("zZuU", *format) != NULL ? 3 : 2;
     for (int64_t k = 1; k < out->n_buffers; k++)
         if (!resize(it, out, (size_t)k, (struct change){0, 0, false})) return ENOMEM;
     for (int64_t k = 0; k < schema->n_children; k++)
@@ -638,7 +646,7 @@ static int add(struct source *it, const struct slots *from, const arrowflow_colu
         find_inside(it, from, like, to.is_front, inside);
         end = to.inside + count_of(inside, from->count);
         if (like->width == sizeof(int32_t) && end > INT32_MAX) return EOVERFLOW;
-    }
+    } else if (like->layout == ARROWFLOW_LAYOUT_FIXED_LISTS) find_inside(it, from, like, false, inside);
     bool has_validity = out->n_buffers > 0 && (out->buffers[0] != NULL || has_nulls(it, from, like));
     if (has_validity && !take_validity(it, out, slots)) return ENOMEM;
     if (!take_room(it, out, like, slots, (struct change){to.inside, end, true})) return ENOMEM;
@@ -657,6 +665,7 @@ static int build_below(struct source *it, const struct slots *from, const arrowf
     struct slots within = {from->depth + 1, from->level, inside, from->count};
     switch (like->layout) {
     case ARROWFLOW_LAYOUT_STRUCTS: return build_children(it, from, out);
+    case ARROWFLOW_LAYOUT_FIXED_LISTS:
     case ARROWFLOW_LAYOUT_LISTS: return set_path(it, from->depth, 0) ? build(it, &within, out->children[0]) : ENOMEM;
     case ARROWFLOW_LAYOUT_INDICES: return build_dictionary(it, from->depth, like->entries, out->dictionary);
     default: return 0;

@@ -4,7 +4,7 @@ and then places and fields in its value.
 """
 import struct
 
-from frames import INT32, NULL, Buffer, batch, field, metadata_in, numbers, pairs, scalar, schema, table, text, vector
+from frames import INT32, NULL, Buffer, batch, dictionary, field, metadata_in, numbers, pairs, scalar, schema, table, text, vector
 
 
 def tables():
@@ -23,6 +23,12 @@ def decimals(children, *numbers):
     return metadata_in(schema(field("n", (7, table(*(scalar("i", it) for it in numbers))), children)))
 
 
+def fixed_size_lists(names, *children, encoding=None):
+    """The metadata of columns of lists of three nulls each, of these names, whose children have these names."""
+    return metadata_in(schema(*(field(name, (16, table(scalar("i", 3))), [field(it, NULL) for it in children], encoding=encoding)
+                                for name in names)))
+
+
 NUMBERS = schema(field("n", INT32))
 THREE = batch(numbers([1, None, 3]))
 ONE_VECTOR = struct.pack("<I4Hi4I", 12, 6, 8, 4, 0, 8, 4, 2, 1, 2)
@@ -32,8 +38,13 @@ ARRAYS = {
         "DECIMAL": decimals([], 38, 10, 128),
         "WITH_CHILD": decimals([field("c", NULL)], 9, 2, 32),
     },
+    "crates/arrow_meta_reader_tests/src/tests/fixed_size_lists.rt": {
+        "LISTS": fixed_size_lists("l", "c"),
+        "WITH_TWO": fixed_size_lists("l", "c", "d"),
+        "SHARED": fixed_size_lists("ab", "c", encoding=dictionary(7)),
+    },
     "crates/arrow_meta_writer_tests/src/tests/tables.rt": {"LAID_OUT": tables()},
-    "crates/arrow_meta_writer_tests/src/tests/written.rt": {"DECIMAL": decimals([], 38, 10, 128)},
+    "crates/arrow_meta_writer_tests/src/tests/written.rt": {"DECIMAL": decimals([], 38, 10, 128), "LISTS": fixed_size_lists("l", "c")},
     "crates/arrow_small_tests/src/tests/chunks.rt": {"BYTES": bytes((240 + 37 * at) % 256 for at in range(33))},
     "crates/arrow_small_tests/src/tests/flatbuf.rt": {
         "TWO": ONE_VECTOR,

@@ -6,7 +6,7 @@ Message (Message.fbs, Schema.fbs), and the body. The tables are laid out front t
 document allows: a vtable, its table, and then what the table's offsets name, in the order of the fields' numbers. Zero
 bytes fill up what stands between, and the metadata until the body stands at a multiple of the alignment, 8 or 64 bytes.
 A body holds its buffers in order, each at the end of the one before and filled up to the alignment. A null is written
-as zeros, an empty text or an empty list.
+as zeros, an empty text or an empty list; below a null fixed-size list and below a null struct all is null.
 
 Run by itself, it compares two frames, a metadata and some bodies with bytes that are written out.
 """
@@ -150,8 +150,8 @@ def of_type(name, *values):
 
 NULL, BINARY, UTF8, BOOL, LIST, STRUCT = map(of_type, ("Null", "Binary", "Utf8", "Bool", "List", "Struct_"))
 LARGE_BINARY, LARGE_UTF8, LARGE_LIST = map(of_type, ("LargeBinary", "LargeUtf8", "LargeList"))
-integer, floating, date, timestamp, interval, fixed_size_binary, duration = (functools.partial(of_type, it) for it in (
-    "Int", "FloatingPoint", "Date", "Timestamp", "Interval", "FixedSizeBinary", "Duration"))
+integer, floating, date, timestamp, interval, fixed_size_binary, fixed_size_list, duration = (functools.partial(of_type, it) for it in (
+    "Int", "FloatingPoint", "Date", "Timestamp", "Interval", "FixedSizeBinary", "FixedSizeList", "Duration"))
 INT32 = integer(32, True)
 
 
@@ -243,6 +243,13 @@ def lists(values, of, form="i"):
     """Lists, whose items are a column made by `of`, with such offsets."""
     child = of([item for value in values for item in value or ()])
     return Column([node(values)] + child.nodes, [validity(values), offsets(values, form)] + child.buffers)
+
+
+def fixed_lists(values, size, of):
+    """Lists of so many items each, whose items are a column made by `of`; under a null list each item is null."""
+    assert all(value is None or len(value) == size for value in values)
+    child = of([item for value in values for item in (size * [None] if value is None else value)])
+    return Column([node(values)] + child.nodes, [validity(values)] + child.buffers)
 
 
 def structs(values, *children):
@@ -339,6 +346,8 @@ BODIES = [
      "0b 00 00 00 00 00 00 00 09 00 00 00 00 00 00 00"),
     (lists([[1, 2], None, []], numbers), [(3, 1), (2, 0)], [(0, 1), (8, 16), (24, 0), (24, 8)],
      "05 00 00 00 00 00 00 00 00 00 00 00 02 00 00 00 02 00 00 00 02 00 00 00 01 00 00 00 02 00 00 00"),
+    (fixed_lists([[1, None], None], 2, numbers), [(2, 1), (4, 3)], [(0, 1), (8, 1), (16, 16)],
+     "01 00 00 00 00 00 00 00 01 00 00 00 00 00 00 00 01 00 00 00 00 00 00 00 00 00 00 00 00 00 00 00"),
     (structs([(), None], numbers([5, None])), [(2, 1), (2, 1)], [(0, 1), (8, 1), (16, 8)],
      "01 00 00 00 00 00 00 00 01 00 00 00 00 00 00 00 05 00 00 00 00 00 00 00"),
     (strings(["d", "e"]), [(2, 0)], [(0, 0), (0, 12), (16, 2)],

@@ -43,7 +43,8 @@ class Columns:
         if kind == "null":
             return [None] * length, lambda values: frames.nulls(len(values))
         validity = self.buffers.pop(0)
-        slots, layout = self.structs(int(count)) if kind == "struct" else self.slots(kind)
+        nested = {"struct": self.structs, "fixed_size_list": self.fixed_lists}
+        slots, layout = nested[kind](int(count), length) if kind in nested else self.slots(kind)
         return [slots[at] if not validity or validity[at // 8] >> at % 8 & 1 else None for at in range(length)], layout
 
     def slots(self, kind):
@@ -56,7 +57,11 @@ class Columns:
             return parts(items, numbers(buffer)), lambda values: frames.lists(values, of)
         return numbers(buffer), frames.numbers
 
-    def structs(self, count):
+    def fixed_lists(self, size, length):
+        items, of = self.column()
+        return [items[at * size:(at + 1) * size] for at in range(length)], lambda values: frames.fixed_lists(values, size, of)
+
+    def structs(self, count, _):
         fields = [self.column() for _ in range(count)]
 
         def layout(values):

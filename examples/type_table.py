@@ -13,8 +13,10 @@ UNITS = "s", "ms", "us", "ns"
 DIGITS = {32: 9, 64: 18, 128: 38, 256: 76}
 FARTHEST = 76
 
-# Layouts: what a column's buffers have after the validity. NUMBERS and FIXED have slots of one width, BYTES, TEXTS and LISTS offsets.
-NULLS, BITS, NUMBERS, FIXED, BYTES, TEXTS, LISTS, STRUCTS = "nulls", "bits", "numbers", "fixed", "bytes", "texts", "lists", "structs"
+# Layouts: what a column's buffers have after the validity. NUMBERS and FIXED have slots of one width, BYTES, TEXTS and LISTS offsets;
+# FIXED_LISTS, whose lists have one size, and STRUCTS have nothing.
+NULLS, BITS, NUMBERS, FIXED, BYTES, TEXTS = "nulls", "bits", "numbers", "fixed", "bytes", "texts"
+LISTS, FIXED_LISTS, STRUCTS = "lists", "fixed lists", "structs"
 WITH_OFFSETS = BYTES, TEXTS, LISTS
 
 
@@ -36,12 +38,13 @@ class Form:
     """A type with its parameters: the name that `arrowflow schema` prints, the format string in the C data interface, and the layout.
     `slot` is the little-endian format, for the module struct, of a slot's numbers or bytes, or of an offset; bytes of NUMBERS are one
     signed number, for which the module has no format. `text` gives what `arrowflow show` prints of a slot's numbers, but for floating
-    point."""
+    point. `size` is how many items each list of FIXED_LISTS has."""
     printed: str
     format: str
     layout: str
     slot: str = ""
     text: Callable[..., str] = "{}".format
+    size: int = 0
 
     @property
     def width(self):
@@ -137,6 +140,11 @@ def fixed_size_binary(values):
     return Form(f"fixed_size_binary[{width}]", f"w:{width}", FIXED, f"{width}s") if width >= 0 else None
 
 
+def fixed_size_list(values):
+    size, = values
+    return Form(f"fixed_size_list[{size}]", f"+w:{size}", FIXED_LISTS, size=size) if size >= 0 else None
+
+
 TYPES = (
     single("Null", 1, "null", "n", NULLS),
     closed("Int", 2, integers(), Field("bit_width", 4, 0), Field("is_signed", 1, False)),
@@ -164,6 +172,7 @@ TYPES = (
     single("List", 12, "list", "+l", LISTS, "i", children=1),
     single("Struct_", 13, "struct", "+s", STRUCTS, children=None),
     Type("FixedSizeBinary", 15, fixed_size_binary, ((0,), (3,), (16,), (2 ** 31 - 1,)), (Field("byte_width", 4, 0),)),
+    Type("FixedSizeList", 16, fixed_size_list, ((0,), (1,), (3,), (2 ** 31 - 1,)), (Field("list_size", 4, 0),), children=1, is_core=False),
     closed("Map", 17, {(False,): Form("map", "+m", LISTS, "i"), (True,): Form("map[sorted]", "+m", LISTS, "i")},
         Field("keys_sorted", 1, False), children=1, is_core=False, entry_fields=2),
     closed("Duration", 18, {(at,): Form(f"duration[{it}]", f"tD{it[0]}", NUMBERS, "q") for at, it in enumerate(UNITS)},
@@ -174,4 +183,5 @@ TYPES = (
 )
 BY_CODE = {it.code: it for it in TYPES}
 BY_NAME = {it.name: it for it in TYPES}
-INT, FLOATING, DECIMAL, STRUCT, MAP = (BY_NAME[it] for it in ("Int", "FloatingPoint", "Decimal", "Struct_", "Map"))
+INT, FLOATING, DECIMAL, STRUCT, FIXED_SIZE_LIST, MAP = (
+    BY_NAME[it] for it in ("Int", "FloatingPoint", "Decimal", "Struct_", "FixedSizeList", "Map"))

@@ -1,8 +1,8 @@
 """Schemas of types in each form, laid out by frames.py: what vectors/ROWS changes, and what examples have."""
 import bodies
 from frames import (BINARY, BOOL, END_MARKER, INT32, LARGE_BINARY, LARGE_LIST, LARGE_UTF8, LIST, NULL, STRUCT, UTF8, batch, bools, date,
-                    decimal, dictionary, dictionary_batch, duration, field, fixed_size_binary, floating, integer, interval, lists, map_of,
-                    numbers, schema, strings, structs, time, timestamp)
+                    decimal, dictionary, dictionary_batch, duration, field, fixed_lists, fixed_size_binary, fixed_size_list, floating,
+                    integer, interval, lists, map_of, numbers, schema, strings, structs, time, timestamp)
 from streams import four_fields
 from type_table import INT
 
@@ -126,6 +126,37 @@ def maps():
     more = batch(counted([None, [("c,d", 0)]]), named([[], [(-1, 1)]]), lists([None, [[("z", None)]]], counted), numbers([2, 0], "b"))
     return b"".join([columns, dictionary_batch(3, strings(["one", "two"])), dictionary_batch(7, counted([[], [("k", 5)]])), first,
                      dictionary_batch(7, counted([[("k", 5), ("l", None)]]), True), more, END_MARKER])
+
+
+def fixed_size_lists():
+    """Fixed-size lists: of two numbers, of texts by a dictionary, of each other, of no items, of structs, below lists, and by a
+    dictionary that grows."""
+    pair = fixed_size_list(2), [field("item", INT32)]
+    point = field("item", STRUCT, [field("x", INT32), field("y", UTF8)])
+    word = field("item", UTF8, encoding=dictionary(3, 8))
+    columns = schema(field("pair", *pair), field("words", fixed_size_list(3), [word], nullable=False),
+                     field("square", fixed_size_list(2), [field("row", *pair)]), field("none", fixed_size_list(0), [field("item", UTF8)]),
+                     field("points", fixed_size_list(2), [point]), field("paths", LIST, [field("step", *pair)]),
+                     field("term", *pair, encoding=dictionary(7, 8)))
+
+    def of(size, below=numbers):
+        return lambda values: fixed_lists(values, size, below)
+
+    def octets(values):
+        return numbers(values, "b")
+
+    def points(values):
+        its = [it or (None, None) for it in values]
+        return structs(values, numbers([x for x, _ in its]), strings([y for _, y in its]))
+    pairs, triples, squares, nones, ends = of(2), of(3, octets), of(2, of(2)), of(0, strings), of(2, points)
+    first = batch(pairs([[1, 2], None, [None, -3]]), triples([[0, 1, 0], [None, 1, None], [1, 1, 1]]),
+                  squares([[[1, 2], [3, 4]], [None, [5, None]], None]), nones([[], None, []]),
+                  ends([[(1, "a"), None], None, [(None, "b,c"), (2, None)]]), lists([[[1, 1], [2, 3]], [], None], pairs),
+                  octets([1, None, 0]))
+    more = batch(pairs([None, None]), triples([[0, 0, 0], [1, None, 0]]), squares([None, [[6, 7], None]]), nones([None, []]),
+                 ends([None, [(3, ""), (4, "d")]]), lists([None, [None, [8, 9]]], pairs), octets([2, 0]))
+    return b"".join([columns, dictionary_batch(3, strings(["one", "two"])), dictionary_batch(7, pairs([[0, 0], [7, None]])), first,
+                     dictionary_batch(7, pairs([None]), True), more, END_MARKER])
 
 
 def shared_columns():

@@ -14,7 +14,7 @@ sys.dont_write_bytecode = True
 sys.path.insert(0, str(pathlib.Path(__file__).resolve().parent.parent / "examples"))
 import frames
 from frames import scalar, table, vector
-from type_table import BY_CODE, BY_NAME, DECIMAL, DIGITS, FARTHEST, INT, MAP, STRUCT, TEXT, TYPES
+from type_table import BY_CODE, BY_NAME, DECIMAL, DIGITS, FARTHEST, FIXED_SIZE_LIST, INT, MAP, STRUCT, TEXT, TYPES
 
 V4, V5 = 3, 4
 KEYS = [b"", b"k", b"key", b"k", "Schlüssel".encode(), b"\xff\xfe", b"\0", b"ARROW:extension:name", b"\xc3", b"k" * 40]
@@ -91,9 +91,15 @@ def wrong_decimals(field):
     return [*({"type": it} for it in its), {"children": [{**field, "encoding": None}]}]
 
 
+def wrong_fixed_lists(field):
+    """Changes of a fixed-size list: the size is negative, or it has no child or two."""
+    item, = field["children"]
+    return [*({"type": (it,)} for it in (-1, -2 ** 31, -256)), {"children": []}, {"children": [item, {**item, "encoding": None}]}]
+
+
 def misfit(chance, schema):
-    """The schema in which one map or one decimal is not as it may be; None if no field is one."""
-    wrong = {MAP.code: wrong_entries, DECIMAL.code: wrong_decimals}
+    """The schema in which one map, one decimal or one fixed-size list is not as it may be; None if no field is one."""
+    wrong = {MAP.code: wrong_entries, DECIMAL.code: wrong_decimals, FIXED_SIZE_LIST.code: wrong_fixed_lists}
     its = [it for it in model.all_fields(schema.fields) if it["code"] in wrong]
     if not its:
         return None
@@ -233,7 +239,8 @@ class ByChance(Straight):
 
 
 def any_frame(chance, types=model.CORE):
-    """A random schema and a frame of it, now and then of a version that is not read, or with a map or a decimal that is not allowed."""
+    """A random schema and a frame of it, now and then of a version that is not read, or with a map, a decimal or a fixed-size list that
+    is not allowed."""
     schema = any_schema(chance, types)
     if chance.random() < 0.2:
         schema = misfit(chance, schema) or schema

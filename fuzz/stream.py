@@ -10,7 +10,7 @@ import struct
 import floats
 import model
 from model import CORE, Refused, Unreadable, signed
-from type_table import BITS, BYTES, FIXED, FLOATING, INT, LISTS, NULLS, STRUCTS, TEXTS, WITH_OFFSETS
+from type_table import BITS, BYTES, FIXED, FIXED_LISTS, FLOATING, INT, LISTS, NULLS, STRUCTS, TEXTS, WITH_OFFSETS
 
 MAX_ROWS = 2 ** 31 - 1
 
@@ -80,6 +80,11 @@ class Column:
         """From where to where a slot's values go, or so many offsets."""
         return struct.unpack_from(f"<{count}{self.form.slot}", self.held[0], self.form.width * at)
 
+    def items(self, at):
+        """The slots of the child that are the items of a list."""
+        size = self.form.size
+        return range(size * at, size * (at + 1)) if self.form.layout == FIXED_LISTS else range(*self.span(at))
+
     def leaf(self, at):
         """The bit, the numbers or the bytes of a slot of a type without children."""
         if self.form.layout == BITS:
@@ -114,8 +119,8 @@ class Column:
             return column.text(slot)
         if layout == STRUCTS:
             return "{" + ";".join(f"{it.field['name'].decode()}={it.inside(at)}" for it in self.children) + "}"
-        if layout == LISTS:
-            return "[" + ";".join(self.children[0].inside(it) for it in range(*self.span(at))) + "]"
+        if layout in (LISTS, FIXED_LISTS):
+            return "[" + ";".join(map(self.children[0].inside, self.items(at))) + "]"
         return text_of(self.field, self.form, self.leaf(at))
 
 
@@ -161,6 +166,9 @@ class Body:
         if form.layout == STRUCTS:
             column.children = [self.column(it) for it in field["children"]]
             self.need(all(it.length >= length for it in column.children))
+        elif form.layout == FIXED_LISTS:
+            column.children = [self.column(field["children"][0])]
+            self.need(column.children[0].length >= form.size * length)
         elif form.layout in WITH_OFFSETS:
             column.held = [self.buffer()]
             if form.layout == LISTS:

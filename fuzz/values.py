@@ -1,9 +1,10 @@
 """Columns, dictionaries and batches as chance will have them: streams of all types, laid out by examples/frames.py, and the rows
 that `arrowflow show` has to print of them, by docs/FORMAT.md alone.
 
-A kind is a type, one of the core or of those that it leaves out (floating-point numbers, decimals, intervals of each unit, maps), with
-the kinds below it, and perhaps the dictionary that has its values. A value is None if it is null, else a truth, a number, bytes, a text, a list,
-a tuple of the numbers of an interval or of the fields of a struct; by a dictionary it is an index. A map is a list of structs.
+A kind is a type, one of the core or of those that it leaves out (floating-point numbers, decimals, intervals of each unit, fixed-size
+lists, maps), with the kinds below it, and perhaps the dictionary that has its values. A value is None if it is null, else a truth, a
+number, bytes, a text, a list, a tuple of the numbers of an interval or of the fields of a struct; by a dictionary it is an index. A map is
+a list of structs.
 """
 import pathlib
 import sys
@@ -120,6 +121,20 @@ class Lists:
         return "[" + ";".join(inside(self.item, it, held) for it in value) + "]"
 
 
+class FixedLists(Lists):
+    """Lists of a kind, of so many items each."""
+
+    def __init__(self, item, size):
+        super().__init__(item, False)
+        self.size, self.of = size, frames.fixed_size_list(size)
+
+    def value(self, chance, held):
+        return None if chance.random() < chance.nulls else [self.item.value(chance, held) for _ in range(self.size)]
+
+    def laid(self, values):
+        return frames.fixed_lists(values, self.size, self.item.laid)
+
+
 class Structs:
     """Structs of kinds by their names."""
 
@@ -186,6 +201,8 @@ def any_kind(chance, levels, known, may_encode=True, types=CORE):
     if levels > 2 and types == ALL and chance.random() < 0.2:
         parts = [(chance.choice(NAMES), any_kind(chance, levels - 2, known, may_encode, types)) for _ in range(MAP.entry_fields)]
         return Maps(parts, chance.random() < 0.5)
+    if levels > 1 and types == ALL and chance.random() < 0.2:
+        return FixedLists(any_kind(chance, levels - 1, known, may_encode, types), chance.choice([0, 1, 2, 3, 5]))
     if levels > 1 and chance.random() < 0.4:
         if chance.random() < 0.5:
             return Lists(any_kind(chance, levels - 1, known, may_encode, types), chance.random() < 0.5)

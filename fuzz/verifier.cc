@@ -102,15 +102,17 @@ Offset<Vector<Offset<KeyValue>>> any_pairs(FlatBufferBuilder &builder) {
 Offset<Field> any_field(FlatBufferBuilder &builder, Ids &ids, int levels, bool may_encode) {
     static const Type types[] = {Type_Null, Type_Int, Type_Binary, Type_Utf8, Type_Bool, Type_Date, Type_Time,
                                  Type_Timestamp, Type_FixedSizeBinary, Type_Duration, Type_LargeBinary, Type_LargeUtf8,
-                                 Type_FloatingPoint, Type_Interval, Type_Decimal, Type_List, Type_LargeList, Type_Struct_};
-    Type type = types[below(levels > 1 ? 18 : 15)];
+                                 Type_FloatingPoint, Type_Interval, Type_Decimal, Type_List, Type_LargeList,
+                                 Type_FixedSizeList, Type_Struct_};
+    Type type = types[below(levels > 1 ? 19 : 15)];
     Offset<DictionaryEncoding> encoding = 0;
     if (may_encode && below(4) == 0) {
         encoding = any_encoding(builder, ids);
         may_encode = false;
     }
     std::vector<Offset<Field>> children;
-    if (type == Type_List || type == Type_LargeList) children.push_back(any_field(builder, ids, levels - 1, may_encode));
+    if (type == Type_List || type == Type_LargeList || type == Type_FixedSizeList)
+        children.push_back(any_field(builder, ids, levels - 1, may_encode));
     if (type == Type_Struct_)
         for (uint64_t left = below(4); left > 0; left--)
             children.push_back(any_field(builder, ids, levels - 1, may_encode));
@@ -130,6 +132,7 @@ Offset<Field> any_field(FlatBufferBuilder &builder, Ids &ids, int levels, bool m
             break;
         }
         case Type_FixedSizeBinary: table = CreateFixedSizeBinary(builder, any_width()).Union(); break;
+        case Type_FixedSizeList: table = CreateFixedSizeList(builder, any_width()).Union(); break;
         case Type_Duration: table = CreateDuration(builder, unit).Union(); break;
         default: table = CreateNull(builder).Union();
     }
@@ -218,6 +221,7 @@ void tell(std::ostream &out, const Field *field) {
     if (auto type = field->type_as_Decimal())
         out << type->precision() << " digits of " << type->bitWidth() << ", scale " << type->scale();
     if (auto type = field->type_as_FixedSizeBinary()) out << "width " << type->byteWidth();
+    if (auto type = field->type_as_FixedSizeList()) out << "size " << type->listSize();
     if (auto type = field->type_as_Map()) out << "sorted " << type->keysSorted();
     if (auto type = field->type_as_Duration()) out << "unit " << type->unit();
     if (auto by = field->dictionary()) {

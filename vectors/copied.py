@@ -7,7 +7,7 @@ import frames
 import stream
 from frames import END_MARKER
 from model import CORE
-from type_table import LISTS, STRUCTS
+from type_table import FIXED_LISTS, LISTS, STRUCTS
 from worked import split
 
 # The ways as the program numbers them: whether deltas are sent, and the alignment.
@@ -21,9 +21,12 @@ def again(field, its):
     if form.layout == STRUCTS:
         return frames.structs([it and () for it in its], *(again(child, [it and (it[0].children[at], it[1]) for it in its])
             for at, child in enumerate(children)))
-    if form.layout == LISTS:
-        items = [it and [(it[0].children[0], at) for at in range(*it[0].span(it[1]))] for it in its]
-        return frames.lists(items, lambda found: again(children[0], found), form.slot)
+    if form.layout in (LISTS, FIXED_LISTS):
+        items = [it and [(it[0].children[0], at) for at in it[0].items(it[1])] for it in its]
+
+        def below(found):
+            return again(children[0], found)
+        return frames.fixed_lists(items, form.size, below) if form.layout == FIXED_LISTS else frames.lists(items, below, form.slot)
     return bodies.column_of(form)([it and it[0].leaf(it[1]) for it in its])
 
 

@@ -2,6 +2,7 @@
 with the core."""
 import copied
 import decimals
+import fixed_size_lists
 import floating
 import intervals
 import maps
@@ -9,7 +10,7 @@ import worked
 from table import STANDARD
 from told import ALL, CORE, OF_ALL, answers
 
-MODULES = floating, intervals, maps, decimals
+MODULES = floating, intervals, maps, decimals, fixed_size_lists
 # What the names of the same streams begin with, where they are read with the core.
 OF_CORE = "core/"
 REFUSED = "refuse Unsupported at 0\nend Unsupported at 0\n"
@@ -71,6 +72,6 @@ def check(files):
         if not name.startswith(OF_ALL + VERSION_3)]
     its += [(f"the copy of {it}", copied.copy(held, 0, ALL), held) for module in MODULES for it in module.AS_IT_IS
         for held in [module.vectors()[it][2]]]
-    stated = {module.__name__: {f"{OF_ALL}{name}": lines for name, lines in module.STATED.items()} for module in (intervals, maps, decimals)}
+    stated = {it.__name__: {f"{OF_ALL}{name}": lines for name, lines in it.STATED.items()} for it in MODULES if it is not floating}
     return [*(it for name, lines in stated.items() for it in worked.lacking(files, name, lines)),
         *(f"{name}: not as it is written out" for name, held, wanted in its if held != wanted)]

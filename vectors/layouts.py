@@ -106,7 +106,7 @@ class Conditions:
             self.add({"nine.header.buffers.count": i32(len(self.places) - 1).hex()})
         self.add({"nine.header.nodes.count": i32(len(self.nodes) - 1).hex()})
         for at in range(1, len(self.nodes)):
-            self.add(self.node(at, SLOTS - 1, UNTOLD))
+            self.add(self.node(at, self.nodes[at][0] - 1, UNTOLD))
         for name, words in self.bytes():
             self.add({name: words})
 

@@ -10,7 +10,7 @@ sys.path[:0] = [str(TOP / "fuzz"), str(TOP / "examples")]
 import model
 import stream
 from model import ALL, CORE
-from type_table import BY_NAME, BYTES, DECIMAL, FIXED, FLOATING, LISTS, NUMBERS, STRUCTS, TEXTS
+from type_table import BY_NAME, BYTES, DECIMAL, FIXED, FIXED_LISTS, FLOATING, LISTS, NUMBERS, STRUCTS, TEXTS
 
 # The types of whose values the text that is shown is told, too, beside floating point; and the most bytes of what is told as a number.
 WITH_TEXTS = BY_NAME["Interval"].code, DECIMAL.code
@@ -40,8 +40,8 @@ def value(column, at):
         return json.dumps(column.text(at), ensure_ascii=False)
     if layout in (BYTES, FIXED):
         return f'x"{column.text(at)}"'
-    if layout == LISTS:
-        return "[" + ", ".join(value(column.children[0], it) for it in range(*column.span(at))) + "]"
+    if layout in (LISTS, FIXED_LISTS):
+        return "[" + ", ".join(value(column.children[0], it) for it in column.items(at)) + "]"
     if layout == NUMBERS:
         return number(column, at)
     if layout == STRUCTS:

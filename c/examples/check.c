@@ -118,6 +118,8 @@ static bool is_in_column(arrowflow_reader *reader, size_t *path, size_t depth, s
     default:
         path[depth] = 0;
         below = arrowflow_reader_column(reader, path, depth + 1);
+        if (of.layout == ARROWFLOW_LAYOUT_FIXED_LISTS)
+            return cell.type == ARROWFLOW_CELL_LIST && of.children == 1 && of.width * (i + 1) <= below.slots;
         if (of.layout == ARROWFLOW_LAYOUT_LISTS) return cell.type == ARROWFLOW_CELL_LIST && start <= end && end <= below.slots;
         return cell.type == ARROWFLOW_CELL_STRUCT && (of.children == 0 || i < below.slots);
     }
@@ -233,6 +235,10 @@ static void add_type(text *to, const char *format, size_t len) {
     } else if (len >= 2 && memcmp(format, "w:", 2) == 0) {
         add_word(to, "fixed_size_binary[");
         add(to, format + 2, len - 2);
+        add_word(to, "]");
+    } else if (len >= 3 && memcmp(format, "+w:", 3) == 0) {
+        add_word(to, "fixed_size_list[");
+        add(to, format + 3, len - 3);
         add_word(to, "]");
     } else if (len >= 4 && memcmp(format, "ts", 2) == 0 && format[3] == ':') {
         add_word(to, "timestamp[");

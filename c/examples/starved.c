@@ -332,7 +332,7 @@ static size_t last_offset(const struct ArrowArray *array, size_t width) {
 static void add_array(const struct ArrowSchema *schema, const struct ArrowArray *array) {
     const char *format = schema->format;
     size_t slots = (size_t)array->length, bits = (slots + 7) / 8;
-    bool has_offsets = strchr("zuZU", *format) != NULL || (*format == '+' && format[1] != 's');
+    bool has_offsets = strchr("zuZU", *format) != NULL || (*format == '+' && strchr("sw", format[1]) == NULL);
     size_t width = strchr("ZU", *format) || strcmp(format, "+L") == 0 ? 8 : 4;
     add(&array->length, sizeof array->length);
     add(&array->null_count, sizeof array->null_count);

@@ -43,9 +43,15 @@ static bool is_one_of(const struct ArrowSchema *schema, const char *letters) {
     return schema->format[1] == 0 && strchr(letters, *schema->format) != NULL;
 }
 
+/* Whether all lists have as many items, so that there are no offsets. */
+static bool is_fixed_list(const struct ArrowSchema *schema) { return strncmp(schema->format, "+w:", 3) == 0; }
+
 static bool is_list(const struct ArrowSchema *schema) {
-    return is_format(schema, "+l") || is_format(schema, "+L") || is_format(schema, "+m");
+    return is_format(schema, "+l") || is_format(schema, "+L") || is_format(schema, "+m") || is_fixed_list(schema);
 }
+
+/* How many items each of such lists has. */
+static size_t list_size(const struct ArrowSchema *schema) { return strtoul(schema->format + 3, NULL, 10); }
 
 /* Bytes of an offset, or 0 where there are none. */
 static size_t offset_width(const struct ArrowSchema *schema) {
@@ -79,7 +85,7 @@ static size_t value_width(const struct ArrowSchema *schema) {
 
 static int64_t buffers_of(const struct ArrowSchema *schema) {
     if (is_format(schema, "n")) return 0;
-    if (is_format(schema, "+s")) return 1;
+    if (is_format(schema, "+s") || is_fixed_list(schema)) return 1;
     return is_one_of(schema, "zZuU") ? 3 : 2;
 }
 
@@ -212,6 +218,7 @@ static void check_values(const struct ArrowSchema *schema, const struct ArrowArr
     for (int64_t k = 0; k < array->n_children; k++) {
         check_values(schema->children[k], array->children[k], is_shared);
         if (is_format(schema, "+s")) WANT(array->children[k]->length == array->length);
+        if (is_fixed_list(schema)) WANT((size_t)array->children[k]->length == list_size(schema) * length);
     }
     if (offset_width(schema) > 0) check_offsets(schema, array, is_shared);
     else if (is_format(schema, "b")) check_buffer(array->buffers[1], (length + 7) / 8, is_shared);
@@ -360,7 +367,9 @@ static void add_value(struct text *to, const struct ArrowSchema *schema, const s
                       const char *null);
 
 static void add_list(struct text *to, const struct ArrowSchema *schema, const struct ArrowArray *array, size_t i) {
-    size_t start = offset_at(schema, array, i), end = offset_at(schema, array, i + 1);
+    bool is_fixed = is_fixed_list(schema);
+    size_t size = is_fixed ? list_size(schema) : 0, start = is_fixed ? size * i : offset_at(schema, array, i);
+    size_t end = is_fixed ? start + size : offset_at(schema, array, i + 1);
     add_words(to, "[");
     for (size_t k = start; k < end; k++) {
         if (k > start) add_words(to, ";");

@@ -38,7 +38,7 @@ Streams that come in pieces:
 
 A fault raises ArrowflowError, which is a ValueError, with `kind`, `offset`, `column`, `field` and a sentence. A wrong argument is a TypeError, a limit
 that is too high a ValueError. What a stream may ask for is bounded by Limits: STANDARD, where nothing is said; ALL_TYPES, which also
-reads columns of floating-point numbers, decimals, intervals and maps; or limits of your own, Limits(max_rows=1_000_000, types=Types.ALL).
+reads columns of floating-point numbers, decimals, intervals, fixed-size lists and maps; or limits of your own, Limits(max_rows=1_000_000, types=Types.ALL).
 
 `python -m arrowflow [--types core|all] schema|check|show IN` and `.. sanitize IN OUT` do the same from a shell; `-` is standard input
 or output.

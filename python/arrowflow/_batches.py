@@ -53,7 +53,8 @@ class Column:
 
     @property
     def children(self) -> "List[Column]":
-        """The columns below it: of a list or a map one, whose slots the offsets cut, of a struct one for each field."""
+        """The columns below it: of a list or a map one, whose slots the offsets cut, of a fixed-size list one, of which each
+        slot has as many, of a struct one for each field."""
         return [Column(self._owned, self._array.children[k].contents, it) for k, it in enumerate(self.field.children)]
 
     @property
@@ -71,14 +72,15 @@ class Column:
     def buffers(self) -> List[Optional[memoryview]]:
         """The buffers, as the Arrow columnar format lays them out, as memoryviews of bytes that can only be read: of a Null column
         none; else first the validity bitmap, None where each slot has a value; then of numbers, intervals, decimals, bits and byte
-        strings of one length the values; of lists and maps the offsets; of texts and byte strings the offsets and the bytes; of a dictionary-encoded
-        column the indices. Numbers are little-endian and begin at a multiple of 64 bytes, so `view.cast("i")` reads those of 32
-        bits. A view, and what is made of it, keeps the memory alive, whatever becomes of the column, the batch and the stream."""
+        strings of one length the values; of lists and maps the offsets; of fixed-size lists and structs nothing more; of texts and byte
+        strings the offsets and the bytes; of a dictionary-encoded column the indices. Numbers are little-endian and begin at a multiple
+        of 64 bytes, so `view.cast("i")` reads those of 32 bits. A view, and what is made of it, keeps the memory alive, whatever becomes
+        of the column, the batch and the stream."""
         return [self._view(k, size) for k, size in enumerate(self._sizes())]
 
     def to_pylist(self) -> List[Any]:
-        """The values as Python has them: None, bool, int, float, bytes, str, a list of a list, a dict of a struct, a list of (key,
-        value) of a map, with indices looked up in the dictionary. Where it is exact, of dates a datetime.date, of times a
+        """The values as Python has them: None, bool, int, float, bytes, str, a list of a list or a fixed-size list, a dict of a struct,
+        a list of (key, value) of a map, with indices looked up in the dictionary. Where it is exact, of dates a datetime.date, of times a
         datetime.time, of timestamps a datetime.datetime, of durations a datetime.timedelta; else the number of units: nanoseconds
         that are no whole microsecond, years after 9999, a time of a day that has none such. A timestamp with a zone has that zone
         where `zoneinfo` knows it or it is an offset such as "+02:00", and is in UTC where neither is so. Of intervals in months the
@@ -123,7 +125,7 @@ class Column:
             return sizes if format.startswith("+") else [*sizes, self._offsets(slots, slots)[0]]
         if format == "b":
             return sizes * 2
-        return sizes if format == "+s" else [*sizes, width_of(format) * slots]
+        return sizes if format.startswith("+") else [*sizes, width_of(format) * slots]
 
     def _view(self, number: int, size: int) -> Optional[memoryview]:
         """So many bytes of a buffer, which keep its owner alive; None of a validity bitmap that there is not."""

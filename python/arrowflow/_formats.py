@@ -17,7 +17,8 @@ _OFFSETS = {"z": "i", "u": "i", "+l": "i", "+m": "i", "Z": "q", "U": "q", "+L": 
 
 
 def words_of(format: str) -> str:
-    """A type as `arrowflow schema` prints it: int32, timestamp[us, Europe/Berlin], fixed_size_binary[7], decimal128(9, 2)."""
+    """A type as `arrowflow schema` prints it: int32, timestamp[us, Europe/Berlin], fixed_size_binary[7], fixed_size_list[3],
+    decimal128(9, 2)."""
     if format in _WORDS:
         return _WORDS[format]
     if format.startswith("d:"):
@@ -25,6 +26,8 @@ def words_of(format: str) -> str:
         return f"decimal{bits}({digits}, {scale})"
     if format.startswith("w:"):
         return f"fixed_size_binary[{format[2:]}]"
+    if format.startswith("+w:"):
+        return f"fixed_size_list[{format[3:]}]"
     name = {"tt": "time", "ts": "timestamp", "tD": "duration"}[format[:2]]
     zone = zone_of(format)
     return f"{name}[{_UNITS[format[2]]}" + (f", {zone}]" if zone else "]")
@@ -38,6 +41,11 @@ def zone_of(format: str) -> Optional[str]:
 def scale_of(format: str) -> Optional[int]:
     """How many digits of a decimal are after the point, below 0 how many zeros follow its digits; None of another type."""
     return _decimal(format)[1] if format.startswith("d:") else None
+
+
+def list_size_of(format: str) -> Optional[int]:
+    """How many items each list has, of fixed-size lists; None of another type."""
+    return int(format[3:]) if format.startswith("+w:") else None
 
 
 def _decimal(format: str) -> Tuple[int, int, int]:

@@ -12,7 +12,7 @@ class Types(enum.IntEnum):
 
     CORE   Null, Bool, Int, Binary, Utf8 and these Large, FixedSizeBinary, Date, Time, Timestamp, Duration, List, LargeList, Struct,
            and dictionary encoding of any of them: never others
-    ALL    also FloatingPoint, Decimal, Interval, Map, and what later versions of the library read
+    ALL    also FloatingPoint, Decimal, Interval, FixedSizeList, Map, and what later versions of the library read
     """
     CORE = 0
     ALL = 1

@@ -21,7 +21,7 @@ class Field:
     nullable         whether slots may be null, as the stream says: it is not enforced
     ordered          whether the order of the dictionary's values means something
     keys_sorted      of maps: whether the keys of each map are sorted, as the stream says: it is not enforced
-    children         the fields below it: of a list or a map one, of a struct each
+    children         the fields below it: of a list, a fixed-size list or a map one, of a struct each
     dictionary       the field of the dictionary's values, or None where it is not dictionary-encoded
     metadata_pairs   the custom metadata as pairs of key and value, in bytes, in their order
     """

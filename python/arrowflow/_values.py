@@ -9,7 +9,7 @@ import re
 import struct
 from typing import TYPE_CHECKING, Any, Callable, Dict, List, Optional, Tuple
 
-from ._formats import code_of, offset_code_of, scale_of, width_of, zone_of
+from ._formats import code_of, list_size_of, offset_code_of, scale_of, width_of, zone_of
 
 if TYPE_CHECKING:
     from ._batches import Column
@@ -39,6 +39,10 @@ def _fixed(of: "Column", start: int, stop: int) -> List[Any]:
         return [*of._bits(1, start, stop)]
     if of.format == "+s":
         return _structs(of, start, stop)
+    size = list_size_of(of.format)
+    if size is not None:
+        items = values_in(of.children[0], size * start, size * stop)
+        return [items[size * k:size * (k + 1)] for k in range(stop - start)]
     if of.format.startswith(("w:", "d:")):
         width, scale = width_of(of.format), scale_of(of.format)
         found = of._raw(1, width * start, width * stop)

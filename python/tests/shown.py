@@ -45,6 +45,9 @@ class Buffers:
             return tuple(it.value(i) for it in self.children)
         if self.format in OFFSETS:
             return self.between(*(self.number(1, OFFSETS[self.format], j, False) for j in (i, i + 1)))
+        if self.format.startswith("+w:"):
+            size = int(self.format[3:])
+            return self.between(size * i, size * (i + 1))
         if self.format.startswith("w:"):
             width = int(self.format[2:])
             return bytes(self.buffers[1][width * i:width * (i + 1)])

@@ -1,4 +1,4 @@
-"""Values of dates, times, intervals and decimals, and lists and dicts that are nobody else's."""
+"""Values of dates, times, intervals, decimals, fixed-size lists and maps, and lists and dicts that are nobody else's."""
 import datetime
 import decimal
 
@@ -135,6 +135,34 @@ def decimals():
     for wrong in ((16, 4, 2), (128, 39, 0), (32, 9, 77)):
         data = frames.schema(frames.field("x", frames.decimal(*wrong)))
         yield f"a decimal of {wrong}", raised_by(arrowflow.sanitize, data, arrowflow.ALL_TYPES).kind, arrowflow.Kind.SCHEMA
+
+
+def fixed_size_lists():
+    """Fixed-size lists: of two numbers, one of them null, of no items, and of each other; a null one hides what is under it."""
+    item, number = frames.field("item", frames.INT32), (b"\5", bytes.fromhex("01000000 00000000 07000000 08000000 fdffffff 00000000"))
+    inner = frames.field("item", frames.fixed_size_list(2), [item])
+    hidden = frames.Column([(3, 1), (6, 1)], [number[0], b"\x3d", number[1]])
+    empty = frames.fixed_lists([[], None], 0, frames.numbers)
+    deep = [[[1, None], None], None, [None, [2, 3]]]
+    laid = frames.fixed_lists(deep, 2, lambda its: frames.fixed_lists(its, 2, frames.numbers))
+    for size, below, its, wanted in ((2, item, hidden, [[1, None], None, [-3, 0]]), (0, item, empty, [[], None]), (2, inner, laid, deep)):
+        name, format = f"fixed_size_list[{size}]", f"+w:{size}"
+        data = frames.schema(frames.field("x", frames.fixed_size_list(size), [below])) + frames.batch(its) + frames.END_MARKER
+        column = next(arrowflow.open(data, arrowflow.ALL_TYPES)).column("x")
+        yield name, (column.type, column.format, column.to_pylist(), [*column]), (name, format, wanted, wanted)
+        yield f"slots of {name}", [column[at] for at in range(-1, len(wanted) - 1)], [wanted[-1], *wanted[:-1]]
+        child, = column.children
+        yield f"the buffers of {name}", [bytes(it.buffers()[0] or b"") for it in (column, child)], its.buffers[:2]
+        yield f"the child of {name}", (len(column.buffers()), len(child), child.null_count), (1, *its.nodes[1])
+        yield f"{name} with the core", raised_by(arrowflow.sanitize, data).kind, arrowflow.Kind.UNSUPPORTED
+        encoded = b"".join([frames.schema(frames.field("x", frames.fixed_size_list(size), [below], encoding=frames.dictionary(1))),
+                            frames.dictionary_batch(1, its), frames.batch(frames.numbers([1, None, 0, 0])), frames.END_MARKER])
+        column = next(arrowflow.open(encoded, arrowflow.ALL_TYPES)).column("x")
+        found = column.to_pylist()
+        found[2].append(5)
+        yield f"{name} by a dictionary", (column.type, found), (f"dictionary<int32, {name}>", [wanted[1], None, [*wanted[0], 5], wanted[0]])
+    data = frames.schema(frames.field("x", frames.fixed_size_list(-1), [item]))
+    yield "fixed-size lists of -1 items", raised_by(arrowflow.sanitize, data, arrowflow.ALL_TYPES).kind, arrowflow.Kind.SCHEMA
 
 
 def maps():

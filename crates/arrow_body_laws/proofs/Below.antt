@@ -1,6 +1,6 @@
 -- From a condition on the values of columns to one on those of the columns below them.
 use Rattle.std.proofs.Common.{◌≡◌, ℕ, ◌+◌, List, [], ◌∷◌, ◌++◌, map, sym, subst, add-one}
-use Rattle.std.specs.Prelude.{⊤}
+use Rattle.std.specs.Prelude.{zero, suc, replicate, ⊤}
 use Rattle.std.specs.List.{AllByRecursion, flat_map, range_with_len}
 use Rattle.arrow_types.specs.Field.{Fields, Head, none, more, width}
 use Rattle.arrow_data.specs.PlainValue.{PlainValue, PlainValues, null_value, struct_value, more_values, field_value}
@@ -27,10 +27,15 @@ all_append P [] ys one other = other
 all_append P (x ∷ xs) ys one other = (one.0, all_append P xs ys one.1 other)
 
 -- of the items of each list, so of all items
-pub items_hold : (P Q : PlainValue → Type 0) → ((v : PlainValue) → P v → AllByRecursion Q (items_in_value v)) → (vs : List PlainValue) → AllByRecursion P vs
-    → AllByRecursion Q (flat_map items_in_value vs)
-items_hold P Q each [] all = tt
-items_hold P Q each (v ∷ vs) all = all_append Q (items_in_value v) (flat_map items_in_value vs) (each v all.0) (items_hold P Q each vs all.1)
+pub items_hold : (n : ℕ) (P Q : PlainValue → Type 0) → ((v : PlainValue) → P v → AllByRecursion Q (items_in_value n v)) → (vs : List PlainValue) → AllByRecursion P vs
+    → AllByRecursion Q (flat_map (items_in_value n) vs)
+items_hold n P Q each [] all = tt
+items_hold n P Q each (v ∷ vs) all = all_append Q (items_in_value n v) (flat_map (items_in_value n) vs) (each v all.0) (items_hold n P Q each vs all.1)
+
+-- of null, so of nulls
+pub no_values_hold : (n : ℕ) (Q : PlainValue → Type 0) → Q null_value → AllByRecursion Q (replicate n null_value)
+no_values_hold zero Q null_holds = tt
+no_values_hold (suc n) Q null_holds = (null_holds, no_values_hold n Q null_holds)
 
 -- it holds of value a of a struct by the first field, and of those after it by the others
 abbrev pub PartsHold : Condition → Fields → ℕ → PlainValue → Type 0

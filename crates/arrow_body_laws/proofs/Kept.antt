@@ -1,7 +1,9 @@
 -- One tidy node holds just what is stored of its values.
-use Rattle.std.proofs.Common.{◌≡◌, ℕ, zero, suc, ◌<◌, false, List, [], ◌∷◌, length, map, get_or, refl, ap, ◌∙◌, sym, subst, arith}
-use Rattle.std.specs.List.{AllByRecursion}
-use Rattle.std.proofs.lemmas.List.{get_or-map, length-map, same_lists}
+use Rattle.std.proofs.Common.{◌≡◌, ℕ, zero, suc, ◌+◌, ◌*◌, ◌-◌, ◌<◌, ◌≤◌, false, List, [], ◌∷◌, ◌++◌, length, map, take, drop, get_or, refl, ap, ◌∙◌, sym, subst, arith, length-take, length-drop}
+use Rattle.std.specs.Prelude.{replicate}
+use Rattle.std.specs.List.{AllByRecursion, flat_map}
+use Rattle.std.proofs.Math.Nat.{mul-suc}
+use Rattle.std.proofs.lemmas.List.{drop-drop, get_or-drop, get_or-map, get_or-replicate, get_or-take, length-map, length-replicate, same_lists, take-append-drop}
 use Rattle.std.proofs.lemmas.List.FromFn.{get_or-map-range_with_len, length-map-range_with_len}
 use Rattle.arrow_types.specs.Field.{Fields, width}
 use Rattle.arrow_data.specs.Form.{buffers_of}
@@ -12,8 +14,10 @@ use Rattle.arrow_data.specs.PlainValue.{PlainValue, null_value, binary_value, ut
 use Rattle.arrow_data.specs.Slots.{HasOffsets, is_valid_at, or_null, slots}
 use Rattle.arrow_data.specs.declared.form.Form.{Form}
 use Rattle.arrow_data.specs.declared.form.Form.TheVariants as forms
+use Rattle.arrow_data.specs.declared.form.ListForm.TheVariants as lists
 use Rattle.arrow_data.specs.declared.form.OffsetWidth.{OffsetWidth}
 use Rattle.arrow_data.proofs.Lists.{list_again}
+use Rattle.arrow_data.proofs.Shown.{items_inside}
 use Rattle.arrow_body_laws.specs.Raws.{bytes_in_value, items_in_value, raws_below}
 use Rattle.arrow_body_laws.specs.Stored.{own_chunks, validity_bytes}
 use Rattle.arrow_body_laws.specs.Tidy.{BelowNulls, IsSpare, IsTidyLayout, IsTidyOffsets, IsTidyValidity}
@@ -60,12 +64,12 @@ bitmap_kept form c vs b below payload k full shown = validity_again vs (buffer b
 child_long : (below : List (List PlainValue)) → length below ≡ 1 → child_count (map length below) ≡ length (get_or below 0 [])
 child_long below long = get_or-map length below 0 [] 0 (omega (arith, long))
 
-ranged_lists : (w : OffsetWidth) (c : Fields) (vs : List PlainValue) (b : List (List ℕ)) (below : List (List PlainValue)) → IsKept (forms.Lists w) c vs b below
-    → AreRanged w items_in_value (λ ys. list_value (values_of ys)) vs (buffer b 0) (buffer b 1) (get_or below 0 [])
+ranged_lists : (w : OffsetWidth) (c : Fields) (vs : List PlainValue) (b : List (List ℕ)) (below : List (List PlainValue)) → IsKept (forms.Lists (lists.Offsets w)) c vs b below
+    → AreRanged w (items_in_value 0) (λ ys. list_value (values_of ys)) vs (buffer b 0) (buffer b 1) (get_or below 0 [])
 ranged_lists w c vs b below k =
     let count = child_long below k.long in
     record {
-      shown = are_shown vs (value_slot (forms.Lists w) b below) k.read;
+      shown = are_shown vs (value_slot (forms.Lists (lists.Offsets w)) b below) k.read;
       read = list_again;
       nothing = refl;
       small = k.small 1;
@@ -125,10 +129,14 @@ kept_chunks (forms.FixedBytes w) c vs b below k =
     let first = bitmap_kept (forms.FixedBytes w) c vs b below _ k (λ j. refl) shown in
     let second = fixed_again w vs (buffer b 0) (buffer b 1) shown k.layout in
     two_of b k.many ∙ (λ i. first i ∷ second i ∷ [])
-kept_chunks (forms.Lists w) c vs b below k =
+kept_chunks (forms.Lists (lists.Fixed size)) c vs b below k =
+    let shown = are_shown vs (value_slot (forms.Lists (lists.Fixed size)) b below) k.read in
+    let first = bitmap_kept (forms.Lists (lists.Fixed size)) c vs b below _ k (λ j. refl) shown in
+    one_of b k.many ∙ (λ i. first i ∷ [])
+kept_chunks (forms.Lists (lists.Offsets w)) c vs b below k =
     let r = ranged_lists w c vs b below k in
-    let first = bitmap_kept (forms.Lists w) c vs b below _ k (λ j. refl) r.shown in
-    let second = offsets_again w items_in_value (λ ys. list_value (values_of ys)) vs (buffer b 0) (buffer b 1) (get_or below 0 []) r in
+    let first = bitmap_kept (forms.Lists (lists.Offsets w)) c vs b below _ k (λ j. refl) r.shown in
+    let second = offsets_again w (items_in_value 0) (λ ys. list_value (values_of ys)) vs (buffer b 0) (buffer b 1) (get_or below 0 []) r in
     two_of b k.many ∙ (λ i. first i ∷ second i ∷ [])
 kept_chunks forms.Structs c vs b below k =
     let shown = are_shown vs (value_slot forms.Structs b below) k.read in
@@ -176,6 +184,49 @@ structs_kept c vs b below k =
     (λ n d at. any_default below n d [] at ∙ parts_kept c vs b below k n at
     ∙ sym (get_or-map-range_with_len column 0 (width c) n n d (omega (arith, at, k.long, many)) (omega arith)))
 
+-- a part of a list whose elements all are null
+nulls_taken : (n a : ℕ) (xs : List PlainValue) → a + n ≤ length xs → ((k : ℕ) → k < n → value_at xs (a + k) ≡ null_value) → take n (drop a xs) ≡ replicate n null_value
+nulls_taken n a xs inside nulls =
+    let long : length (take n (drop a xs)) ≡ n = omega (arith, length-take n (drop a xs), length-drop a xs, inside) in
+    same_lists (take n (drop a xs)) (replicate n null_value) (long ∙ sym (length-replicate n null_value))
+    (λ k d at. let here : k < n = omega (arith, at, long) in
+    get_or-take n (drop a xs) k d here ∙ get_or-drop a xs k d ∙ any_default xs (a + k) d null_value (omega (arith, inside, here)) ∙ nulls k here ∙ sym (get_or-replicate n k null_value d here))
+
+-- a list is its parts of one length, one after another
+parts_joined : (n : ℕ) (g : PlainValue → List PlainValue) (vs xs : List PlainValue) → length xs ≡ n * length vs
+    → ((j : ℕ) → j < length vs → take n (drop (n * j) xs) ≡ g (value_at vs j)) → xs ≡ flat_map g vs
+parts_joined n g [] xs long each = no_elements xs (omega (arith, long))
+parts_joined n g (v ∷ vs) xs long each =
+    let more = mul-suc n (length vs) in
+    let nothing : n * 0 ≡ 0 = omega arith in
+    let first : take n xs ≡ g v = ap (λ k. take n (drop k xs)) (sym nothing) ∙ each 0 (omega arith) in
+    let rest = parts_joined n g vs (drop n xs) (omega (arith, length-drop n xs, long, more))
+    (λ j h. let on : n + n * j ≡ n * suc j = omega (arith, mul-suc n j) in
+    ap (take n) (drop-drop (n * j) n xs ∙ ap (λ k. drop k xs) on) ∙ each (suc j) (omega (arith, h))) in
+    sym (take-append-drop n xs) ∙ (λ i. first i ++ rest i)
+
+-- the child of fixed-size lists has their items, nulls under a null
+part_of_lists : (size : ℕ) (c : Fields) (vs : List PlainValue) (b : List (List ℕ)) (below : List (List PlainValue)) → IsKept (forms.Lists (lists.Fixed size)) c vs b below
+    → length (get_or below 0 []) ≡ size * length vs → (j : ℕ) → j < length vs → take size (drop (size * j) (get_or below 0 [])) ≡ items_in_value size (value_at vs j)
+part_of_lists size c vs b below k many j h =
+    let child = get_or below 0 [] in
+    let wide : size * (j + 1) - size * j ≡ size = omega arith in
+    let inside = items_inside size j (length vs) (length child) h (omega (arith, many)) in
+    let next : size * j + size ≡ size * (j + 1) = omega arith in
+    let items = take (size * (j + 1) - size * j) (drop (size * j) child) in
+    slot_by (items_in_value size) (is_valid_at (buffer b 0) j) (list_value (values_of items)) (value_at vs j) (take size (drop (size * j) child))
+    (are_shown vs (value_slot (forms.Lists (lists.Fixed size)) b below) k.read j h)
+    (λ valid. ap (λ n. take n (drop (size * j) child)) (sym wide) ∙ sym (list_again items))
+    (λ null. nulls_taken size (size * j) child (omega (arith, next, inside.1))
+    (λ n small. all_at (λ values. value_at values (size * j + n) ≡ null_value) below 0 [] (omega (arith, k.long)) (k.hidden j h null n small)))
+
+fixed_lists_kept : (size : ℕ) (c : Fields) (vs : List PlainValue) (b : List (List ℕ)) (below : List (List PlainValue)) → IsKept (forms.Lists (lists.Fixed size)) c vs b below
+    → get_or below 0 [] ≡ flat_map (items_in_value size) vs
+fixed_lists_kept size c vs b below k =
+    let many : length (get_or below 0 []) ≡ size * length vs =
+    sym (child_long below k.long) ∙ all_at (λ count. count ≡ size * length vs) (map length below) 0 0 (omega (arith, length-map below length, k.long)) k.layout in
+    parts_joined size (items_in_value size) vs (get_or below 0 []) many (part_of_lists size c vs b below k many)
+
 -- and the values below it are those that are sent there
 pub kept_below : (form : Form) (c : Fields) (vs : List PlainValue) (b : List (List ℕ)) (below : List (List PlainValue)) → IsKept form c vs b below → below ≡ raws_below form c vs
 kept_below forms.Nulls c vs b below k = no_elements below k.long
@@ -184,6 +235,7 @@ kept_below (forms.Numbers number) c vs b below k = no_elements below k.long
 kept_below (forms.Bytes w) c vs b below k = no_elements below k.long
 kept_below (forms.Texts w) c vs b below k = no_elements below k.long
 kept_below (forms.FixedBytes w) c vs b below k = no_elements below k.long
-kept_below (forms.Lists w) c vs b below k =
-    one_of below k.long ∙ ap (λ xs. xs ∷ []) (ranges_again w items_in_value (λ ys. list_value (values_of ys)) vs (buffer b 0) (buffer b 1) (get_or below 0 []) (ranged_lists w c vs b below k))
+kept_below (forms.Lists (lists.Fixed size)) c vs b below k = one_of below k.long ∙ ap (λ xs. xs ∷ []) (fixed_lists_kept size c vs b below k)
+kept_below (forms.Lists (lists.Offsets w)) c vs b below k =
+    one_of below k.long ∙ ap (λ xs. xs ∷ []) (ranges_again w (items_in_value 0) (λ ys. list_value (values_of ys)) vs (buffer b 0) (buffer b 1) (get_or below 0 []) (ranged_lists w c vs b below k))
 kept_below forms.Structs c vs b below k = structs_kept c vs b below k

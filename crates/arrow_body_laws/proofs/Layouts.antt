@@ -13,19 +13,21 @@ use Rattle.arrow_bits.proofs.Listed.{length_bits}
 use Rattle.arrow_bits.proofs.Rising.{offsets_from_numbers}
 use Rattle.arrow_types.specs.Field.{Fields, width}
 use Rattle.arrow_data.specs.Form.{greatest_offset, number_width, offset_bytes}
-use Rattle.arrow_data.specs.Layout.{HasBools, HasFixed, HasStrings, HoldsSlots, HoldsTexts, buffer}
+use Rattle.arrow_data.specs.Layout.{HasBools, HasFixed, HasStrings, HoldsSlots, HoldsTexts, buffer, list_offsets}
 use Rattle.arrow_data.specs.PlainValue.{PlainValue, null_value, bool_value, int_value, binary_value, utf8_value, list_value, struct_value, value_at, is_null_value, field_value}
-use Rattle.arrow_data.specs.Slots.{HasBits, HasOffsets, AreTexts}
+use Rattle.arrow_data.specs.Slots.{HasBits, HasItemPlaces, HasOffsets, AreTexts}
 use Rattle.arrow_data.specs.declared.form.Form.{Form}
 use Rattle.arrow_data.specs.declared.form.Form.TheVariants as forms
+use Rattle.arrow_data.specs.declared.form.ListForm.{ListForm}
+use Rattle.arrow_data.specs.declared.form.ListForm.TheVariants as lists
 use Rattle.arrow_data.specs.declared.form.OffsetWidth.{OffsetWidth}
 use Rattle.arrow_body_reader.specs.Sound.{IsCount, IsCountOf, nulls_of}
 use Rattle.arrow_body_laws.specs.Packed.{packed, offsets_bytes}
-use Rattle.arrow_body_laws.specs.Raws.{IsOwn, IsSmall, bytes_in_value, fixed_in, items_in_value, number_in, raws_below, truth_in}
-use Rattle.arrow_body_laws.specs.Stored.{nulls_in, number_buffer, own_chunks, own_node, validity_bytes}
+use Rattle.arrow_body_laws.specs.Raws.{IsOwn, IsSmall, bytes_in_value, fixed_in, item_limit, items_in_value, last_item, nulls_under, number_in, raws_below, truth_in}
+use Rattle.arrow_body_laws.specs.Stored.{list_chunks, nulls_in, number_buffer, own_chunks, own_node, validity_bytes}
 use Rattle.arrow_body_laws.proofs.Bits.{packed_few}
 use Rattle.arrow_body_laws.proofs.Pieces.{all_wide, length_int, offset_half, offsets_long, pieces_long, place_read, sum_next}
-use Rattle.arrow_body_laws.proofs.Slotted.{all_fixed, bitmap_bit, in_slot, not_zero, read_range, read_valid}
+use Rattle.arrow_body_laws.proofs.Slotted.{all_fixed, all_items, bitmap_bit, in_slot, not_zero, read_range, read_valid}
 
 bits_by : (b : Bool) (vs : List PlainValue) → HasBits (length vs) (if b then [] else packed (map (λ v. not (is_null_value v)) vs))
 bits_by true vs = λ h. absurd (omega (arith, h))
@@ -72,8 +74,14 @@ has_offsets w f xs top near inside =
 strings_long : (vs : List PlainValue) → sum_by (λ v. length (bytes_in_value v)) vs ≤ length (flat_map bytes_in_value vs)
 strings_long vs = omega (arith, length-flat_map bytes_in_value vs)
 
-items_long : (vs : List PlainValue) → sum_by (λ v. length (items_in_value v)) vs ≤ length (flat_map items_in_value vs)
-items_long vs = omega (arith, length-flat_map items_in_value vs)
+items_long : (vs : List PlainValue) → sum_by (λ v. length (items_in_value 0 v)) vs ≤ length (flat_map (items_in_value 0) vs)
+items_long vs = omega (arith, length-flat_map (items_in_value 0) vs)
+
+-- the items of lists, in a child that has just these
+has_items : (w : ListForm) (c : Fields) (vs : List PlainValue) → AllByRecursion (IsOwn (forms.Lists w) c) vs → last_item w vs ≤ item_limit w
+    → HasItemPlaces w (length vs) (length (flat_map (items_in_value (nulls_under w)) vs)) (list_offsets w (validity_bytes vs ∷ list_chunks w vs))
+has_items (lists.Offsets w) c vs own near = has_offsets w (λ v. length (items_in_value 0 v)) vs (length (flat_map (items_in_value 0) vs)) near (items_long vs)
+has_items (lists.Fixed size) c vs own near = omega (arith, pieces_long (items_in_value size) size vs (all_items size c vs own))
 
 has_strings : (w : OffsetWidth) (vs : List PlainValue) → sum_by (λ v. length (bytes_in_value v)) vs ≤ greatest_offset w
     → HasStrings w (length vs) (validity_bytes vs) (offsets_bytes w (map (λ v. length (bytes_in_value v)) vs)) (flat_map bytes_in_value vs)
@@ -92,7 +100,7 @@ is_laid (forms.Numbers number) c vs own small = has_ints (number_width number) v
 is_laid (forms.Bytes w) c vs own small = has_strings w vs small.near
 is_laid (forms.Texts w) c vs own small = has_strings w vs small.near
 is_laid (forms.FixedBytes w) c vs own small = has_fixed w c vs own
-is_laid (forms.Lists w) c vs own small = record { bits = has_bits vs; rising = has_offsets w (λ v. length (items_in_value v)) vs (length (flat_map items_in_value vs)) small.near (items_long vs) }
+is_laid (forms.Lists w) c vs own small = record { bits = has_bits vs; rising = has_items w c vs own small.near }
 is_laid forms.Structs c vs own small = record { bits = has_bits vs; longer = columns_longer vs 0 (width c) }
 
 twice : (b : Bool) → ◌≡◌ {A = ℕ} (cond (not (not b)) 1 0) (cond b 1 0)

@@ -15,16 +15,16 @@ use Rattle.arrow_data.specs.declared.form.OffsetWidth.TheVariants.{Small, Large}
 use Rattle.arrow_body_laws.specs.Packed.{ints_bytes, sums_from, offsets_bytes}
 
 -- the pieces of these are of one width
-abbrev pub HaveWidth : {X : Type 0} → (X → List ℕ) → ℕ → List X → Type 0
+abbrev pub HaveWidth : {X A : Type 0} → (X → List A) → ℕ → List X → Type 0
 HaveWidth f w xs = AllByRecursion (λ x. length (f x) ≡ w) xs
 
 -- where every piece is of the width, those of these are
-pub all_wide : {X : Type 0} (f : X → List ℕ) (w : ℕ) → ((x : X) → length (f x) ≡ w) → (xs : List X) → HaveWidth f w xs
+pub all_wide : {X A : Type 0} (f : X → List A) (w : ℕ) → ((x : X) → length (f x) ≡ w) → (xs : List X) → HaveWidth f w xs
 all_wide f w long [] = tt
 all_wide f w long (x ∷ xs) = (long x, all_wide f w long xs)
 
 -- piece j of pieces of one width
-pub piece : {X : Type 0} (f : X → List ℕ) (w : ℕ) (xs : List X) → HaveWidth f w xs → (j : ℕ) (d : X) → j < length xs → take w (drop (w * j) (flat_map f xs)) ≡ f (get_or xs j d)
+pub piece : {X A : Type 0} (f : X → List A) (w : ℕ) (xs : List X) → HaveWidth f w xs → (j : ℕ) (d : X) → j < length xs → take w (drop (w * j) (flat_map f xs)) ≡ f (get_or xs j d)
 piece f w [] long j d h = absurd (omega (arith, h))
 piece f w (x ∷ xs) long zero d h =
     let nothing : w * 0 ≡ 0 = omega arith in
@@ -38,7 +38,7 @@ piece f w (x ∷ xs) long (suc j) d h =
     ∙ piece f w xs long.1 j d (omega (arith, h))
 
 -- how long they are together
-pub pieces_long : {X : Type 0} (f : X → List ℕ) (w : ℕ) (xs : List X) → HaveWidth f w xs → length (flat_map f xs) ≡ w * length xs
+pub pieces_long : {X A : Type 0} (f : X → List A) (w : ℕ) (xs : List X) → HaveWidth f w xs → length (flat_map f xs) ≡ w * length xs
 pieces_long f w [] long = omega arith
 pieces_long f w (x ∷ xs) long =
     let more = mul-suc w (length xs) in

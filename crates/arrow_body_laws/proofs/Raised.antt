@@ -1,6 +1,7 @@
 -- The raw values of columns are such as can be stored.
-use Rattle.std.proofs.Common.{◌≡◌, ℤ, List, [], ◌∷◌, ◌++◌, length, map, Option, None, Some, refl, sym, ap, arith}
+use Rattle.std.proofs.Common.{◌≡◌, ℕ, ℤ, List, [], ◌∷◌, ◌++◌, length, map, Option, None, Some, refl, sym, ap, arith}
 use Rattle.std.specs.List.{AllByRecursion, flat_map}
+use Rattle.std.specs.Prelude.{replicate}
 use Rattle.std.proofs.lemmas.List.FromFn.{length-map-range_with_len}
 use Rattle.arrow_types.specs.DataType.{Tag}
 use Rattle.arrow_types.specs.Field.{Fields, Head, none, more, width}
@@ -11,14 +12,14 @@ use Rattle.arrow_data.specs.Form.{HasFieldsOf, form_of, node_form}
 use Rattle.arrow_data.specs.PlainValue.{PlainValue, PlainValues, null_value, bool_value, int_value, binary_value, utf8_value, list_value, struct_value, no_values, more_values, field_value, list_of_values}
 use Rattle.arrow_data.specs.declared.form.Form.{Form}
 use Rattle.arrow_data.specs.declared.form.Form.TheVariants as forms
-use Rattle.arrow_data.specs.declared.form.OffsetWidth.{OffsetWidth}
+use Rattle.arrow_data.specs.declared.form.ListForm.{ListForm}
 use Rattle.arrow_body_reader.specs.Taken.{IfFlattened}
 use Rattle.arrow_body_laws.specs.Entries.{HaveEntries}
 use Rattle.arrow_body_laws.specs.Formed.{AreFormed}
 use Rattle.arrow_body_laws.specs.Laws.{ColumnsHoldRaws, raws_of}
-use Rattle.arrow_body_laws.specs.Raws.{AreRaws, IsOwn, items_in_value, raws_below}
+use Rattle.arrow_body_laws.specs.Raws.{AreRaws, IsOwn, items_in_value, nulls_under, raws_below}
 use Rattle.arrow_body_laws.specs.Stored.{fields_of_columns}
-use Rattle.arrow_body_laws.proofs.Below.{ColumnsHold, Condition, PartsHold, all_change, columns_hold, items_hold, none_hold, nulls_hold, shifted}
+use Rattle.arrow_body_laws.proofs.Below.{ColumnsHold, Condition, PartsHold, all_change, columns_hold, items_hold, no_values_hold, none_hold, nulls_hold, shifted}
 use Rattle.arrow_body_laws.proofs.Walk.{head_form, inner_raws}
 
 -- a value fits a field
@@ -47,14 +48,18 @@ items_fit : (h : Head) (c rest : Fields) (items : PlainValues) → ItemsFit (mor
 items_fit h c rest no_values fit = tt
 items_fit h c rest (more_values v others) fit = (fit.0, items_fit h c rest others fit.1)
 
-item_fits : (form : Form) (h : Head) (c rest : Fields) (v : PlainValue) → Fits form (more h c rest) v → AllByRecursion (FitsField h c) (items_in_value v)
-item_fits form h c rest null_value fit = tt
-item_fits form h c rest (bool_value b) fit = tt
-item_fits form h c rest (int_value z) fit = tt
-item_fits form h c rest (binary_value bytes) fit = tt
-item_fits form h c rest (utf8_value bytes) fit = tt
-item_fits form h c rest (list_value items) fit = items_fit h c rest items fit.1
-item_fits form h c rest (struct_value parts) fit = tt
+-- in place of a list there are nulls, which do too
+no_items_fit : (n : ℕ) (h : Head) (c : Fields) → AllByRecursion (FitsField h c) (replicate n null_value)
+no_items_fit n h c = no_values_hold n (FitsField h c) tt
+
+item_fits : (n : ℕ) (form : Form) (h : Head) (c rest : Fields) (v : PlainValue) → Fits form (more h c rest) v → AllByRecursion (FitsField h c) (items_in_value n v)
+item_fits n form h c rest null_value fit = no_items_fit n h c
+item_fits n form h c rest (bool_value b) fit = no_items_fit n h c
+item_fits n form h c rest (int_value z) fit = no_items_fit n h c
+item_fits n form h c rest (binary_value bytes) fit = no_items_fit n h c
+item_fits n form h c rest (utf8_value bytes) fit = no_items_fit n h c
+item_fits n form h c rest (list_value items) fit = items_fit h c rest items fit.1
+item_fits n form h c rest (struct_value parts) fit = no_items_fit n h c
 
 -- null fits every field
 null_fits : (h : Head) (c : Fields) → FitsField h c null_value
@@ -76,9 +81,9 @@ parts_fit form fields (list_value items) fit = nulls_hold FitsField null_fits fi
 parts_fit form fields (struct_value parts) fit = struct_fits fields parts fit.1
 
 -- the items of all lists fit the first field
-lists_fit : (form : Form) (c : Fields) (vs : List PlainValue) → AllByRecursion (Fits form c) vs → ColumnsHold FitsField c (flat_map items_in_value vs ∷ [])
-lists_fit form none vs fit = tt
-lists_fit form (more h c rest) vs fit = (items_hold (Fits form (more h c rest)) (FitsField h c) (item_fits form h c rest) vs fit, none_hold FitsField rest)
+lists_fit : (n : ℕ) (form : Form) (c : Fields) (vs : List PlainValue) → AllByRecursion (Fits form c) vs → ColumnsHold FitsField c (flat_map (items_in_value n) vs ∷ [])
+lists_fit n form none vs fit = tt
+lists_fit n form (more h c rest) vs fit = (items_hold n (Fits form (more h c rest)) (FitsField h c) (item_fits n form h c rest) vs fit, none_hold FitsField rest)
 
 -- what stands below a node of values that fit it fits the fields there
 below_fit : (form : Form) (c : Fields) (vs : List PlainValue) → AllByRecursion (Fits form c) vs → ColumnsHold FitsField c (raws_below form c vs)
@@ -88,11 +93,11 @@ below_fit (forms.Numbers number) c vs fit = none_hold FitsField c
 below_fit (forms.Bytes w) c vs fit = none_hold FitsField c
 below_fit (forms.Texts w) c vs fit = none_hold FitsField c
 below_fit (forms.FixedBytes w) c vs fit = none_hold FitsField c
-below_fit (forms.Lists w) c vs fit = lists_fit (forms.Lists w) c vs fit
+below_fit (forms.Lists w) c vs fit = lists_fit (nulls_under w) (forms.Lists w) c vs fit
 below_fit forms.Structs c vs fit = columns_hold FitsField c 0 vs (all_change (Fits forms.Structs c) (PartsHold FitsField c 0) (parts_fit forms.Structs c) vs fit)
 
 -- and there is a column for each of them
-one_below : (c : Fields) (vs : List PlainValue) (w : OffsetWidth) → HasFieldsOf (forms.Lists w) c → length (raws_below (forms.Lists w) c vs) ≡ width c
+one_below : (c : Fields) (vs : List PlainValue) (w : ListForm) → HasFieldsOf (forms.Lists w) c → length (raws_below (forms.Lists w) c vs) ≡ width c
 one_below none vs w formed = absurd formed
 one_below (more h c none) vs w formed = refl
 one_below (more h c (more h' c' rest)) vs w formed = absurd formed

@@ -1,5 +1,5 @@
 -- There is one tidy body of raw values.
-use Rattle.std.proofs.Common.{◌≡◌, ℕ, zero, suc, ◌+◌, ◌<◌, ◌≤◌, false, List, [], ◌∷◌, ◌++◌, length, map, get_or, take, drop, refl, ap, ◌∙◌, sym, subst, arith, length-take, length-drop, if◌then◌else◌}
+use Rattle.std.proofs.Common.{◌≡◌, ℕ, zero, suc, ◌+◌, ◌*◌, ◌<◌, ◌≤◌, false, List, [], ◌∷◌, ◌++◌, length, map, get_or, take, drop, refl, ap, ◌∙◌, sym, subst, arith, length-take, length-drop, if◌then◌else◌}
 use Rattle.std.specs.Prelude.{ℤ, pos, Option, None, Some}
 use Rattle.std.specs.List.{AllByRecursion, flat_map}
 use Rattle.std.proofs.lemmas.List.{append_assoc, append-nil, drop-drop, get_or-drop, length-map, take-append-drop}
@@ -19,6 +19,7 @@ use Rattle.arrow_data.specs.PlainValue.{PlainValue, null_value, value_at}
 use Rattle.arrow_data.specs.Slots.{is_valid_at, or_null, slots}
 use Rattle.arrow_data.specs.declared.form.Form.{Form}
 use Rattle.arrow_data.specs.declared.form.Form.TheVariants as forms
+use Rattle.arrow_data.specs.declared.form.ListForm.TheVariants as lists
 use Rattle.arrow_data.proofs.Shown.{at_slots, length_slots}
 use Rattle.arrow_data.specs.Listed.{dictionary_for}
 use Rattle.arrow_body_reader.specs.Held.{bytes_in, count_of}
@@ -32,7 +33,7 @@ use Rattle.arrow_body_laws.proofs.Joined.{no_elements}
 use Rattle.arrow_body_laws.proofs.Kept.{AreNullAt, IsKept, kept_below, kept_chunks}
 use Rattle.arrow_body_laws.proofs.Reordered.{are_filled, counted}
 use Rattle.arrow_body_laws.proofs.Soundness.{map_append}
-use Rattle.arrow_body_laws.proofs.Tidied.{plain_struct, tidy_count}
+use Rattle.arrow_body_laws.proofs.Tidied.{item_below, plain_above, slots_below, tidy_count}
 use Rattle.arrow_body_laws.proofs.Walk.{chunks_of_none, head_form, if_all, inner_raws, nodes_of_none}
 
 -- the raw values of columns
@@ -119,25 +120,34 @@ null_columns body ds j (more h c rest) ns bs long nulls =
       null_columns body ds j rest (drop (1 + flattened h.encoding (taken_nodes c)) ns) (drop (own_buffers h + flattened h.encoding (taken_buffers c)) bs) long.1 nulls.1,
     )
 
--- slots that are as many as those of the struct above
+-- slots that are as many as those above ask for
 slots_enough : (j len : ℕ) (counts : List ℕ) → j < len → AreAsLong len counts → AllByRecursion (λ count. j < count) counts
 slots_enough j len [] h long = tt
 slots_enough j len (n ∷ counts) h long = (omega (arith, h, long.0), slots_enough j len counts h long.1)
 
--- a condition below the nulls of structs is changed for another
-nulls_changed : (form : Form) (len : ℕ) (validity : List ℕ) (P Q : ℕ → Type 0) → (form ≡ forms.Structs → (j : ℕ) → j < len → P j → Q j) → BelowNulls form len validity P → BelowNulls form len validity Q
+-- a condition below nulls is changed for another
+nulls_changed : (form : Form) (len : ℕ) (validity : List ℕ) (P Q : ℕ → Type 0) → ((j : ℕ) → j < slots_below form len → P j → Q j) → BelowNulls form len validity P → BelowNulls form len validity Q
 nulls_changed forms.Nulls len validity P Q change hold = tt
 nulls_changed forms.Bits len validity P Q change hold = tt
 nulls_changed (forms.Numbers number) len validity P Q change hold = tt
 nulls_changed (forms.Bytes w) len validity P Q change hold = tt
 nulls_changed (forms.Texts w) len validity P Q change hold = tt
 nulls_changed (forms.FixedBytes w) len validity P Q change hold = tt
-nulls_changed (forms.Lists w) len validity P Q change hold = tt
-nulls_changed forms.Structs len validity P Q change hold = λ j h null. change refl j h (hold j h null)
+nulls_changed (forms.Lists (lists.Offsets w)) len validity P Q change hold = tt
+nulls_changed (forms.Lists (lists.Fixed size)) len validity P Q change hold = λ j h null k small. change (size * j + k) (item_below size j k len h small) (hold j h null k small)
+nulls_changed forms.Structs len validity P Q change hold = λ j h null. change j h (hold j h null)
 
--- the slots below a struct
-struct_counts : (form : Form) (len : ℕ) (b : List (List ℕ)) (counts : List ℕ) → form ≡ forms.Structs → IsTidyLayout form len b counts → AreAsLong len counts
-struct_counts form len b counts is layout = subst (λ f. IsTidyLayout f len b counts) is layout
+-- the slots below a struct or a fixed-size list
+slots_there : (form : Form) (len j : ℕ) (b : List (List ℕ)) (counts : List ℕ) → j < slots_below form len → IsTidyLayout form len b counts → AllByRecursion (λ count. j < count) counts
+slots_there forms.Nulls len j b counts h layout = absurd (omega (arith, h))
+slots_there forms.Bits len j b counts h layout = absurd (omega (arith, h))
+slots_there (forms.Numbers number) len j b counts h layout = absurd (omega (arith, h))
+slots_there (forms.Bytes w) len j b counts h layout = absurd (omega (arith, h))
+slots_there (forms.Texts w) len j b counts h layout = absurd (omega (arith, h))
+slots_there (forms.FixedBytes w) len j b counts h layout = absurd (omega (arith, h))
+slots_there (forms.Lists (lists.Offsets w)) len j b counts h layout = absurd (omega (arith, h))
+slots_there (forms.Lists (lists.Fixed size)) len j b counts h layout = slots_enough j (size * len) counts h layout
+slots_there forms.Structs len j b counts h layout = slots_enough j len counts h layout
 
 -- the columns below a field without an encoding
 columns_inside : (e : Option Encoding) (cs : List Column) → e ≡ None → if_flattened e cs ≡ cs
@@ -148,17 +158,17 @@ columns_inside (Some e) cs plain = cc
 abbrev inside_raws : List ℕ → List (ℤ × ValueList) → Head → Fields → List FieldNode → List Buffer → List (List PlainValue)
 inside_raws body ds h c ns bs = raws_in (if_flattened h.encoding (columns_of body ds c (drop 1 ns) (drop (own_buffers h) bs)))
 
--- nulls below the nulls of a struct are read as null
+-- nulls below the nulls of a struct or of a fixed-size list are read as null
 hidden_kept : (body : List ℕ) (ds : List (ℤ × ValueList)) (h : Head) (c : Fields) (ns : List FieldNode) (bs : List Buffer) → IsNodeTidy body h c ns bs
     → BelowNulls (head_form h) (slots_at ns) (buffer (own_bytes body h bs) 0) (λ j. AreNullAt j (inside_raws body ds h c ns bs))
 hidden_kept body ds h c ns bs tidy =
     let form = head_form h in
     let kids = columns_of body ds c (drop 1 ns) (drop (own_buffers h) bs) in
     nulls_changed form (slots_at ns) (buffer (own_bytes body h bs) 0) (λ j. AreNullSlots body j c (drop 1 ns) (drop (own_buffers h) bs)) (λ j. AreNullAt j (inside_raws body ds h c ns bs))
-    (λ is j there nulls.
-    let plain = plain_struct h.tag h.encoding is in
+    (λ j there nulls.
+    let plain = plain_above h.tag h.encoding (slots_at ns) j there in
     let counts : lengths_of (below h.encoding c) (drop 1 ns) ≡ lengths_of c (drop 1 ns) = ap (λ e. lengths_of (below e c) (drop 1 ns)) plain in
-    let long = slots_enough j (slots_at ns) (lengths_of (below h.encoding c) (drop 1 ns)) there (struct_counts form (slots_at ns) (own_bytes body h bs) (lengths_of (below h.encoding c) (drop 1 ns)) is tidy.layout) in
+    let long = slots_there form (slots_at ns) j (own_bytes body h bs) (lengths_of (below h.encoding c) (drop 1 ns)) there tidy.layout in
     subst (λ cs. AreNullAt j (raws_in cs)) (sym (columns_inside h.encoding kids plain))
     (null_columns body ds j c (drop 1 ns) (drop (own_buffers h) bs) (subst (AllByRecursion (λ count. j < count)) counts long) nulls))
     tidy.hidden

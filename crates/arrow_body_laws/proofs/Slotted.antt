@@ -15,14 +15,17 @@ use Rattle.arrow_data.specs.declared.form.NumberForm.{NumberForm}
 use Rattle.arrow_types.specs.declared.data_type.BitWidth.TheVariants as widths
 use Rattle.arrow_data.specs.Form.{greatest_offset, number_width, has_sign}
 use Rattle.arrow_data.specs.PlainValue.{PlainValue, PlainValues, null_value, bool_value, int_value, binary_value, utf8_value, list_value, struct_value, no_values, more_values, values_of, value_at, is_null_value, field_value, nth_value, list_of_values}
+use Rattle.arrow_data.specs.Layout.{list_offsets}
 use Rattle.arrow_data.specs.Slots.{is_valid_at, or_null, bool_slot, int_slot, fixed_slot, binary_slot, utf8_slot, list_slot, struct_slot, slots, place_of, range_of}
 use Rattle.arrow_data.specs.declared.form.Form.TheVariants as forms
+use Rattle.arrow_data.specs.declared.form.ListForm.{ListForm}
+use Rattle.arrow_data.specs.declared.form.ListForm.TheVariants as lists
 use Rattle.arrow_data.specs.declared.form.OffsetWidth.{OffsetWidth}
 use Rattle.arrow_data.proofs.Shown.{length_slots}
 use Rattle.arrow_data.proofs.Lists.{values_again}
 use Rattle.arrow_body_laws.specs.Packed.{packed, offsets_bytes}
-use Rattle.arrow_body_laws.specs.Raws.{IsOwn, bytes_in_value, fixed_in, items_in_value, number_in, raws_below, truth_in}
-use Rattle.arrow_body_laws.specs.Stored.{nulls_in, number_buffer, validity_bytes}
+use Rattle.arrow_body_laws.specs.Raws.{IsOwn, bytes_in_value, fixed_in, item_limit, items_in_value, last_item, nulls_under, number_in, raws_below, truth_in}
+use Rattle.arrow_body_laws.specs.Stored.{list_chunks, nulls_in, number_buffer, validity_bytes}
 use Rattle.arrow_body_laws.proofs.Bits.{packed_bit, packed_few}
 use Rattle.arrow_body_laws.proofs.Pieces.{HaveWidth, cut, int_read, piece, place_read, sum_next}
 
@@ -235,22 +238,45 @@ read_texts w c vs own near =
     (λ full. ap utf8_value (read_range w bytes_in_value vs j h near) ∙ text_of w c (value_at vs j) (in_slot (IsOwn (forms.Texts w) c) vs j h own) full))
 
 -- lists
-list_of : (w : OffsetWidth) (c : Fields) (v : PlainValue) → IsOwn (forms.Lists w) c v → is_null_value v ≡ false → list_value (values_of (items_in_value v)) ≡ v
-list_of w c null_value own h = cc
-list_of w c (bool_value b) own h = cc
-list_of w c (int_value b) own h = absurd own
-list_of w c (binary_value b) own h = absurd own
-list_of w c (utf8_value b) own h = absurd own
-list_of w c (list_value b) own h = ap list_value (values_again b)
-list_of w c (struct_value b) own h = let other = own.0 in cc
+list_of : (n : ℕ) (w : ListForm) (c : Fields) (v : PlainValue) → IsOwn (forms.Lists w) c v → is_null_value v ≡ false → list_value (values_of (items_in_value n v)) ≡ v
+list_of n w c null_value own h = cc
+list_of n w c (bool_value b) own h = cc
+list_of n w c (int_value b) own h = absurd own
+list_of n w c (binary_value b) own h = absurd own
+list_of n w c (utf8_value b) own h = absurd own
+list_of n w c (list_value b) own h = ap list_value (values_again b)
+list_of n w c (struct_value b) own h = let other = own.0 in cc
 
-pub read_lists : (w : OffsetWidth) (c : Fields) (vs : List PlainValue) → AllByRecursion (IsOwn (forms.Lists w) c) vs → sum_by (λ v. length (items_in_value v)) vs ≤ greatest_offset w
-    → slots (length vs) (list_slot w (validity_bytes vs) (offsets_bytes w (map (λ v. length (items_in_value v)) vs)) (flat_map items_in_value vs)) ≡ vs
-read_lists w c vs own near =
-    let o = offsets_bytes w (map (λ v. length (items_in_value v)) vs) in
-    slots_same vs (list_slot w (validity_bytes vs) o (flat_map items_in_value vs))
-    (λ j h. slot_same vs j (list_value (values_of (range_of w o (flat_map items_in_value vs) j))) h
-    (λ full. ap (λ items. list_value (values_of items)) (read_range w items_in_value vs j h near) ∙ list_of w c (value_at vs j) (in_slot (IsOwn (forms.Lists w) c) vs j h own) full))
+-- the items of a value of fixed-size lists, nulls in place of them under a null
+item_wide : (size : ℕ) (c : Fields) (v : PlainValue) → IsOwn (forms.Lists (lists.Fixed size)) c v → length (items_in_value size v) ≡ size
+item_wide size c null_value own = length-replicate size null_value
+item_wide size c (bool_value b) own = length-replicate size null_value
+item_wide size c (int_value b) own = length-replicate size null_value
+item_wide size c (binary_value b) own = length-replicate size null_value
+item_wide size c (utf8_value b) own = length-replicate size null_value
+item_wide size c (list_value b) own = own
+item_wide size c (struct_value b) own = length-replicate size null_value
+
+pub all_items : (size : ℕ) (c : Fields) (vs : List PlainValue) → AllByRecursion (IsOwn (forms.Lists (lists.Fixed size)) c) vs → HaveWidth (items_in_value size) size vs
+all_items size c [] own = tt
+all_items size c (v ∷ vs) own = (item_wide size c v own.0, all_items size c vs own.1)
+
+pub read_lists : (w : ListForm) (c : Fields) (vs : List PlainValue) → AllByRecursion (IsOwn (forms.Lists w) c) vs → last_item w vs ≤ item_limit w
+    → slots (length vs) (list_slot w (validity_bytes vs) (list_offsets w (validity_bytes vs ∷ list_chunks w vs)) (flat_map (items_in_value (nulls_under w)) vs)) ≡ vs
+read_lists (lists.Offsets w) c vs own near =
+    let o = offsets_bytes w (map (λ v. length (items_in_value 0 v)) vs) in
+    let child = flat_map (items_in_value 0) vs in
+    slots_same vs (list_slot (lists.Offsets w) (validity_bytes vs) o child)
+    (λ j h. slot_same vs j (list_value (values_of (range_of w o child j))) h
+    (λ full. ap (λ items. list_value (values_of items)) (read_range w (items_in_value 0) vs j h near) ∙ list_of 0 (lists.Offsets w) c (value_at vs j) (in_slot (IsOwn (forms.Lists (lists.Offsets w)) c) vs j h own) full))
+read_lists (lists.Fixed size) c vs own near =
+    let child = flat_map (items_in_value size) vs in
+    slots_same vs (list_slot (lists.Fixed size) (validity_bytes vs) [] child)
+    (λ j h. let wide : size * (j + 1) - size * j ≡ size = omega arith in
+    slot_same vs j (list_value (values_of (take (size * (j + 1) - size * j) (drop (size * j) child)))) h
+    (λ full. ap (λ n. list_value (values_of (take n (drop (size * j) child)))) wide
+    ∙ ap (λ items. list_value (values_of items)) (piece (items_in_value size) size vs (all_items size c vs own) j null_value h)
+    ∙ list_of size (lists.Fixed size) c (value_at vs j) (in_slot (IsOwn (forms.Lists (lists.Fixed size)) c) vs j h own) full))
 
 -- structs
 pub nth_same : (values : PlainValues) (k : ℕ) → nth_value k values ≡ get_or (list_of_values values) k null_value

@@ -16,6 +16,7 @@ use Rattle.arrow_data.specs.Layout.{IsLaid, IsText, buffer}
 use Rattle.arrow_data.specs.PlainValue.{PlainValue, is_null_value}
 use Rattle.arrow_data.specs.declared.form.Form.{Form}
 use Rattle.arrow_data.specs.declared.form.Form.TheVariants as forms
+use Rattle.arrow_data.specs.declared.form.ListForm.TheVariants as lists
 use Rattle.arrow_body_reader.specs.Held.{IsHeld}
 use Rattle.arrow_body_reader.specs.Sound.{IsCounted, IsNodeLaid, IsNodeText, lengths_of, own_bytes, slots_at}
 use Rattle.arrow_body_reader.specs.Taken.{AllNodes, IfFlattened, below, flattened, own_buffers, taken_buffers, taken_nodes}
@@ -125,7 +126,8 @@ own_sized (forms.Numbers number) c vs own = λ i. validity_long vs i ∷ ints_lo
 own_sized (forms.Bytes w) c vs own = λ i. validity_long vs i ∷ offsets_long w (λ v. length (bytes_in_value v)) vs i ∷ length-flat_map bytes_in_value vs i ∷ []
 own_sized (forms.Texts w) c vs own = λ i. validity_long vs i ∷ offsets_long w (λ v. length (bytes_in_value v)) vs i ∷ length-flat_map bytes_in_value vs i ∷ []
 own_sized (forms.FixedBytes w) c vs own = λ i. validity_long vs i ∷ fixed_long w c vs own i ∷ []
-own_sized (forms.Lists w) c vs own = λ i. validity_long vs i ∷ offsets_long w (λ v. length (items_in_value v)) vs i ∷ []
+own_sized (forms.Lists (lists.Offsets w)) c vs own = λ i. validity_long vs i ∷ offsets_long w (λ v. length (items_in_value 0 v)) vs i ∷ []
+own_sized (forms.Lists (lists.Fixed size)) c vs own = λ i. validity_long vs i ∷ []
 own_sized forms.Structs c vs own = λ i. validity_long vs i ∷ []
 
 pub map_append : {X Y : Type 0} (f : X → Y) (xs ys : List X) → map f (xs ++ ys) ≡ map f xs ++ map f ys

@@ -5,7 +5,7 @@ use Rattle.std.specs.List.{AllByRecursion, flat_map, sum_by, range_with_len}
 use Rattle.std.specs.Int.{div_ceil}
 use Rattle.std.proofs.lemmas.Bool.{eqb-false}
 use Rattle.std.proofs.lemmas.Int.{ints}
-use Rattle.std.proofs.lemmas.List.{get_or-map, length-map, length-append, length-replicate, append_assoc, append-nil, take_all}
+use Rattle.std.proofs.lemmas.List.{get_or-drop, get_or-map, get_or-replicate, get_or-take, length-map, length-append, length-replicate, append_assoc, append-nil, take_all}
 use Rattle.std.proofs.lemmas.List.Concat.{length-flat_map}
 use Rattle.std.proofs.lemmas.List.Sums.{sum_by-cons}
 use Rattle.std.proofs.Math.Nat.{add-mul-mod_self_right, zero-mod}
@@ -23,6 +23,8 @@ use Rattle.arrow_data.specs.PlainValue.{PlainValue, null_value, bool_value, int_
 use Rattle.arrow_data.specs.Slots.{is_valid_at}
 use Rattle.arrow_data.specs.declared.form.Form.{Form}
 use Rattle.arrow_data.specs.declared.form.Form.TheVariants as forms
+use Rattle.arrow_data.specs.declared.form.ListForm.{ListForm}
+use Rattle.arrow_data.specs.declared.form.ListForm.TheVariants as lists
 use Rattle.arrow_data.specs.declared.form.OffsetWidth.{OffsetWidth}
 use Rattle.arrow_body_reader.specs.Sound.{lengths_of, nulls_of, own_bytes}
 use Rattle.arrow_body_reader.specs.Taken.{below, flattened, own_buffers, taken_buffers, taken_nodes}
@@ -33,9 +35,10 @@ use Rattle.arrow_body_laws.specs.Stored.{nulls_in, number_buffer, own_chunks, pa
 use Rattle.arrow_body_laws.specs.Tidy.{AreAsLong, AreNullSlots, BelowNulls, IsNextMultiple, IsNodeTidy, IsNullSlot, IsSpare, IsTidyBools, IsTidyFixed, IsTidyLayout, IsTidyOffsets, IsTidyValidity, StandInOrder, null_count_of}
 use Rattle.arrow_body_laws.proofs.Bits.{packed_bit, packed_few, packed_spare, empty_spare}
 use Rattle.arrow_body_laws.proofs.Layouts.{fixed_long, ints_long, nulls_are}
-use Rattle.arrow_body_laws.proofs.Pieces.{HaveWidth, all_wide, length_int, offsets_long, piece, place_read, sum_next}
+use Rattle.arrow_body_laws.proofs.Pieces.{HaveWidth, all_wide, length_int, offsets_long, piece, pieces_long, place_read, sum_next}
 use Rattle.arrow_body_laws.proofs.Placed.{padded_long}
-use Rattle.arrow_body_laws.proofs.Slotted.{all_fixed, read_valid}
+use Rattle.arrow_data.proofs.Shown.{items_inside}
+use Rattle.arrow_body_laws.proofs.Slotted.{all_fixed, all_items, read_valid}
 use Rattle.arrow_body_laws.proofs.Soundness.{all_nodes, are_stored, lengths_below, places_long, slots_are}
 use Rattle.arrow_body_laws.proofs.Walk.{AreStored, chunks_long, head_form, inner_raws, nodes_long, own_bytes_are, own_node_is, stored_inside, stored_next}
 
@@ -178,7 +181,8 @@ tidy_layout (forms.Numbers number) c vs own small = tidy_ints (number_width numb
 tidy_layout (forms.Bytes w) c vs own small = tidy_offsets w (λ v. length (bytes_in_value v)) vs (length (flat_map bytes_in_value vs)) refl small.near (length-flat_map bytes_in_value vs)
 tidy_layout (forms.Texts w) c vs own small = tidy_offsets w (λ v. length (bytes_in_value v)) vs (length (flat_map bytes_in_value vs)) refl small.near (length-flat_map bytes_in_value vs)
 tidy_layout (forms.FixedBytes w) c vs own small = tidy_fixed w c vs own
-tidy_layout (forms.Lists w) c vs own small = tidy_offsets w (λ v. length (items_in_value v)) vs (length (flat_map items_in_value vs)) refl small.near (length-flat_map items_in_value vs)
+tidy_layout (forms.Lists (lists.Offsets w)) c vs own small = tidy_offsets w (λ v. length (items_in_value 0 v)) vs (length (flat_map (items_in_value 0) vs)) refl small.near (length-flat_map (items_in_value 0) vs)
+tidy_layout (forms.Lists (lists.Fixed size)) c vs own small = (pieces_long (items_in_value size) size vs (all_items size c vs own), tt)
 tidy_layout forms.Structs c vs own small = as_long vs 0 (width c)
 
 -- the node's count
@@ -251,21 +255,56 @@ nulls_in_parts vs j a zero h is = tt
 nulls_in_parts vs j a (suc n) h is =
     ((omega (arith, h, length-map vs (field_value a)), get_or-map (field_value a) vs j null_value null_value h ∙ ap (field_value a) is), nulls_in_parts vs j (a + 1) n h is)
 
--- only a node without an encoding is one of structs
-below_nulls : (form : Form) (c : Fields) (vs : List PlainValue) (P : ℕ → Type 0)
-    → (form ≡ forms.Structs → (j : ℕ) → AllByRecursion (IsNullAt j) (raws_below form c vs) → P j) → BelowNulls form (length vs) (buffer (own_chunks form vs) 0) P
-below_nulls forms.Nulls c vs P p = tt
-below_nulls forms.Bits c vs P p = tt
-below_nulls (forms.Numbers number) c vs P p = tt
-below_nulls (forms.Bytes w) c vs P p = tt
-below_nulls (forms.Texts w) c vs P p = tt
-below_nulls (forms.FixedBytes w) c vs P p = tt
-below_nulls (forms.Lists w) c vs P p = tt
-below_nulls forms.Structs c vs P p = λ j h hidden. p refl j (nulls_in_parts vs j 0 (width c) h (null_at vs j h hidden))
+-- the items under a null are null
+null_in_items : (size : ℕ) (c : Fields) (vs : List PlainValue) (j k : ℕ) → AllByRecursion (IsOwn (forms.Lists (lists.Fixed size)) c) vs → j < length vs → k < size → value_at vs j ≡ null_value
+    → IsNullAt (size * j + k) (flat_map (items_in_value size) vs)
+null_in_items size c vs j k own h small is =
+    let child = flat_map (items_in_value size) vs in
+    let wide = all_items size c vs own in
+    let many = pieces_long (items_in_value size) size vs wide in
+    let next : size * j + size ≡ size * (j + 1) = omega arith in
+    let inside = items_inside size j (length vs) (length child) h (omega (arith, many)) in (
+      omega (arith, small, next, inside.1),
+      sym (get_or-drop (size * j) child k null_value) ∙ sym (get_or-take size (drop (size * j) child) k null_value small)
+          ∙ ap (λ xs. value_at xs k) (piece (items_in_value size) size vs wide j null_value h ∙ ap (items_in_value size) is)
+          ∙ get_or-replicate size k null_value null_value small,
+    )
 
-pub plain_struct : (tag : Tag) (e : Option Encoding) → node_form tag e ≡ forms.Structs → e ≡ None
-plain_struct tag None is = refl
-plain_struct tag (Some e) is = cc
+-- how many slots the children of structs have, and the child of fixed-size lists
+abbrev pub slots_below : Form → ℕ → ℕ
+slots_below forms.Nulls len = 0
+slots_below forms.Bits len = 0
+slots_below (forms.Numbers number) len = 0
+slots_below (forms.Bytes w) len = 0
+slots_below (forms.Texts w) len = 0
+slots_below (forms.FixedBytes w) len = 0
+slots_below (forms.Lists (lists.Offsets w)) len = 0
+slots_below (forms.Lists (lists.Fixed size)) len = size * len
+slots_below forms.Structs len = len
+
+-- the slot of an item is one of these
+pub item_below : (size j k len : ℕ) → j < len → k < size → size * j + k < size * len
+item_below size j k len h small =
+    let next : size * j + size ≡ size * (j + 1) = omega arith in
+    omega (arith, small, next, (items_inside size j len (size * len) h (omega arith)).1)
+
+-- what is null below a null
+below_nulls : (form : Form) (c : Fields) (vs : List PlainValue) (P : ℕ → Type 0) → AllByRecursion (IsOwn form c) vs
+    → ((j : ℕ) → j < slots_below form (length vs) → AllByRecursion (IsNullAt j) (raws_below form c vs) → P j) → BelowNulls form (length vs) (buffer (own_chunks form vs) 0) P
+below_nulls forms.Nulls c vs P own p = tt
+below_nulls forms.Bits c vs P own p = tt
+below_nulls (forms.Numbers number) c vs P own p = tt
+below_nulls (forms.Bytes w) c vs P own p = tt
+below_nulls (forms.Texts w) c vs P own p = tt
+below_nulls (forms.FixedBytes w) c vs P own p = tt
+below_nulls (forms.Lists (lists.Offsets w)) c vs P own p = tt
+below_nulls (forms.Lists (lists.Fixed size)) c vs P own p = λ j h hidden k small. p (size * j + k) (item_below size j k (length vs) h small) (null_in_items size c vs j k own h small (null_at vs j h hidden), tt)
+below_nulls forms.Structs c vs P own p = λ j h hidden. p j h (nulls_in_parts vs j 0 (width c) h (null_at vs j h hidden))
+
+-- only a node without an encoding has slots below it
+pub plain_above : (tag : Tag) (e : Option Encoding) (len j : ℕ) → j < slots_below (node_form tag e) len → e ≡ None
+plain_above tag None len j h = refl
+plain_above tag (Some e) len j h = absurd (omega (arith, h))
 
 -- a field's own node and buffers are tidy
 pub node_tidy : (body : List ℕ) (h : Head) (c rest : Fields) (vs : List PlainValue) (raws : List (List PlainValue)) (ns : List FieldNode) (bs : List Buffer) → AreStored body (more h c rest) (vs ∷ raws) ns bs → IsNodeTidy body h c ns bs
@@ -288,8 +327,8 @@ node_tidy body h c rest vs raws ns bs s =
           (subst (λ k. IsTidyLayout form (length vs) (own_chunks form vs) k) (sym counts) (tidy_layout form c vs s.raw.0 s.small.0)));
       hidden = subst (λ n. BelowNulls form n (buffer (own_bytes body h bs) 0) nulls) (sym long)
           (subst (λ b. BelowNulls form (length vs) (buffer b 0) nulls) (sym bytes)
-          (below_nulls form c vs nulls
-          (λ is j all. null_slots body j c (inner_raws h c vs) (drop 1 ns) (drop (own_buffers h) bs) (stored_inside body h c rest vs raws ns bs s (plain_struct h.tag h.encoding is)) all)));
+          (below_nulls form c vs nulls s.raw.0
+          (λ j there all. null_slots body j c (inner_raws h c vs) (drop 1 ns) (drop (own_buffers h) bs) (stored_inside body h c rest vs raws ns bs s (plain_above h.tag h.encoding (length vs) j there)) all)));
     }
 
 -- what is stored is tidy

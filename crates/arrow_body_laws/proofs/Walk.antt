@@ -13,6 +13,7 @@ use Rattle.arrow_data.specs.Form.{buffers_of, node_form}
 use Rattle.arrow_data.specs.PlainValue.{PlainValue}
 use Rattle.arrow_data.specs.declared.form.Form.{Form}
 use Rattle.arrow_data.specs.declared.form.Form.TheVariants as forms
+use Rattle.arrow_data.specs.declared.form.ListForm.TheVariants as lists
 use Rattle.arrow_body_reader.specs.Held.{IsHeld, bytes_in}
 use Rattle.arrow_body_reader.specs.Sound.{node_at, own_bytes}
 use Rattle.arrow_body_reader.specs.Taken.{IfFlattened, flattened, own_buffers, taken_buffers, taken_nodes}
@@ -44,7 +45,8 @@ own_long (forms.Numbers number) vs = refl
 own_long (forms.Bytes w) vs = refl
 own_long (forms.Texts w) vs = refl
 own_long (forms.FixedBytes w) vs = refl
-own_long (forms.Lists w) vs = refl
+own_long (forms.Lists (lists.Offsets w)) vs = refl
+own_long (forms.Lists (lists.Fixed size)) vs = refl
 own_long forms.Structs vs = refl
 
 -- below a field there are as many nodes as are taken there

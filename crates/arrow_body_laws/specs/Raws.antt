@@ -3,10 +3,12 @@ use Rattle.std.specs.Prelude.{◌≡◌, ◌≤◌, ℕ, ℤ, pos, Bool, false, 
 use Rattle.std.specs.List.{AllByRecursion, flat_map, range_with_len, sum_by}
 use Rattle.arrow_types.specs.Field.{Fields, none, more, width}
 use Rattle.arrow_data.specs.Fits.{HoldsBinary, HoldsInt, HoldsUtf8}
-use Rattle.arrow_data.specs.Form.{IsLists, greatest_offset, node_form}
+use Rattle.arrow_data.specs.Form.{HoldsList, greatest_offset, node_form}
 use Rattle.arrow_data.specs.PlainValue.{PlainValue, null_value, bool_value, int_value, binary_value, utf8_value, list_value, struct_value, field_value, list_of_values}
 use Rattle.arrow_data.specs.declared.form.Form.{Form}
 use Rattle.arrow_data.specs.declared.form.Form.TheVariants as forms
+use Rattle.arrow_data.specs.declared.form.ListForm.{ListForm}
+use Rattle.arrow_data.specs.declared.form.ListForm.TheVariants as lists
 use Rattle.arrow_body_reader.specs.Taken.{IfFlattened}
 
 -- the truth value of a slot, false under a null
@@ -49,15 +51,21 @@ fixed_in width (utf8_value bytes) = replicate width 0
 fixed_in width (list_value items) = replicate width 0
 fixed_in width (struct_value parts) = replicate width 0
 
--- its items, none under a null
-abbrev pub items_in_value : PlainValue → List PlainValue
-items_in_value (list_value items) = list_of_values items
-items_in_value null_value = []
-items_in_value (bool_value b) = []
-items_in_value (int_value z) = []
-items_in_value (binary_value bytes) = []
-items_in_value (utf8_value bytes) = []
-items_in_value (struct_value parts) = []
+-- its items, so many nulls under a null
+abbrev pub items_in_value : ℕ → PlainValue → List PlainValue
+items_in_value n (list_value items) = list_of_values items
+items_in_value n null_value = replicate n null_value
+items_in_value n (bool_value b) = replicate n null_value
+items_in_value n (int_value z) = replicate n null_value
+items_in_value n (binary_value bytes) = replicate n null_value
+items_in_value n (utf8_value bytes) = replicate n null_value
+items_in_value n (struct_value parts) = replicate n null_value
+
+-- how many nulls the child is sent under a null list: none, or as many as each list has items (Columnar Format, "Fixed-Size
+-- List Layout")
+abbrev pub nulls_under : ListForm → ℕ
+nulls_under (lists.Offsets width) = 0
+nulls_under (lists.Fixed size) = size
 
 -- The raw values that the columns below a node of the form are sent: of lists the items of one slot after those of the one
 -- before; of structs value k of each slot, null under a null. (Columnar Format, "Variable-size List Layout", "Struct Layout")
@@ -68,18 +76,18 @@ raws_below (forms.Numbers number) children vs = []
 raws_below (forms.Bytes w) children vs = []
 raws_below (forms.Texts w) children vs = []
 raws_below (forms.FixedBytes w) children vs = []
-raws_below (forms.Lists w) children vs = flat_map items_in_value vs ∷ []
+raws_below (forms.Lists list) children vs = flat_map (items_in_value (nulls_under list)) vs ∷ []
 raws_below forms.Structs children vs = map (λ k. map (field_value k) vs) (range_with_len 0 (width children))
 
--- A slot of a node of the form, with these fields below it, may hold the value: null in every one. What stands below a list
--- or a struct is not looked at.
+-- A slot of a node of the form, with these fields below it, may hold the value: null in every one. Of a list its length is
+-- looked at, and nothing else of what stands below a list or a struct.
 abbrev pub IsOwn : Form → Fields → PlainValue → Type 0
 IsOwn form children null_value = ⊤
 IsOwn form children (bool_value b) = form ≡ forms.Bits
 IsOwn form children (int_value z) = HoldsInt form z
 IsOwn form children (binary_value bytes) = HoldsBinary form bytes
 IsOwn form children (utf8_value bytes) = HoldsUtf8 form bytes
-IsOwn form children (list_value items) = IsLists form
+IsOwn form children (list_value items) = HoldsList form (length (list_of_values items))
 IsOwn form children (struct_value parts) = (form ≡ forms.Structs) × (length (list_of_values parts) ≡ width children)
 
 -- there are raw values for each of the fields, on every level, and each is one that its node may hold
@@ -92,6 +100,11 @@ AreRaws (more head children rest) (vs ∷ raws) =
     × IfFlattened head.encoding (AreRaws children (raws_below (node_form head.tag head.encoding) children vs))
     × AreRaws rest raws
 
+-- up to where the offsets of lists go, 0 where none are stored
+abbrev pub last_item : ListForm → List PlainValue → ℕ
+last_item (lists.Offsets width) vs = sum_by (λ v. length (items_in_value 0 v)) vs
+last_item (lists.Fixed size) vs = 0
+
 -- up to where the offsets of a node of the form go, 0 of one that has none
 abbrev pub last_offset : Form → List PlainValue → ℕ
 last_offset forms.Nulls vs = 0
@@ -100,8 +113,13 @@ last_offset (forms.Numbers number) vs = 0
 last_offset (forms.Bytes w) vs = sum_by (λ v. length (bytes_in_value v)) vs
 last_offset (forms.Texts w) vs = sum_by (λ v. length (bytes_in_value v)) vs
 last_offset (forms.FixedBytes w) vs = 0
-last_offset (forms.Lists w) vs = sum_by (λ v. length (items_in_value v)) vs
+last_offset (forms.Lists list) vs = last_item list vs
 last_offset forms.Structs vs = 0
+
+-- the greatest that the offsets of lists can tell
+abbrev pub item_limit : ListForm → ℕ
+item_limit (lists.Offsets width) = greatest_offset width
+item_limit (lists.Fixed size) = 0
 
 -- the greatest that the offsets of a node of the form can tell
 abbrev pub offset_limit : Form → ℕ
@@ -111,7 +129,7 @@ offset_limit (forms.Numbers number) = 0
 offset_limit (forms.Bytes w) = greatest_offset w
 offset_limit (forms.Texts w) = greatest_offset w
 offset_limit (forms.FixedBytes w) = 0
-offset_limit (forms.Lists w) = greatest_offset w
+offset_limit (forms.Lists list) = item_limit list
 offset_limit forms.Structs = 0
 
 -- the slots of a node can be counted by a signed 32-bit number, and its offsets told by numbers of their width

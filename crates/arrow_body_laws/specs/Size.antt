@@ -7,12 +7,19 @@ use Rattle.arrow_data.specs.Form.{node_form, number_width, offset_bytes}
 use Rattle.arrow_data.specs.PlainValue.{PlainValue}
 use Rattle.arrow_data.specs.declared.form.Form.{Form}
 use Rattle.arrow_data.specs.declared.form.Form.TheVariants as forms
+use Rattle.arrow_data.specs.declared.form.ListForm.{ListForm}
+use Rattle.arrow_data.specs.declared.form.ListForm.TheVariants as lists
 use Rattle.arrow_body_laws.specs.Raws.{last_offset, raws_below}
 use Rattle.arrow_body_laws.specs.Stored.{nulls_in, rounded}
 
 -- the bytes of a bitmap: none where no slot is null
 abbrev pub validity_size : List PlainValue → ℕ
 validity_size vs = if nat_eq (nulls_in vs) 0 then 0 else div_ceil (length vs) 8
+
+-- the bytes of the offsets of so many lists, where they are stored
+abbrev pub list_sizes : ListForm → ℕ → List ℕ
+list_sizes (lists.Offsets width) len = offset_bytes width * (len + 1) ∷ []
+list_sizes (lists.Fixed size) len = []
 
 -- the bytes of each buffer of a node of the form
 abbrev pub own_sizes : Form → List PlainValue → List ℕ
@@ -22,7 +29,7 @@ own_sizes (forms.Numbers number) vs = validity_size vs ∷ number_width number *
 own_sizes (forms.Bytes w) vs = validity_size vs ∷ offset_bytes w * (length vs + 1) ∷ last_offset (forms.Bytes w) vs ∷ []
 own_sizes (forms.Texts w) vs = validity_size vs ∷ offset_bytes w * (length vs + 1) ∷ last_offset (forms.Texts w) vs ∷ []
 own_sizes (forms.FixedBytes width) vs = validity_size vs ∷ width * length vs ∷ []
-own_sizes (forms.Lists w) vs = validity_size vs ∷ offset_bytes w * (length vs + 1) ∷ []
+own_sizes (forms.Lists list) vs = validity_size vs ∷ list_sizes list (length vs)
 own_sizes forms.Structs vs = validity_size vs ∷ []
 
 -- the bytes of each buffer of the fields

@@ -10,6 +10,8 @@ use Rattle.arrow_data.specs.Form.{node_form, number_width}
 use Rattle.arrow_data.specs.PlainValue.{PlainValue, is_null_value}
 use Rattle.arrow_data.specs.declared.form.Form.{Form}
 use Rattle.arrow_data.specs.declared.form.Form.TheVariants as forms
+use Rattle.arrow_data.specs.declared.form.ListForm.{ListForm}
+use Rattle.arrow_data.specs.declared.form.ListForm.TheVariants as lists
 use Rattle.arrow_body_laws.specs.Packed.{packed, ints_bytes, offsets_bytes}
 use Rattle.arrow_body_laws.specs.Raws.{bytes_in_value, fixed_in, items_in_value, number_in, raws_below, truth_in}
 
@@ -25,6 +27,11 @@ validity_bytes vs = if nat_eq (nulls_in vs) 0 then [] else packed (map (λ v. no
 abbrev pub number_buffer : ℕ → List PlainValue → List ℕ
 number_buffer width vs = ints_bytes width (map number_in vs)
 
+-- the offsets of lists, where they are stored (Columnar Format, "Variable-size List Layout", "Fixed-Size List Layout")
+abbrev pub list_chunks : ListForm → List PlainValue → List (List ℕ)
+list_chunks (lists.Offsets width) vs = offsets_bytes width (map (λ v. length (items_in_value 0 v)) vs) ∷ []
+list_chunks (lists.Fixed size) vs = []
+
 -- The buffers of a node of the form, in their order (Columnar Format, "Buffer Listing for Each Layout").
 abbrev pub own_chunks : Form → List PlainValue → List (List ℕ)
 own_chunks forms.Nulls vs = []
@@ -33,7 +40,7 @@ own_chunks (forms.Numbers number) vs = validity_bytes vs ∷ number_buffer (numb
 own_chunks (forms.Bytes w) vs = validity_bytes vs ∷ offsets_bytes w (map (λ v. length (bytes_in_value v)) vs) ∷ flat_map bytes_in_value vs ∷ []
 own_chunks (forms.Texts w) vs = validity_bytes vs ∷ offsets_bytes w (map (λ v. length (bytes_in_value v)) vs) ∷ flat_map bytes_in_value vs ∷ []
 own_chunks (forms.FixedBytes width) vs = validity_bytes vs ∷ flat_map (fixed_in width) vs ∷ []
-own_chunks (forms.Lists w) vs = validity_bytes vs ∷ offsets_bytes w (map (λ v. length (items_in_value v)) vs) ∷ []
+own_chunks (forms.Lists list) vs = validity_bytes vs ∷ list_chunks list vs
 own_chunks forms.Structs vs = validity_bytes vs ∷ []
 
 -- a field's own node (Message.fbs, struct "FieldNode")

@@ -13,6 +13,8 @@ use Rattle.arrow_data.specs.Layout.{buffer, child_count}
 use Rattle.arrow_data.specs.Slots.{is_valid_at, place_of}
 use Rattle.arrow_data.specs.declared.form.Form.{Form}
 use Rattle.arrow_data.specs.declared.form.Form.TheVariants as forms
+use Rattle.arrow_data.specs.declared.form.ListForm.{ListForm}
+use Rattle.arrow_data.specs.declared.form.ListForm.TheVariants as lists
 use Rattle.arrow_data.specs.declared.form.OffsetWidth.{OffsetWidth}
 use Rattle.arrow_body_reader.specs.Held.{count_of}
 use Rattle.arrow_body_reader.specs.Sound.{lengths_of, node_at, nulls_of, own_bytes, slots_at}
@@ -70,6 +72,11 @@ pub record IsTidyOffsets (width : OffsetWidth) (len : ℕ) (validity offsets : L
 abbrev pub AreAsLong : ℕ → List ℕ → Type 0
 AreAsLong len counts = AllByRecursion (λ count. count ≡ len) counts
 
+-- the offsets of lists, where they are stored; of fixed-size lists the child has just as many slots as these have items
+abbrev pub AreTidyLists : ListForm → ℕ → List (List ℕ) → List ℕ → Type 0
+AreTidyLists (lists.Offsets width) len b counts = IsTidyOffsets width len (buffer b 0) (buffer b 1) (child_count counts)
+AreTidyLists (lists.Fixed size) len b counts = AreAsLong (size * len) counts
+
 -- the buffers of a node of the form, and the slots below it
 abbrev pub IsTidyLayout : Form → ℕ → List (List ℕ) → List ℕ → Type 0
 IsTidyLayout forms.Nulls len b counts = ⊤
@@ -78,7 +85,7 @@ IsTidyLayout (forms.Numbers number) len b counts = IsTidyFixed len (number_width
 IsTidyLayout (forms.Bytes width) len b counts = IsTidyOffsets width len (buffer b 0) (buffer b 1) (length (buffer b 2))
 IsTidyLayout (forms.Texts width) len b counts = IsTidyOffsets width len (buffer b 0) (buffer b 1) (length (buffer b 2))
 IsTidyLayout (forms.FixedBytes width) len b counts = IsTidyFixed len width (buffer b 0) (buffer b 1)
-IsTidyLayout (forms.Lists width) len b counts = IsTidyOffsets width len (buffer b 0) (buffer b 1) (child_count counts)
+IsTidyLayout (forms.Lists list) len b counts = AreTidyLists list len b counts
 IsTidyLayout forms.Structs len b counts = AreAsLong len counts
 
 -- slot j of a node of the form is null
@@ -89,7 +96,7 @@ IsNullSlot (forms.Numbers number) b j = is_valid_at (buffer b 0) j ≡ false
 IsNullSlot (forms.Bytes width) b j = is_valid_at (buffer b 0) j ≡ false
 IsNullSlot (forms.Texts width) b j = is_valid_at (buffer b 0) j ≡ false
 IsNullSlot (forms.FixedBytes width) b j = is_valid_at (buffer b 0) j ≡ false
-IsNullSlot (forms.Lists width) b j = is_valid_at (buffer b 0) j ≡ false
+IsNullSlot (forms.Lists list) b j = is_valid_at (buffer b 0) j ≡ false
 IsNullSlot forms.Structs b j = is_valid_at (buffer b 0) j ≡ false
 
 -- slot j of each of the fields side by side is null
@@ -99,7 +106,12 @@ AreNullSlots body j (more head children rest) nodes buffers =
     IsNullSlot (node_form head.tag head.encoding) (own_bytes body head buffers) j
     × AreNullSlots body j rest (drop (1 + flattened head.encoding (taken_nodes children)) nodes) (drop (own_buffers head + flattened head.encoding (taken_buffers children)) buffers)
 
--- a condition on what stands below the null slots of a struct
+-- a condition on each slot of the child below a null list: of fixed-size lists on each of its items, else there is none
+abbrev pub BelowNullLists : ListForm → ℕ → List ℕ → (ℕ → Type 0) → Type 0
+BelowNullLists (lists.Offsets width) len validity P = ⊤
+BelowNullLists (lists.Fixed size) len validity P = UnderNulls len validity (λ j. (k : ℕ) → k < size → P (size * j + k))
+
+-- a condition on what stands below the null slots of a struct, or of a fixed-size list
 abbrev pub BelowNulls : Form → ℕ → List ℕ → (ℕ → Type 0) → Type 0
 BelowNulls forms.Nulls len validity P = ⊤
 BelowNulls forms.Bits len validity P = ⊤
@@ -107,7 +119,7 @@ BelowNulls (forms.Numbers number) len validity P = ⊤
 BelowNulls (forms.Bytes width) len validity P = ⊤
 BelowNulls (forms.Texts width) len validity P = ⊤
 BelowNulls (forms.FixedBytes width) len validity P = ⊤
-BelowNulls (forms.Lists width) len validity P = ⊤
+BelowNulls (forms.Lists list) len validity P = BelowNullLists list len validity P
 BelowNulls forms.Structs len validity P = UnderNulls len validity P
 
 -- how many slots of a node of the form are null: all where the type is Null (Columnar Format, "Null count")
@@ -118,10 +130,10 @@ null_count_of (forms.Numbers number) len validity = nulls_of len validity
 null_count_of (forms.Bytes width) len validity = nulls_of len validity
 null_count_of (forms.Texts width) len validity = nulls_of len validity
 null_count_of (forms.FixedBytes width) len validity = nulls_of len validity
-null_count_of (forms.Lists width) len validity = nulls_of len validity
+null_count_of (forms.Lists list) len validity = nulls_of len validity
 null_count_of forms.Structs len validity = nulls_of len validity
 
--- a field's own node and buffers are tidy, and below a null of a struct there are nulls
+-- a field's own node and buffers are tidy, and below a null of a struct or of a fixed-size list there are nulls
 pub record IsNodeTidy (body : List ℕ) (head : Head) (children : Fields) (nodes : List FieldNode) (buffers : List Buffer) : Type 0 where
   pub counted : (node_at nodes).null_count ≡ pos (null_count_of (node_form head.tag head.encoding) (slots_at nodes) (buffer (own_bytes body head buffers) 0))
   pub validity : IsTidyValidity (slots_at nodes) (buffer (own_bytes body head buffers) 0)

@@ -14,16 +14,19 @@ use Rattle.arrow_types.specs.declared.node.FieldNode.{FieldNode}
 use Rattle.arrow_types.specs.declared.node.Buffer.{Buffer}
 use Rattle.arrow_data.specs.Column.{ValueList}
 use Rattle.arrow_data.specs.Form.{node_form, number_width, offset_bytes}
-use Rattle.arrow_data.specs.Layout.{buffer, child_count, HoldsSlots}
+use Rattle.arrow_data.specs.Layout.{buffer, child_count, list_offsets, HoldsSlots}
 use Rattle.arrow_data.specs.Node.{AreBytes}
-use Rattle.arrow_data.specs.Slots.{HasBits, HasOffsets}
+use Rattle.arrow_data.specs.Slots.{HasBits, HasItemPlaces, HasOffsets}
 use Rattle.arrow_data.specs.declared.form.Form.{Form}
 use Rattle.arrow_data.specs.declared.form.Form.TheVariants as forms
+use Rattle.arrow_data.specs.declared.form.ListForm.{ListForm}
+use Rattle.arrow_data.specs.declared.form.ListForm.TheVariants as lists
 use Rattle.arrow_data.specs.declared.form.OffsetWidth.{OffsetWidth}
+use Rattle.arrow_data.proofs.Shown.{items_inside}
 use Rattle.arrow_body_reader.proofs.Columns.{sound_inside, sound_next}
 use Rattle.arrow_body_reader.proofs.Taking.{buffer_after, node_after, there_parts}
 use Rattle.arrow_body_reader.specs.Held.{bytes_in, count_of}
-use Rattle.arrow_body_reader.specs.Inside.{HasRange, HasValidity, HasWidth, IsNodeInside, IsSlotInside}
+use Rattle.arrow_body_reader.specs.Inside.{HasItemsInside, HasRange, HasValidity, HasWidth, IsNodeInside, IsSlotInside}
 use Rattle.arrow_body_reader.specs.Sound.{IsSound, lengths_of, own_bytes, slots_at}
 use Rattle.arrow_body_reader.specs.Taken.{AllNodes, IfFlattened, below, flattened, own_buffers, taken_buffers, taken_nodes}
 
@@ -56,6 +59,11 @@ range_inside width len top j offsets small rising h =
       within = omega (arith, ints, next, far, are.last);
     }
 
+-- the items of a list
+list_inside : (list : ListForm) (len top j : ℕ) (b : List (List ℕ)) → ((k : ℕ) → AreBytes (buffer b k)) → HasItemPlaces list len top (list_offsets list b) → j < len → HasItemsInside list j top b
+list_inside (lists.Offsets width) len top j b small rising h = range_inside width len top j (buffer b 1) (small 1) rising h
+list_inside (lists.Fixed size) len top j b small long h = (items_inside size j len top h long).1
+
 -- the slot of each child
 children_inside : (len j : ℕ) (counts : List ℕ) → AllByRecursion (λ count. len ≤ count) counts → j < len → AllByRecursion (λ count. j < count) counts
 children_inside len j [] longer h = tt
@@ -69,7 +77,7 @@ slot_inside (forms.Numbers number) len j b counts small laid h = (valid_inside l
 slot_inside (forms.Bytes width) len j b counts small laid h = (valid_inside len j (buffer b 0) laid.bits h, range_inside width len (length (buffer b 2)) j (buffer b 1) (small 1) laid.rising h)
 slot_inside (forms.Texts width) len j b counts small laid h = (valid_inside len j (buffer b 0) laid.bits h, range_inside width len (length (buffer b 2)) j (buffer b 1) (small 1) laid.rising h)
 slot_inside (forms.FixedBytes width) len j b counts small laid h = (valid_inside len j (buffer b 0) laid.bits h, width_inside width len j (buffer b 1) laid.long h)
-slot_inside (forms.Lists width) len j b counts small laid h = (valid_inside len j (buffer b 0) laid.bits h, range_inside width len (child_count counts) j (buffer b 1) (small 1) laid.rising h)
+slot_inside (forms.Lists list) len j b counts small laid h = (valid_inside len j (buffer b 0) laid.bits h, list_inside list len (child_count counts) j b small laid.rising h)
 slot_inside forms.Structs len j b counts small laid h = (valid_inside len j (buffer b 0) laid.bits h, children_inside len j counts laid.longer h)
 
 -- a number that is not negative

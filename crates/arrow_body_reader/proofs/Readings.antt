@@ -9,12 +9,12 @@ use Rattle.arrow_types.specs.declared.node.FieldNode.{FieldNode}
 use Rattle.arrow_types.specs.declared.node.Buffer.{Buffer}
 use Rattle.arrow_data.specs.Column.{Column, ValueList, AreOf}
 use Rattle.arrow_data.specs.Form.{form_of}
-use Rattle.arrow_data.specs.Layout.{buffer, IsIndexed}
+use Rattle.arrow_data.specs.Layout.{buffer, list_offsets, IsIndexed}
 use Rattle.arrow_data.specs.Listed.{listed, ResolvesBy, dictionary_for, values_by}
 use Rattle.arrow_data.specs.Parts.{node_column, value_slot, index_slot, entry_of_slot, values_in}
 use Rattle.arrow_data.specs.PlainValue.{PlainValue, value_at, list_value, struct_value, values_of}
 use Rattle.arrow_data.specs.Resolve.{resolve, resolve_items, resolve_parts, before}
-use Rattle.arrow_data.specs.Slots.{is_valid_at, place_of, index_width}
+use Rattle.arrow_data.specs.Slots.{is_valid_at, item_place, index_width}
 use Rattle.arrow_data.specs.declared.form.Form.{Form}
 use Rattle.arrow_data.specs.declared.form.Form.TheVariants as forms
 use Rattle.arrow_data.proofs.Resolving.{slots_resolve, null_resolves, shown_resolves, plain_resolves, items_resolve, range_resolves, at_resolves, index_resolves}
@@ -63,8 +63,8 @@ value_resolves ds (forms.Numbers number) fields b cs j typed all = plain_resolve
 value_resolves ds (forms.Bytes width) fields b cs j typed all = plain_resolves None fields (values_by ds) (is_valid_at (buffer b 0) j) _ refl
 value_resolves ds (forms.Texts width) fields b cs j typed all = plain_resolves None fields (values_by ds) (is_valid_at (buffer b 0) j) _ refl
 value_resolves ds (forms.FixedBytes width) fields b cs j typed all = plain_resolves None fields (values_by ds) (is_valid_at (buffer b 0) j) _ refl
-value_resolves ds (forms.Lists width) fields b cs j typed all =
-    shown_resolves None fields (values_by ds) (is_valid_at (buffer b 0) j) _ _ (λ valid. ap (option_map list_value) (first_items ds fields cs (place_of width (buffer b 1) j) (place_of width (buffer b 1) (j + 1)) typed all))
+value_resolves ds (forms.Lists list) fields b cs j typed all =
+    shown_resolves None fields (values_by ds) (is_valid_at (buffer b 0) j) _ _ (λ valid. ap (option_map list_value) (first_items ds fields cs (item_place list (list_offsets list b) j) (item_place list (list_offsets list b) (j + 1)) typed all))
 value_resolves ds forms.Structs fields b cs j typed all =
     shown_resolves None fields (values_by ds) (is_valid_at (buffer b 0) j) _ _ (λ valid. ap (option_map struct_value) (each_part ds fields cs j typed all))
 

@@ -13,6 +13,8 @@ use Rattle.arrow_data.specs.Node.{AreBytes}
 use Rattle.arrow_data.specs.Slots.{place_of}
 use Rattle.arrow_data.specs.declared.form.Form.{Form}
 use Rattle.arrow_data.specs.declared.form.Form.TheVariants as forms
+use Rattle.arrow_data.specs.declared.form.ListForm.{ListForm}
+use Rattle.arrow_data.specs.declared.form.ListForm.TheVariants as lists
 use Rattle.arrow_data.specs.declared.form.OffsetWidth.{OffsetWidth}
 use Rattle.arrow_body_reader.specs.Held.{IsHeld}
 use Rattle.arrow_body_reader.specs.Sound.{IsSound, columns_of, lengths_of, node_at, own_bytes, slots_at}
@@ -37,6 +39,12 @@ pub record HasRange (width : OffsetWidth) (j top : ℕ) (offsets : List ℕ) : T
   pub order : place_of width offsets j ≤ place_of width offsets (j + 1)
   pub within : place_of width offsets (j + 1) ≤ top
 
+-- The items of list j lie within the child's slots: up to the offset after it, or as many as each list has (Columnar Format,
+-- "Variable-size List Layout", "Fixed-Size List Layout").
+abbrev pub HasItemsInside : ListForm → ℕ → ℕ → List (List ℕ) → Type 0
+HasItemsInside (lists.Offsets width) j top b = HasRange width j top (buffer b 1)
+HasItemsInside (lists.Fixed size) j top b = size * (j + 1) ≤ top
+
 -- What slot j of a node of the form names is there: its bits and bytes in the buffers, a list's items and a struct's
 -- values among the slots of the children (Columnar Format, "Buffer Listing for Each Layout").
 abbrev pub IsSlotInside : Form → ℕ → List (List ℕ) → List ℕ → Type 0
@@ -46,7 +54,7 @@ IsSlotInside (forms.Numbers number) j b counts = HasValidity j (buffer b 0) × H
 IsSlotInside (forms.Bytes width) j b counts = HasValidity j (buffer b 0) × HasRange width j (length (buffer b 2)) (buffer b 1)
 IsSlotInside (forms.Texts width) j b counts = HasValidity j (buffer b 0) × HasRange width j (length (buffer b 2)) (buffer b 1)
 IsSlotInside (forms.FixedBytes width) j b counts = HasValidity j (buffer b 0) × HasWidth width j (buffer b 1)
-IsSlotInside (forms.Lists width) j b counts = HasValidity j (buffer b 0) × HasRange width j (child_count counts) (buffer b 1)
+IsSlotInside (forms.Lists list) j b counts = HasValidity j (buffer b 0) × HasItemsInside list j (child_count counts) b
 IsSlotInside forms.Structs j b counts = HasValidity j (buffer b 0) × AllByRecursion (λ count. j < count) counts
 
 -- The field has a node of its own, which tells how many slots there are, and all of its buffers. They lie inside the body,

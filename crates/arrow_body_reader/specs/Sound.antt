@@ -52,7 +52,7 @@ IsCountOf (forms.Numbers number) node validity = IsCount node validity
 IsCountOf (forms.Bytes width) node validity = IsCount node validity
 IsCountOf (forms.Texts width) node validity = IsCount node validity
 IsCountOf (forms.FixedBytes width) node validity = IsCount node validity
-IsCountOf (forms.Lists width) node validity = IsCount node validity
+IsCountOf (forms.Lists list) node validity = IsCount node validity
 IsCountOf forms.Structs node validity = IsCount node validity
 
 -- the number of nulls of a node of this type and encoding is as it should be

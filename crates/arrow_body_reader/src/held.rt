@@ -2,12 +2,14 @@
 
 ghost use Rattle.std.specs.Prelude.{◌≡◌, ◌≤◌, ◌<◌, MatchOption, length, take};
 ghost use Rattle.std.specs.List.{AllByRecursion};
-ghost use Rattle.arrow_data.specs.Layout.{buffer};
+ghost use Rattle.arrow_data.specs.Form.{list_buffers};
+ghost use Rattle.arrow_data.specs.Layout.{buffer, list_offsets};
 ghost use Rattle.arrow_data.specs.Node.{bytes_of, IsInside};
 ghost use Rattle.arrow_body_reader.specs.Held.{AreRangesOf, IsHeld, bytes_in};
 ghost use Rattle.arrow_body_reader.specs.Place.{buffers_in};
 
 use arrow_data::ByteRange;
+use arrow_data::form::ListForm;
 use arrow_types::Buffer;
 
 // Where a buffer lies, None where that is not inside the body.
@@ -75,5 +77,18 @@ impl<'a> Ranges<'a> {
         ensures { result.now ≡ buffer (buffers_in self.entry) k }
     {
         &self.body[self.ranges[k].start..self.ranges[k].end]
+    }
+
+    // The offsets of a node of lists, none where none are stored.
+    #[inline(always)]
+    pub(crate) fn offsets(self, form: ListForm) -> &'a [u8]
+        requires there { list_buffers form ≤ length self.ranges.now }
+        requires inside { AllByRecursion (IsInside self.body.now) self.ranges.now }
+        ensures { result.now ≡ list_offsets form (buffers_in self.entry) }
+    {
+        match form {
+            ListForm::Offsets(_) => self.bytes(1),
+            ListForm::Fixed(_) => &[],
+        }
     }
 }

@@ -20,7 +20,7 @@ use crate::place::{Laid, Place};
 use arrow_bits::Bits;
 use arrow_data::form::Form;
 use arrow_data::layout::{has_bits, has_bools, has_fixed, has_lists, has_strings};
-use arrow_data::{OffsetBuffer, StringBuffers};
+use arrow_data::{ItemPlaces, StringBuffers};
 use arrow_types::FieldNode;
 
 // How many slots the first node has, 0 where a number stands there that is none.
@@ -111,13 +111,13 @@ impl Place<'_> {
                     bytes: held.bytes(2),
                 },
             ),
-            Form::Lists(width) => has_lists(
+            Form::Lists(form) => has_lists(
                 held.bytes(0),
-                OffsetBuffer {
-                    width,
+                ItemPlaces {
+                    form,
                     len,
                     top: slots(&self.left.nodes[1..]),
-                    bytes: held.bytes(1),
+                    offsets: held.offsets(form),
                 },
             ),
             Form::Structs => has_bits(len, held.bytes(0)) && len <= least,

@@ -10,6 +10,7 @@ use Rattle.arrow_data.specs.Form.{buffers_of, node_form}
 use Rattle.arrow_data.specs.PlainValue.{PlainValue}
 use Rattle.arrow_data.specs.declared.form.Form.{Form}
 use Rattle.arrow_data.specs.declared.form.Form.TheVariants as forms
+use Rattle.arrow_data.specs.declared.form.ListForm.TheVariants as lists
 use Rattle.arrow_body_laws.proofs.Placed.{padded_long}
 use Rattle.arrow_body_laws.proofs.Walk.{own_long}
 use Rattle.arrow_body_laws.specs.Stored.{fields_of_columns, own_chunks, own_node, padded, places_from, rounded, stored, stored_chunks, stored_nodes}
@@ -47,9 +48,10 @@ chunk_next (forms.Texts w) (suc (suc (suc k))) vs part e = cc
 chunk_next (forms.FixedBytes w) zero vs part e = ap (λ p. chunk_of p vs ∷ []) (same_part _ part e)
 chunk_next (forms.FixedBytes w) (suc zero) vs part e = ap (λ p. chunk_of Validity vs ∷ chunk_of p vs ∷ []) (same_part _ part e)
 chunk_next (forms.FixedBytes w) (suc (suc k)) vs part e = cc
-chunk_next (forms.Lists w) zero vs part e = ap (λ p. chunk_of p vs ∷ []) (same_part _ part e)
-chunk_next (forms.Lists w) (suc zero) vs part e = ap (λ p. chunk_of Validity vs ∷ chunk_of p vs ∷ []) (same_part _ part e)
-chunk_next (forms.Lists w) (suc (suc k)) vs part e = cc
+chunk_next (forms.Lists list) zero vs part e = ap (λ p. chunk_of p vs ∷ []) (same_part _ part e)
+chunk_next (forms.Lists (lists.Offsets w)) (suc zero) vs part e = ap (λ p. chunk_of Validity vs ∷ chunk_of p vs ∷ []) (same_part _ part e)
+chunk_next (forms.Lists (lists.Offsets w)) (suc (suc k)) vs part e = cc
+chunk_next (forms.Lists (lists.Fixed size)) (suc k) vs part e = cc
 chunk_next forms.Structs zero vs part e = ap (λ p. chunk_of p vs ∷ []) (same_part _ part e)
 chunk_next forms.Structs (suc k) vs part e = cc
 
@@ -73,9 +75,10 @@ past (forms.Texts w) (suc (suc (suc k))) e = omega arith
 past (forms.FixedBytes w) zero e = cc
 past (forms.FixedBytes w) (suc zero) e = cc
 past (forms.FixedBytes w) (suc (suc k)) e = omega arith
-past (forms.Lists w) zero e = cc
-past (forms.Lists w) (suc zero) e = cc
-past (forms.Lists w) (suc (suc k)) e = omega arith
+past (forms.Lists list) zero e = cc
+past (forms.Lists (lists.Offsets w)) (suc zero) e = cc
+past (forms.Lists (lists.Offsets w)) (suc (suc k)) e = omega arith
+past (forms.Lists (lists.Fixed size)) (suc k) e = omega arith
 past forms.Structs zero e = cc
 past forms.Structs (suc k) e = omega arith
 
@@ -92,7 +95,8 @@ few_buffers (forms.Numbers number) = omega arith
 few_buffers (forms.Bytes w) = omega arith
 few_buffers (forms.Texts w) = omega arith
 few_buffers (forms.FixedBytes w) = omega arith
-few_buffers (forms.Lists w) = omega arith
+few_buffers (forms.Lists (lists.Offsets w)) = omega arith
+few_buffers (forms.Lists (lists.Fixed size)) = omega arith
 few_buffers forms.Structs = omega arith
 
 pub all_chunks : (form : Form) (vs : List PlainValue) → take 3 (own_chunks form vs) ≡ own_chunks form vs

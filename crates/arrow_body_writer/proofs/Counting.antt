@@ -3,6 +3,7 @@ use Rattle.std.proofs.Common.{◌≡◌, ℕ, zero, suc, ◌+◌, ◌-◌, ◌<�
 use Rattle.arrow_data.specs.PlainValue.{PlainValue, null_value, is_null_value}
 use Rattle.arrow_data.specs.declared.form.Form.{Form}
 use Rattle.arrow_data.specs.declared.form.Form.TheVariants as forms
+use Rattle.arrow_data.specs.declared.form.ListForm.TheVariants as lists
 use Rattle.arrow_body_laws.specs.Raws.{bytes_in_value, items_in_value, last_offset}
 use Rattle.arrow_body_laws.proofs.Slotted.{not_zero}
 use Rattle.arrow_body_laws.specs.Packed.{packed}
@@ -29,7 +30,8 @@ offset_more (forms.Numbers number) vs v = refl
 offset_more (forms.Bytes w) vs v = omega (arith, sum_more (λ x. length (bytes_in_value x)) vs v, sum_more (λ x. length (bytes_in_value x)) [] v)
 offset_more (forms.Texts w) vs v = omega (arith, sum_more (λ x. length (bytes_in_value x)) vs v, sum_more (λ x. length (bytes_in_value x)) [] v)
 offset_more (forms.FixedBytes w) vs v = refl
-offset_more (forms.Lists w) vs v = omega (arith, sum_more (λ x. length (items_in_value x)) vs v, sum_more (λ x. length (items_in_value x)) [] v)
+offset_more (forms.Lists (lists.Offsets w)) vs v = omega (arith, sum_more (λ x. length (items_in_value 0 x)) vs v, sum_more (λ x. length (items_in_value 0 x)) [] v)
+offset_more (forms.Lists (lists.Fixed size)) vs v = refl
 offset_more forms.Structs vs v = refl
 
 -- it does not go on under a null
@@ -40,7 +42,8 @@ offset_null (forms.Numbers number) = refl
 offset_null (forms.Bytes w) = refl
 offset_null (forms.Texts w) = refl
 offset_null (forms.FixedBytes w) = refl
-offset_null (forms.Lists w) = refl
+offset_null (forms.Lists (lists.Offsets w)) = refl
+offset_null (forms.Lists (lists.Fixed size)) = refl
 offset_null forms.Structs = refl
 
 -- a null is counted
@@ -79,7 +82,8 @@ no_tally form = record { slots = refl; nulls = refl; end = of_form form }
     of_form (forms.Bytes w) = refl
     of_form (forms.Texts w) = refl
     of_form (forms.FixedBytes w) = refl
-    of_form (forms.Lists w) = refl
+    of_form (forms.Lists (lists.Offsets w)) = refl
+    of_form (forms.Lists (lists.Fixed size)) = refl
     of_form forms.Structs = refl
 
 -- what was taken since is counted

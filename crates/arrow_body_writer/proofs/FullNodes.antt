@@ -1,6 +1,6 @@
 -- The buffers of nodes of which no slot is null.
 use Rattle.std.proofs.Common.{◌≡◌, ◌<◌, ℕ, List, [], ◌∷◌, ◌++◌, length, append-nil, refl, sym, ap, ◌∙◌, subst, arith, if◌then◌else◌, map, not}
-use Rattle.std.specs.Prelude.{Bool, nat_eq, pos}
+use Rattle.std.specs.Prelude.{nat_eq, pos}
 use Rattle.std.specs.List.{AllByRecursion, flat_map}
 use Rattle.arrow_data.specs.declared.form.NumberForm.{NumberForm}
 use Rattle.arrow_data.specs.Column.{Column, IsColumn, values_from}

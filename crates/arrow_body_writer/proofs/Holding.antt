@@ -4,6 +4,7 @@ use Rattle.std.specs.Prelude.{if◌then◌else◌}
 use Rattle.arrow_data.specs.Layout.{HasLists, HasStrings}
 use Rattle.arrow_data.specs.PlainValue.{PlainValue, list_value, null_value, value_at, values_of}
 use Rattle.arrow_data.specs.Slots.{HasBits, HasOffsets, is_valid_at, or_null, range_of}
+use Rattle.arrow_data.specs.declared.form.ListForm.TheVariants as lists
 use Rattle.arrow_data.specs.declared.form.OffsetWidth.{OffsetWidth}
 use Rattle.arrow_data.proofs.Lists.{list_again}
 use Rattle.arrow_body_laws.specs.Raws.{bytes_in_value, items_in_value}
@@ -34,8 +35,8 @@ bytes_held width validity offsets bytes raw value own o are has shown =
     (λ j h. ap bytes_in_value (shown j h) ∙ given bytes_in_value (is_valid_at validity j) (value (range_of width offsets bytes j)) (range_of width offsets bytes j) (own (range_of width offsets bytes j)) refl)
 
 -- lists
-pub items_held : (width : OffsetWidth) (validity offsets : List ℕ) (child raw : List PlainValue) (o : Offsets) → AreOf width validity offsets o → HasLists width (length raw) validity offsets (length child)
-    → ((j : ℕ) → j < length raw → value_at raw j ≡ or_null validity j (list_value (values_of (range_of width offsets child j)))) → AreHeld o child items_in_value raw
+pub items_held : (width : OffsetWidth) (validity offsets : List ℕ) (child raw : List PlainValue) (o : Offsets) → AreOf width validity offsets o → HasLists (lists.Offsets width) (length raw) validity offsets (length child)
+    → ((j : ℕ) → j < length raw → value_at raw j ≡ or_null validity j (list_value (values_of (range_of width offsets child j)))) → AreHeld o child (items_in_value 0) raw
 items_held width validity offsets child raw o are has shown =
-    of_buffers width validity offsets child items_in_value raw o are has.bits has.rising
-    (λ j h. ap items_in_value (shown j h) ∙ given items_in_value (is_valid_at validity j) (list_value (values_of (range_of width offsets child j))) (range_of width offsets child j) (list_again (range_of width offsets child j)) refl)
+    of_buffers width validity offsets child (items_in_value 0) raw o are has.bits has.rising
+    (λ j h. ap (items_in_value 0) (shown j h) ∙ given (items_in_value 0) (is_valid_at validity j) (list_value (values_of (range_of width offsets child j))) (range_of width offsets child j) (list_again (range_of width offsets child j)) refl)

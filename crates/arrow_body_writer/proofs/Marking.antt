@@ -53,7 +53,7 @@ marked c (buffers.Numbers of) h = marks c.raw of.validity.now _ h.2.bits (λ j. 
 marked c (buffers.Binaries of) h = marks c.raw of.validity.now _ h.1.bits (λ j. refl) h.2
 marked c (buffers.Texts of) h = marks c.raw of.validity.now _ h.1.bits (λ j. refl) h.3
 marked c (buffers.FixedBytes width validity values) h = marks c.raw validity.now _ h.1.bits (λ j. refl) h.2
-marked c (buffers.Lists width validity offsets child) h = marks c.raw validity.now _ h.1.bits (λ j. refl) h.4
+marked c (buffers.Lists list validity offsets child) h = marks c.raw validity.now _ h.1.bits (λ j. refl) h.4
 marked c (buffers.Structs validity children) h = marks c.raw validity.now _ h.1 (λ j. refl) h.3
 marked c (buffers.Indices of dictionary) h = marks c.raw of.validity.now _ h.1.bits (λ j. refl) h.5
 

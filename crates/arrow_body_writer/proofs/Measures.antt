@@ -28,7 +28,7 @@ own_told (forms.Numbers number) vs = refl
 own_told (forms.Bytes w) vs = refl
 own_told (forms.Texts w) vs = refl
 own_told (forms.FixedBytes w) vs = refl
-own_told (forms.Lists w) vs = refl
+own_told (forms.Lists list) vs = refl
 own_told forms.Structs vs = refl
 
 nulls-le : (vs : List PlainValue) → nulls_in vs ≤ length vs

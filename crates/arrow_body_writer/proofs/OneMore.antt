@@ -65,11 +65,11 @@ strings_step part width old new v is next before vs =
     (λ so_far. offsets_more width (λ v. length (bytes_in_value v)) before old.out.items new.out.items old.end new.end vs v so_far next.0 next.1)
 
 -- the next offset of lists
-pub lists_step : (part : Part) (width : OffsetWidth) (old new : Writing) (v : PlainValue) → part ≡ ListOffsets width → HasNextOffset width (length (items_in_value v)) old new
+pub lists_step : (part : Part) (width : OffsetWidth) (old new : Writing) (v : PlainValue) → part ≡ ListOffsets width → HasNextOffset width (length (items_in_value 0 v)) old new
     → (before : List ℕ) (vs : List PlainValue) → IsWritten part before vs old → IsWritten part before (vs ++ v ∷ []) new
 lists_step part width old new v is next before vs =
     subst (λ p. IsWritten p before vs old → IsWritten p before (vs ++ v ∷ []) new) (sym is)
-    (λ so_far. offsets_more width (λ v. length (items_in_value v)) before old.out.items new.out.items old.end new.end vs v so_far next.0 next.1)
+    (λ so_far. offsets_more width (λ v. length (items_in_value 0 v)) before old.out.items new.out.items old.end new.end vs v so_far next.0 next.1)
 
 -- the next offset at a null
 pub null_step : (part : Part) (width : OffsetWidth) (old new : Writing) → (part ≡ StringOffsets width) ⊎ (part ≡ ListOffsets width) → HasNextOffset width 0 old new

@@ -1,5 +1,5 @@
 -- The numbers that are sent have room in the buffers of their nodes.
-use Rattle.std.proofs.Common.{◌≡◌, ℕ, zero, suc, Bool, true, false, ℤ, pos, List, [], ◌∷◌, subst, arith, Some}
+use Rattle.std.proofs.Common.{◌≡◌, ℕ, zero, suc, true, false, ℤ, pos, List, [], ◌∷◌, subst, arith, Some}
 use Rattle.std.specs.List.{AllByRecursion}
 use Rattle.std.proofs.lemmas.Int.{ints}
 use Rattle.arrow_types.specs.Field.{Fields}
@@ -12,6 +12,7 @@ use Rattle.arrow_data.specs.Form.{number_width, has_sign}
 use Rattle.arrow_data.specs.PlainValue.{PlainValue, null_value, bool_value, int_value, binary_value, utf8_value, list_value, struct_value}
 use Rattle.arrow_data.specs.declared.form.Form.{Form}
 use Rattle.arrow_data.specs.declared.form.Form.TheVariants as forms
+use Rattle.arrow_data.specs.declared.form.ListForm.TheVariants as lists
 use Rattle.arrow_body_laws.proofs.Below.{all_change}
 use Rattle.arrow_body_laws.specs.Laws.{raws_of}
 use Rattle.arrow_body_laws.specs.Raws.{AreRaws, IsOwn, number_in}
@@ -79,9 +80,10 @@ own_rooms (forms.Texts w) c vs own (suc (suc (suc k))) part e = cc
 own_rooms (forms.FixedBytes w) c vs own zero part e = subst (λ p. AllByRecursion (HasRoom p) vs) (same_part Validity part e) (all_free (HasRoom Validity) (λ v. tt) vs)
 own_rooms (forms.FixedBytes w) c vs own (suc zero) part e = subst (λ p. AllByRecursion (HasRoom p) vs) (same_part (FixedBytes w) part e) (all_free (HasRoom (FixedBytes w)) (λ v. tt) vs)
 own_rooms (forms.FixedBytes w) c vs own (suc (suc k)) part e = cc
-own_rooms (forms.Lists w) c vs own zero part e = subst (λ p. AllByRecursion (HasRoom p) vs) (same_part Validity part e) (all_free (HasRoom Validity) (λ v. tt) vs)
-own_rooms (forms.Lists w) c vs own (suc zero) part e = subst (λ p. AllByRecursion (HasRoom p) vs) (same_part (ListOffsets w) part e) (all_free (HasRoom (ListOffsets w)) (λ v. tt) vs)
-own_rooms (forms.Lists w) c vs own (suc (suc k)) part e = cc
+own_rooms (forms.Lists list) c vs own zero part e = subst (λ p. AllByRecursion (HasRoom p) vs) (same_part Validity part e) (all_free (HasRoom Validity) (λ v. tt) vs)
+own_rooms (forms.Lists (lists.Offsets w)) c vs own (suc zero) part e = subst (λ p. AllByRecursion (HasRoom p) vs) (same_part (ListOffsets w) part e) (all_free (HasRoom (ListOffsets w)) (λ v. tt) vs)
+own_rooms (forms.Lists (lists.Offsets w)) c vs own (suc (suc k)) part e = cc
+own_rooms (forms.Lists (lists.Fixed size)) c vs own (suc k) part e = cc
 own_rooms forms.Structs c vs own zero part e = subst (λ p. AllByRecursion (HasRoom p) vs) (same_part Validity part e) (all_free (HasRoom Validity) (λ v. tt) vs)
 own_rooms forms.Structs c vs own (suc k) part e = cc
 

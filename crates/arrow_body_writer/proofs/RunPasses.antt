@@ -1,7 +1,6 @@
 -- What a pass takes of slots one after another, run by run.
-use Rattle.std.proofs.Common.{◌≡◌, ◌≤◌, ◌<◌, ℕ, ◌+◌, ◌-◌, List, [], ◌∷◌, ◌++◌, length, map, min, sym, ap, ◌∙◌, subst, arith, length-append, true, inl, inr}
+use Rattle.std.proofs.Common.{◌≡◌, ◌≤◌, ◌<◌, ℕ, zero, suc, ◌+◌, ◌-◌, List, [], ◌∷◌, ◌++◌, length, map, replicate, refl, sym, ap, ◌∙◌, subst, arith, append-nil, length-append, true}
 use Rattle.std.specs.List.{AllByRecursion, flat_map}
-use Rattle.std.proofs.lemmas.Bool.{cases_lt}
 use Rattle.std.proofs.lemmas.Grind.{flat_map-append}
 use Rattle.std.proofs.lemmas.List.{ext_get_or, get_or-map, length-map, map-append}
 use Rattle.arrow_data.specs.Column.{Column, HasField, values_from}
@@ -11,7 +10,7 @@ use Rattle.arrow_data.proofs.Sameness.{at_values_from, length-values_from}
 use Rattle.arrow_body_laws.specs.Raws.{items_in_value}
 use Rattle.arrow_body_writer.proofs.Passing.{all_first, all_last, takes_more, takes_none}
 use Rattle.arrow_body_writer.proofs.Ranges.{from_both, from_next, none_from, null_of}
-use Rattle.arrow_body_writer.proofs.Sending.{along_more, along_none}
+use Rattle.arrow_body_writer.proofs.Sending.{along_more}
 use Rattle.arrow_body_writer.specs.Pass.{Takes}
 use Rattle.arrow_body_writer.specs.Sent.{sent_along}
 use Rattle.arrow_body_writer.specs.declared.pass.Pass.{Pass}
@@ -21,15 +20,15 @@ use Rattle.arrow_body_writer.specs.declared.steps.Steps.{Steps}
 abbrev pub Splits : (List PlainValue → List PlainValue) → Type 0
 Splits sent = (vs ws : List PlainValue) → sent (vs ++ ws) ≡ sent vs ++ sent ws
 
--- what the items of lists send along steps, and what a field of structs does
-abbrev pub by_items : Steps → List PlainValue → List PlainValue
-by_items steps vs = sent_along steps (flat_map items_in_value vs)
+-- what the items of lists send along steps, with so many nulls under a null, and what a field of structs does
+abbrev pub by_items : ℕ → Steps → List PlainValue → List PlainValue
+by_items n steps vs = sent_along steps (flat_map (items_in_value n) vs)
 
 abbrev pub by_field : ℕ → Steps → List PlainValue → List PlainValue
 by_field k steps vs = sent_along steps (map (field_value k) vs)
 
-pub items_split : (steps : Steps) → Splits (by_items steps)
-items_split steps vs ws = ap (sent_along steps) (flat_map-append items_in_value vs ws) ∙ along_more steps (flat_map items_in_value vs) (flat_map items_in_value ws)
+pub items_split : (n : ℕ) (steps : Steps) → Splits (by_items n steps)
+items_split n steps vs ws = ap (sent_along steps) (flat_map-append (items_in_value n) vs ws) ∙ along_more steps (flat_map (items_in_value n) vs) (flat_map (items_in_value n) ws)
 
 pub field_split : (k : ℕ) (steps : Steps) → Splits (by_field k steps)
 field_split k steps vs ws = ap (sent_along steps) (map-append (field_value k) vs ws) ∙ along_more steps (map (field_value k) vs) (map (field_value k) ws)
@@ -60,15 +59,21 @@ takes_null sent a b d raw start i splits low high null one other =
     subst (Takes a d) (sym (ap sent (from_next raw start i low high ∙ ap (λ v. values_from raw start i ++ v ∷ []) (null_of (value_at raw i) null)) ∙ splits (values_from raw start i) (null_value ∷ [])))
     (takes_more a b d (sent (values_from raw start i)) (sent (null_value ∷ [])) one other)
 
--- a null in place of a list sends nothing, so the range with it is taken
-pub takes_past : (steps : Steps) (a d : Pass) (raw : List PlainValue) (start end stop next : ℕ) → start ≤ end → end ≤ stop → stop ≤ length raw → (end < stop → is_null_value (value_at raw end) ≡ true)
-    → next ≡ min (end + 1) stop → Takes a d (by_items steps (values_from raw start end)) → Takes a d (by_items steps (values_from raw start next))
-takes_past steps a d raw start end stop next low high inside null is taken = elim (cases_lt end stop) [
-  | inl l ↦ (let after : next ≡ end + 1 = omega (arith, is, l) in
-      subst (λ k. Takes a d (by_items steps (values_from raw start k))) (sym after)
-      (takes_null (by_items steps) a d d raw start end (items_split steps) low (omega (arith, l, inside)) (null l) taken (subst (Takes d d) (sym (along_none steps)) (takes_none d))))
-  | inr g ↦ (let same : next ≡ end = omega (arith, is, g, high) in subst (λ k. Takes a d (by_items steps (values_from raw start k))) (sym same) taken)
-]
+-- one null more
+null_more : (n : ℕ) → replicate (n + 1) null_value ≡ replicate n null_value ++ null_value ∷ []
+null_more zero = refl
+null_more (suc n) =
+    let one : suc n + 1 ≡ suc (n + 1) = omega arith in
+    ap (λ k. replicate k null_value) one ∙ ap (λ vs. null_value ∷ vs) (null_more n)
+
+pub takes_nulls : (steps : Steps) (a b d : Pass) (n : ℕ) → Takes a b (sent_along steps (replicate n null_value)) → Takes b d (sent_along steps (null_value ∷ [])) → Takes a d (sent_along steps (replicate (n + 1) null_value))
+takes_nulls steps a b d n one other =
+    subst (Takes a d) (sym (ap (sent_along steps) (null_more n) ∙ along_more steps (replicate n null_value) (null_value ∷ [])))
+    (takes_more a b d (sent_along steps (replicate n null_value)) (sent_along steps (null_value ∷ [])) one other)
+
+-- in place of a null list so many nulls are sent
+pub null_list : (n : ℕ) (steps : Steps) → sent_along steps (replicate n null_value) ≡ by_items n steps (null_value ∷ [])
+null_list n steps = ap (sent_along steps) (sym (append-nil (replicate n null_value)))
 
 -- what holds of all that a range sends holds of what a part of it sends
 pub all_of_part : (P : PlainValue → Type 0) (sent : List PlainValue → List PlainValue) (raw : List PlainValue) (start i end stop : ℕ) → Splits sent → start ≤ i → i ≤ end → end ≤ stop

@@ -1,5 +1,5 @@
 -- Slots one after another of which none is null: what they are in the buffers, and what they send.
-use Rattle.std.proofs.Common.{◌≡◌, ◌≤◌, ◌<◌, ℕ, suc, ◌+◌, ◌-◌, ℤ, Bool, true, false, List, [], ◌∷◌, ◌++◌, length, map, take, drop, get_or, refl, sym, ap, ◌∙◌, subst, arith, None, append_assoc, length-append}
+use Rattle.std.proofs.Common.{◌≡◌, ◌≤◌, ◌<◌, ℕ, suc, ◌+◌, ◌-◌, ℤ, true, false, List, [], ◌∷◌, ◌++◌, length, map, take, drop, get_or, refl, sym, ap, ◌∙◌, subst, arith, None, append_assoc, length-append}
 use Rattle.std.specs.Prelude.{cond}
 use Rattle.std.specs.List.{AllByRecursion, flat_map}
 use Rattle.std.proofs.lemmas.Grind.{flat_map-append}
@@ -10,11 +10,12 @@ use Rattle.arrow_types.specs.Field.{Fields}
 use Rattle.arrow_data.specs.declared.form.NumberForm.{NumberForm}
 use Rattle.arrow_data.specs.Column.{Column, HasChild, IsColumn, values_from}
 use Rattle.arrow_data.specs.Fits.{Fits}
-use Rattle.arrow_data.specs.Form.{IsLists, node_form, number_width}
+use Rattle.arrow_data.specs.Form.{HoldsList, IsLists, node_form, number_width}
 use Rattle.arrow_data.specs.FullSlots.{AreFull, value_bytes}
-use Rattle.arrow_data.specs.PlainValue.{PlainValue, null_value, bool_value, int_value, binary_value, utf8_value, list_value, struct_value, is_null_value, items_in, value_at}
+use Rattle.arrow_data.specs.PlainValue.{PlainValue, null_value, bool_value, int_value, binary_value, utf8_value, list_value, struct_value, is_null_value, items_in, list_of_values, value_at}
 use Rattle.arrow_data.specs.declared.form.Form.{Form}
 use Rattle.arrow_data.specs.declared.form.Form.TheVariants as forms
+use Rattle.arrow_data.specs.declared.form.ListForm.TheVariants as lists
 use Rattle.arrow_data.proofs.FullSlots.{StandBetween, joined_range, places_rise}
 use Rattle.arrow_data.proofs.Sameness.{at_values_from, length-values_from}
 use Rattle.arrow_body_laws.proofs.Slotted.{in_slot}
@@ -70,7 +71,7 @@ no_number (forms.Numbers number) c z strings fit = cc
 no_number (forms.Bytes w) c z strings fit = fit
 no_number (forms.Texts w) c z strings fit = fit
 no_number (forms.FixedBytes w) c z strings fit = fit
-no_number (forms.Lists w) c z strings fit = cc
+no_number (forms.Lists list) c z strings fit = cc
 no_number forms.Structs c z strings fit = cc
 
 string_value : (form : Form) (c : Fields) (v : PlainValue) → are_strings form ≡ true → IsFullOf form c v → value_bytes form v ≡ bytes_in_value v
@@ -94,7 +95,7 @@ no_binary (forms.Numbers number) c b others fit = fit
 no_binary (forms.Bytes w) c b others fit = cc
 no_binary (forms.Texts w) c b others fit = fit
 no_binary (forms.FixedBytes w) c b others fit = cc
-no_binary (forms.Lists w) c b others fit = fit
+no_binary (forms.Lists list) c b others fit = fit
 no_binary forms.Structs c b others fit = fit
 
 no_text : (form : Form) (c : Fields) (b : List ℕ) → are_strings form ≡ false → Fits form c (utf8_value b) → ⊥
@@ -104,7 +105,7 @@ no_text (forms.Numbers number) c b others fit = fit
 no_text (forms.Bytes w) c b others fit = fit
 no_text (forms.Texts w) c b others fit = cc
 no_text (forms.FixedBytes w) c b others fit = fit
-no_text (forms.Lists w) c b others fit = fit
+no_text (forms.Lists list) c b others fit = fit
 no_text forms.Structs c b others fit = fit
 
 no_string : (form : Form) (c : Fields) (v : PlainValue) → are_strings form ≡ false → IsFullOf form c v → bytes_in_value v ≡ []
@@ -159,18 +160,29 @@ fixed_value w c (struct_value b) own = absurd (no_structs own.1.0)
 pub fixed_are : (w : ℕ) (c : Fields) (vs : List PlainValue) → AllByRecursion (IsFullOf (forms.FixedBytes w) c) vs → flat_map (value_bytes (forms.FixedBytes w)) vs ≡ flat_map (fixed_in w) vs
 fixed_are w c vs all = same_pieces (IsFullOf (forms.FixedBytes w) c) (value_bytes (forms.FixedBytes w)) (fixed_in w) vs (λ v own. fixed_value w c v own) all
 
+-- a form that holds a list holds lists
+holds_lists : (form : Form) (count : ℕ) → HoldsList form count → IsLists form
+holds_lists forms.Nulls count holds = holds
+holds_lists forms.Bits count holds = holds
+holds_lists (forms.Numbers number) count holds = holds
+holds_lists (forms.Bytes w) count holds = holds
+holds_lists (forms.Texts w) count holds = holds
+holds_lists (forms.FixedBytes w) count holds = holds
+holds_lists (forms.Lists list) count holds = tt
+holds_lists forms.Structs count holds = holds
+
 -- where slots are no lists there are no items
-no_list : (form : Form) (c : Fields) (v : PlainValue) → (IsLists form → ⊥) → IsFullOf form c v → items_in_value v ≡ []
+no_list : (form : Form) (c : Fields) (v : PlainValue) → (IsLists form → ⊥) → IsFullOf form c v → items_in_value 0 v ≡ []
 no_list form c null_value others own = refl
 no_list form c (bool_value b) others own = refl
 no_list form c (int_value z) others own = refl
 no_list form c (binary_value b) others own = refl
 no_list form c (utf8_value b) others own = refl
-no_list form c (list_value b) others own = absurd (others own.1.0)
+no_list form c (list_value b) others own = absurd (others (holds_lists form (length (list_of_values b)) own.1.0))
 no_list form c (struct_value b) others own = refl
 
-pub no_lists : (form : Form) (c : Fields) (vs : List PlainValue) → (IsLists form → ⊥) → AllByRecursion (IsFullOf form c) vs → flat_map items_in_value vs ≡ []
-no_lists form c vs others all = no_pieces (IsFullOf form c) items_in_value vs (λ v own. no_list form c v others own) all
+pub no_lists : (form : Form) (c : Fields) (vs : List PlainValue) → (IsLists form → ⊥) → AllByRecursion (IsFullOf form c) vs → flat_map (items_in_value 0) vs ≡ []
+no_lists form c vs others all = no_pieces (IsFullOf form c) (items_in_value 0) vs (λ v own. no_list form c v others own) all
 
 -- nor where there are no slots
 pub no_slots : {A : Type 0} (f : PlainValue → List A) (raw : List PlainValue) (start stop : ℕ) → start ≡ stop → flat_map f (values_from raw start stop) ≡ []
@@ -182,16 +194,16 @@ pub items_run : (c child : Column) (start stop first last : ℕ) → HasChild c 
 items_run c child start stop first last has some inside full starts stops =
     let place = λ (j : ℕ). get_or c.offsets j 0 in
     let items = λ (j : ℕ) (low : start ≤ j) (high : j < stop). has.same j (omega (arith, high, inside)) (full j low high) in
-    let each : StandBetween items_in_value c.raw child.raw place start stop = λ j low high. ((items j low high).ordered, items_are c j (place j) (place (j + 1)) child (items j low high)) in
+    let each : (n : ℕ) → StandBetween (items_in_value n) c.raw child.raw place start stop = λ n j low high. ((items j low high).ordered, items_are n c j (place j) (place (j + 1)) child (items j low high)) in
     let end : start + (stop - start) ≡ stop = omega (arith, some) in
     let before : stop - 1 + 1 ≡ stop = omega (arith, some) in
-    let rise : place start ≤ place (start + (stop - start)) = places_rise items_in_value c.raw child.raw place start (stop - start) (λ j low high. each j low (omega (arith, high, some))) in
+    let rise : place start ≤ place (start + (stop - start)) = places_rise (items_in_value 0) c.raw child.raw place start (stop - start) (λ j low high. each 0 j low (omega (arith, high, some))) in
     let within : place (stop - 1 + 1) ≤ length child.raw = (items (stop - 1) (omega (arith, some)) (omega (arith, some))).inside in
     record {
       typed = has.typed;
       ordered = omega (arith, rise, ap place end, starts, stops);
       inside = omega (arith, within, ap place before, stops);
-      same = sym (joined_range items_in_value c.raw child.raw place start stop (omega (arith, some)) inside each) ∙ (λ i. values_from child.raw (sym starts i) (sym stops i));
+      same = λ n. sym (joined_range (items_in_value n) c.raw child.raw place start stop (omega (arith, some)) inside (each n)) ∙ (λ i. values_from child.raw (sym starts i) (sym stops i));
     }
 
 -- a list that is none
@@ -218,7 +230,8 @@ offsets_more (forms.Numbers number) vs ws = refl
 offsets_more (forms.Bytes w) vs ws = sum_by-append (λ x. length (bytes_in_value x)) vs ws
 offsets_more (forms.Texts w) vs ws = sum_by-append (λ x. length (bytes_in_value x)) vs ws
 offsets_more (forms.FixedBytes w) vs ws = refl
-offsets_more (forms.Lists w) vs ws = sum_by-append (λ x. length (items_in_value x)) vs ws
+offsets_more (forms.Lists (lists.Offsets w)) vs ws = sum_by-append (λ x. length (items_in_value 0 x)) vs ws
+offsets_more (forms.Lists (lists.Fixed size)) vs ws = refl
 offsets_more forms.Structs vs ws = refl
 
 -- slots are counted of which none is null

@@ -12,10 +12,10 @@ use Rattle.arrow_data.specs.Form.{IsLists, node_form}
 use Rattle.arrow_data.specs.PlainValue.{PlainValue, field_value}
 use Rattle.arrow_data.specs.declared.form.Form.{Form}
 use Rattle.arrow_data.specs.declared.form.Form.TheVariants as forms
-use Rattle.arrow_data.specs.declared.form.OffsetWidth.{OffsetWidth}
+use Rattle.arrow_data.specs.declared.form.ListForm.{ListForm}
 use Rattle.arrow_body_reader.specs.Taken.{IfFlattened, below}
 use Rattle.arrow_body_laws.specs.Laws.{raws_of}
-use Rattle.arrow_body_laws.specs.Raws.{AreRaws, items_in_value, raws_below}
+use Rattle.arrow_body_laws.specs.Raws.{AreRaws, items_in_value, nulls_under, raws_below}
 use Rattle.arrow_body_laws.specs.Stored.{fields_of_columns}
 use Rattle.arrow_body_writer.specs.Sent.{LeadDown, LeadFrom, column_by, columns_by, form_of_column, sent_along, sent_below}
 use Rattle.arrow_body_writer.specs.Whole.{AreSentWhole}
@@ -24,30 +24,30 @@ use Rattle.arrow_body_writer.specs.declared.steps.Steps.{Steps, Here, Items', Fi
 -- what values send, and then what others do
 pub along_more : (steps : Steps) (vs ws : List PlainValue) → sent_along steps (vs ++ ws) ≡ sent_along steps vs ++ sent_along steps ws
 along_more Here vs ws = refl
-along_more (Items' p rest) vs ws = ap (sent_along rest) (flat_map-append items_in_value vs ws) ∙ along_more rest (flat_map items_in_value vs) (flat_map items_in_value ws)
+along_more (Items' n p rest) vs ws = ap (sent_along rest) (flat_map-append (items_in_value n) vs ws) ∙ along_more rest (flat_map (items_in_value n) vs) (flat_map (items_in_value n) ws)
 along_more (Field' k p rest) vs ws = ap (sent_along rest) (map-append (field_value k) vs ws) ∙ along_more rest (map (field_value k) vs) (map (field_value k) ws)
 
 -- no values send nothing
 pub along_none : (steps : Steps) → sent_along steps [] ≡ []
 along_none Here = refl
-along_none (Items' p rest) = along_none rest
+along_none (Items' n p rest) = along_none rest
 along_none (Field' k p rest) = along_none rest
 
 -- how many steps there are
 abbrev pub count_steps : Steps → ℕ
 count_steps Here = 0
-count_steps (Items' p rest) = suc (count_steps rest)
+count_steps (Items' n p rest) = suc (count_steps rest)
 count_steps (Field' k p rest) = suc (count_steps rest)
 
 -- a form that holds lists
-pub lists_of : (form : Form) → IsLists form → (w : OffsetWidth) × (form ≡ forms.Lists w)
+pub lists_of : (form : Form) → IsLists form → (list : ListForm) × (form ≡ forms.Lists list)
 lists_of forms.Nulls h = absurd h
 lists_of forms.Bits h = absurd h
 lists_of (forms.Numbers number) h = absurd h
 lists_of (forms.Bytes w) h = absurd h
 lists_of (forms.Texts w) h = absurd h
 lists_of (forms.FixedBytes w) h = absurd h
-lists_of (forms.Lists w) h = (w, refl)
+lists_of (forms.Lists list) h = (list, refl)
 lists_of forms.Structs h = absurd h
 
 -- a column of indices has no children of its own
@@ -134,16 +134,15 @@ made_at g a (suc w) zero here = let start : a ≡ a + 0 = omega arith in ap (λ 
 made_at g a (suc w) (suc k) here = let next : a + 1 + k ≡ a + suc k = omega arith in made_at g (a + 1) w k (omega (arith, here)) ∙ ap (λ n. Some (g n)) next
 
 -- the column that lists send, and those that structs do
-pub items_sent : (c : Column) (k : ℕ) → IsList c → AreRaws (fields_of_columns (c ∷ [])) (raws_of (c ∷ [])) → k < length (sent_below c)
-    → (0 < width c.data_type.children) × (slice_get (sent_below c) k ≡ Some (column_by (type_of_field c.data_type.children 0) (flat_map items_in_value c.raw)))
-items_sent c k lists are here = of_encoding c.data_type.tag c.encoding c.data_type.children c.raw lists are.1 here
+pub items_sent : (c : Column) (k : ℕ) (list : ListForm) → form_of_column c ≡ forms.Lists list → AreRaws (fields_of_columns (c ∷ [])) (raws_of (c ∷ [])) → k < length (sent_below c)
+    → (0 < width c.data_type.children) × (slice_get (sent_below c) k ≡ Some (column_by (type_of_field c.data_type.children 0) (flat_map (items_in_value (nulls_under list)) c.raw)))
+items_sent c k list lists are here = of_encoding c.data_type.tag c.encoding c.data_type.children c.raw lists are.1 here
   where
-    of_form : (form : Form) (children : Fields) (vs : List PlainValue) → IsLists form → AreRaws children (raws_below form children vs) → k < length (columns_by children (raws_below form children vs))
-        → (0 < width children) × (slice_get (columns_by children (raws_below form children vs)) k ≡ Some (column_by (type_of_field children 0) (flat_map items_in_value vs)))
-    of_form form children vs lists are here =
-        let is = lists_of form lists in
-        subst (λ f. (0 < width children) × (slice_get (columns_by children (raws_below f children vs)) k ≡ Some (column_by (type_of_field children 0) (flat_map items_in_value vs)))) (sym is.1)
-        (only children (flat_map items_in_value vs) (subst (λ f. AreRaws children (raws_below f children vs)) is.1 are) (subst (λ f. k < length (columns_by children (raws_below f children vs))) is.1 here))
+    of_form : (form : Form) (children : Fields) (vs : List PlainValue) → form ≡ forms.Lists list → AreRaws children (raws_below form children vs) → k < length (columns_by children (raws_below form children vs))
+        → (0 < width children) × (slice_get (columns_by children (raws_below form children vs)) k ≡ Some (column_by (type_of_field children 0) (flat_map (items_in_value (nulls_under list)) vs)))
+    of_form form children vs is are here =
+        subst (λ f. (0 < width children) × (slice_get (columns_by children (raws_below f children vs)) k ≡ Some (column_by (type_of_field children 0) (flat_map (items_in_value (nulls_under list)) vs)))) (sym is)
+        (only children (flat_map (items_in_value (nulls_under list)) vs) (subst (λ f. AreRaws children (raws_below f children vs)) is are) (subst (λ f. k < length (columns_by children (raws_below f children vs))) is here))
       where
         only : (children : Fields) (items : List PlainValue) → AreRaws children (items ∷ []) → k < length (columns_by children (items ∷ []))
             → (0 < width children) × (slice_get (columns_by children (items ∷ [])) k ≡ Some (column_by (type_of_field children 0) items))
@@ -151,11 +150,11 @@ items_sent c k lists are here = of_encoding c.data_type.tag c.encoding c.data_ty
         only (more h c none) items are here = let first : 0 ≡ k = omega (arith, here) in (omega arith, subst (λ n. slice_get (columns_by (more h c none) (items ∷ [])) n ≡ Some (column_by (type_of_field (more h c none) 0) items)) first refl)
         only (more h c (more h' c' rest)) items are here = absurd are.2
 
-    of_encoding : (tag : Tag) (e : Option Encoding) (children : Fields) (vs : List PlainValue) → IsLists (node_form tag e) → IfFlattened e (AreRaws children (raws_below (node_form tag e) children vs))
+    of_encoding : (tag : Tag) (e : Option Encoding) (children : Fields) (vs : List PlainValue) → node_form tag e ≡ forms.Lists list → IfFlattened e (AreRaws children (raws_below (node_form tag e) children vs))
         → k < length (columns_by (below e children) (raws_below (node_form tag e) children vs))
-        → (0 < width children) × (slice_get (columns_by (below e children) (raws_below (node_form tag e) children vs)) k ≡ Some (column_by (type_of_field children 0) (flat_map items_in_value vs)))
+        → (0 < width children) × (slice_get (columns_by (below e children) (raws_below (node_form tag e) children vs)) k ≡ Some (column_by (type_of_field children 0) (flat_map (items_in_value (nulls_under list)) vs)))
     of_encoding tag None children vs lists are here = of_form (node_form tag None) children vs lists are here
-    of_encoding tag (Some e) children vs lists are here = absurd lists
+    of_encoding tag (Some e) children vs lists are here = cc
 
 pub field_sent : (c : Column) (k : ℕ) → IsStruct c → AreRaws (fields_of_columns (c ∷ [])) (raws_of (c ∷ [])) → k < length (sent_below c)
     → (k < width c.data_type.children) × (slice_get (sent_below c) k ≡ Some (column_by (type_of_field c.data_type.children k) (map (field_value k) c.raw)))
@@ -194,7 +193,7 @@ sends_structs c k no_lists here = of_form (form_of_column c) (below c.encoding c
     of_form (forms.Bytes w) fields children vs never here = absurd (omega (arith, here, without fields))
     of_form (forms.Texts w) fields children vs never here = absurd (omega (arith, here, without fields))
     of_form (forms.FixedBytes w) fields children vs never here = absurd (omega (arith, here, without fields))
-    of_form (forms.Lists w) fields children vs never here = absurd (never tt)
+    of_form (forms.Lists list) fields children vs never here = absurd (never tt)
     of_form forms.Structs fields children vs never here = refl
 
 -- how many columns are sent

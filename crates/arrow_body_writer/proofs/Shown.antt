@@ -58,15 +58,15 @@ of_neither (list_value b) e f = refl
 of_neither (struct_value b) e f = refl
 
 -- the items of a slot are the child's slots from the first up to the end
-pub items_are : (c : Column) (i start end : ℕ) (child : Column) → HasItems c i start end child → items_in_value (value_at c.raw i) ≡ values_from child.raw start end
-items_are c i start end child h = ap items_in_value h.same ∙ list_again (values_from child.raw start end)
+pub items_are : (n : ℕ) (c : Column) (i start end : ℕ) (child : Column) → HasItems c i start end child → items_in_value n (value_at c.raw i) ≡ values_from child.raw start end
+items_are n c i start end child h = ap (items_in_value n) h.same ∙ list_again (values_from child.raw start end)
 
 -- they are as many as there are slots
-pub span_is : (c : Column) (i start end : ℕ) (child : Column) → HasItems c i start end child → length (items_in_value (value_at c.raw i)) ≡ end - start
-span_is c i start end child h = ap length (items_are c i start end child h) ∙ length-values_from child.raw start end h.inside
+pub span_is : (c : Column) (i start end : ℕ) (child : Column) → HasItems c i start end child → length (items_in_value 0 (value_at c.raw i)) ≡ end - start
+span_is c i start end child h = ap length (items_are 0 c i start end child h) ∙ length-values_from child.raw start end h.inside
 
 -- what is no list has no items
-pub no_items : (v : PlainValue) → items_in v ≡ None → items_in_value v ≡ []
+pub no_items : (v : PlainValue) → items_in v ≡ None → items_in_value 0 v ≡ []
 no_items null_value e = refl
 no_items (bool_value b) e = refl
 no_items (int_value z) e = refl

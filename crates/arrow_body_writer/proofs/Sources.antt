@@ -65,5 +65,5 @@ run_sent steps d i a place end h all =
 abbrev pub count_above : Source → ℕ
 count_above (Slots array) = 0
 count_above (Rest dictionary from) = 0
-count_above (Items' p lists) = suc (count_above lists)
+count_above (Items' n p lists) = suc (count_above lists)
 count_above (Field' p structs k) = suc (count_above structs)

@@ -233,7 +233,7 @@ offsets_written Validity old new s values are added before vs = absurd are
 offsets_written Truths old new s values are added before vs = absurd are
 offsets_written (Numbers number) old new s values are added before vs = absurd are
 offsets_written (StringOffsets width) old new s values are added before vs = these_added s width (λ v. length (bytes_in_value v)) old new values are added before vs
-offsets_written (ListOffsets width) old new s values are added before vs = these_added s width (λ v. length (items_in_value v)) old new values are added before vs
+offsets_written (ListOffsets width) old new s values are added before vs = these_added s width (λ v. length (items_in_value 0 v)) old new values are added before vs
 offsets_written Strings old new s values are added before vs = absurd are
 offsets_written (FixedBytes width) old new s values are added before vs = absurd are
 

@@ -16,7 +16,7 @@ use Rattle.arrow_data.specs.declared.form.Form.TheVariants as forms
 use Rattle.arrow_data.proofs.Sameness.{parts_smaller}
 use Rattle.arrow_body_reader.specs.Taken.{IfFlattened, below, flattened, taken_nodes}
 use Rattle.arrow_body_laws.specs.Laws.{raws_of}
-use Rattle.arrow_body_laws.specs.Raws.{AreRaws, AreSmall, IsOwn, IsSmall, items_in_value, raws_below}
+use Rattle.arrow_body_laws.specs.Raws.{AreRaws, AreSmall, IsOwn, IsSmall, items_in_value, nulls_under, raws_below}
 use Rattle.arrow_body_laws.specs.Size.{own_sizes}
 use Rattle.arrow_body_laws.specs.Stored.{fields_of_columns, own_chunks, own_node, rounded, stored_chunks, stored_nodes}
 use Rattle.arrow_body_writer.proofs.Chunks.{stores_more}
@@ -25,7 +25,7 @@ use Rattle.arrow_body_writer.proofs.Passing.{as_many}
 use Rattle.arrow_body_writer.proofs.Ranges.{all_from}
 use Rattle.arrow_body_writer.proofs.RunPasses.{fields_are}
 use Rattle.arrow_body_writer.proofs.Sending.{lists_of, plain_list, plain_struct}
-use Rattle.arrow_body_writer.specs.Runs.{HasRun}
+use Rattle.arrow_body_writer.specs.Runs.{HasNoRun, HasRun}
 use Rattle.arrow_body_writer.specs.Sent.{nodes_of_column}
 use Rattle.arrow_body_writer.specs.Storable.{AreTold, columns_size}
 use Rattle.arrow_body_writer.specs.Storing.{Stores}
@@ -69,27 +69,27 @@ fields_whole c children slots fields full all long =
     }
 
 -- lists send the child whole where their items are all its slots
-items_whole : (c child : Column) → IsList c → AreOf c.data_type.children (child ∷ []) → flat_map items_in_value (values_from c.raw 0 (length c.raw)) ≡ child.raw → AreSentWhole c (child ∷ [])
+items_whole : (c child : Column) → IsList c → AreOf c.data_type.children (child ∷ []) → ((n : ℕ) → flat_map (items_in_value n) (values_from c.raw 0 (length c.raw)) ≡ child.raw) → AreSentWhole c (child ∷ [])
 items_whole c child lists typed items =
     let form = lists_of (node_form c.data_type.tag c.encoding) lists in
     record {
       typed = typed_below c (child ∷ []) (plain_list c.data_type.tag c.encoding lists) typed;
       same = ap (λ f. raws_below f c.data_type.children c.raw) form.1
-          ∙ ap (λ vs. vs ∷ []) (ap (flat_map items_in_value) (sym (all_from c.raw (length c.raw) refl)) ∙ items);
+          ∙ ap (λ vs. vs ∷ []) (ap (flat_map (items_in_value (nulls_under form.0))) (sym (all_from c.raw (length c.raw) refl)) ∙ items (nulls_under form.0));
     }
 
 pub run_whole : (c child : Column) (slots first last : ℕ) → IsList c → HasRun c 0 slots first last child → slots ≡ length c.raw → first ≡ 0 → last ≡ length child.raw → AreSentWhole c (child ∷ [])
 run_whole c child slots first last lists run all begins ends =
-    items_whole c child lists run.typed (ap (λ n. flat_map items_in_value (values_from c.raw 0 n)) (sym all) ∙ run.same ∙ ap (λ n. values_from child.raw n last) begins ∙ all_from child.raw last ends)
+    items_whole c child lists run.typed (λ nulls. ap (λ n. flat_map (items_in_value nulls) (values_from c.raw 0 n)) (sym all) ∙ run.same nulls ∙ ap (λ n. values_from child.raw n last) begins ∙ all_from child.raw last ends)
 
 -- also where there are none
 no_vs : (vs : List PlainValue) → length vs ≡ 0 → [] ≡ vs
 no_vs [] empty = refl
 no_vs (v ∷ vs) empty = absurd (omega (arith, empty))
 
-pub none_whole : (c child : Column) (slots : ℕ) → HasChild c child → flat_map items_in_value (values_from c.raw 0 slots) ≡ [] → slots ≡ length c.raw → length child.raw ≡ 0 → AreSentWhole c (child ∷ [])
+pub none_whole : (c child : Column) (slots : ℕ) → HasChild c child → HasNoRun c 0 slots → slots ≡ length c.raw → length child.raw ≡ 0 → AreSentWhole c (child ∷ [])
 none_whole c child slots has items all empty =
-    items_whole c child has.is_list has.typed (ap (λ n. flat_map items_in_value (values_from c.raw 0 n)) (sym all) ∙ items ∙ no_vs child.raw empty)
+    items_whole c child has.is_list has.typed (λ nulls. ap (λ n. flat_map (items_in_value nulls) (values_from c.raw 0 n)) (sym all) ∙ items.none_of_lists has.is_list nulls ∙ no_vs child.raw empty)
 
 -- below a leaf there is no field, and nothing is sent
 leaf_fields : (form : Form) (fields : Fields) → IsLeaf form → HasFieldsOf form fields → fields ≡ none
@@ -99,7 +99,7 @@ leaf_fields (forms.Numbers number) fields leaf has = has
 leaf_fields (forms.Bytes w) fields leaf has = has
 leaf_fields (forms.Texts w) fields leaf has = has
 leaf_fields (forms.FixedBytes w) fields leaf has = has
-leaf_fields (forms.Lists w) fields leaf has = absurd leaf
+leaf_fields (forms.Lists list) fields leaf has = absurd leaf
 leaf_fields forms.Structs fields leaf has = absurd leaf
 
 leaf_raws : (form : Form) (fields : Fields) (vs : List PlainValue) → IsLeaf form → raws_below form fields vs ≡ []
@@ -109,7 +109,7 @@ leaf_raws (forms.Numbers number) fields vs leaf = refl
 leaf_raws (forms.Bytes w) fields vs leaf = refl
 leaf_raws (forms.Texts w) fields vs leaf = refl
 leaf_raws (forms.FixedBytes w) fields vs leaf = refl
-leaf_raws (forms.Lists w) fields vs leaf = absurd leaf
+leaf_raws (forms.Lists list) fields vs leaf = absurd leaf
 leaf_raws forms.Structs fields vs leaf = absurd leaf
 
 -- a column of a leaf's type without an encoding sends no child

@@ -54,6 +54,6 @@ validity_of (buffers.Numbers of) = Some of.validity.now
 validity_of (buffers.Binaries of) = Some of.validity.now
 validity_of (buffers.Texts of) = Some of.validity.now
 validity_of (buffers.FixedBytes width validity values) = Some validity.now
-validity_of (buffers.Lists width validity offsets child) = Some validity.now
+validity_of (buffers.Lists list validity offsets child) = Some validity.now
 validity_of (buffers.Structs validity children) = Some validity.now
 validity_of (buffers.Indices of dictionary) = Some of.validity.now

@@ -6,6 +6,8 @@ use Rattle.arrow_data.specs.Form.{greatest_offset, number_width, offset_bytes}
 use Rattle.arrow_data.specs.PlainValue.{PlainValue, is_null_value}
 use Rattle.arrow_data.specs.declared.form.Form.{Form}
 use Rattle.arrow_data.specs.declared.form.Form.TheVariants as forms
+use Rattle.arrow_data.specs.declared.form.ListForm.{ListForm}
+use Rattle.arrow_data.specs.declared.form.ListForm.TheVariants as lists
 use Rattle.arrow_data.specs.declared.form.OffsetWidth.{OffsetWidth}
 use Rattle.arrow_body_laws.specs.Packed.{offsets_bytes, packed}
 use Rattle.arrow_body_laws.specs.Raws.{bytes_in_value, fixed_in, items_in_value, number_in, truth_in}
@@ -14,6 +16,12 @@ use Rattle.arrow_body_writer.specs.Packing.{IsPacking}
 use Rattle.arrow_body_writer.specs.declared.part.Part.{Part}
 use Rattle.arrow_body_writer.specs.declared.part.Part.TheVariants.{Validity, Truths, Numbers, StringOffsets, ListOffsets, Strings, FixedBytes}
 use Rattle.arrow_body_writer.specs.declared.writing.Writing.{Writing}
+
+-- buffer k of a node of lists after that of validity: the offsets where these are stored
+abbrev pub list_part : ListForm → ℕ → Option Part
+list_part (lists.Offsets width) zero = Some (ListOffsets width)
+list_part (lists.Offsets width) (suc k) = None
+list_part (lists.Fixed size) k = None
 
 -- buffer k of a node of the form
 abbrev pub part_of : Form → ℕ → Option Part
@@ -35,9 +43,8 @@ part_of (forms.Texts width) (suc (suc (suc k))) = None
 part_of (forms.FixedBytes width) zero = Some Validity
 part_of (forms.FixedBytes width) (suc zero) = Some (FixedBytes width)
 part_of (forms.FixedBytes width) (suc (suc k)) = None
-part_of (forms.Lists width) zero = Some Validity
-part_of (forms.Lists width) (suc zero) = Some (ListOffsets width)
-part_of (forms.Lists width) (suc (suc k)) = None
+part_of (forms.Lists list) zero = Some Validity
+part_of (forms.Lists list) (suc k) = list_part list k
 part_of forms.Structs zero = Some Validity
 part_of forms.Structs (suc k) = None
 
@@ -47,7 +54,7 @@ part_bytes Validity vs = packed (map (λ v. not (is_null_value v)) vs)
 part_bytes Truths vs = packed (map truth_in vs)
 part_bytes (Numbers number) vs = number_buffer (number_width number) vs
 part_bytes (StringOffsets width) vs = offsets_bytes width (map (λ v. length (bytes_in_value v)) vs)
-part_bytes (ListOffsets width) vs = offsets_bytes width (map (λ v. length (items_in_value v)) vs)
+part_bytes (ListOffsets width) vs = offsets_bytes width (map (λ v. length (items_in_value 0 v)) vs)
 part_bytes Strings vs = flat_map bytes_in_value vs
 part_bytes (FixedBytes width) vs = flat_map (fixed_in width) vs
 
@@ -67,7 +74,7 @@ IsTold Validity vs = ⊤
 IsTold Truths vs = ⊤
 IsTold (Numbers number) vs = ⊤
 IsTold (StringOffsets width) vs = sum_by (λ v. length (bytes_in_value v)) vs ≤ greatest_offset width
-IsTold (ListOffsets width) vs = sum_by (λ v. length (items_in_value v)) vs ≤ greatest_offset width
+IsTold (ListOffsets width) vs = sum_by (λ v. length (items_in_value 0 v)) vs ≤ greatest_offset width
 IsTold Strings vs = ⊤
 IsTold (FixedBytes width) vs = ⊤
 
@@ -100,7 +107,7 @@ IsWritten Validity before vs w = IsPacking before (map (λ v. not (is_null_value
 IsWritten Truths before vs w = IsPacking before (map truth_in vs) w.pending.byte w.pending.weight w.out.items
 IsWritten (Numbers number) before vs w = w.out.items ≡ before ++ number_buffer (number_width number) vs
 IsWritten (StringOffsets width) before vs w = AreOffsetsTo width (λ v. length (bytes_in_value v)) before vs w
-IsWritten (ListOffsets width) before vs w = AreOffsetsTo width (λ v. length (items_in_value v)) before vs w
+IsWritten (ListOffsets width) before vs w = AreOffsetsTo width (λ v. length (items_in_value 0 v)) before vs w
 IsWritten Strings before vs w = w.out.items ≡ before ++ flat_map bytes_in_value vs
 IsWritten (FixedBytes width) before vs w = w.out.items ≡ before ++ flat_map (fixed_in width) vs
 

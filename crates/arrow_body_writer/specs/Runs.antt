@@ -1,7 +1,7 @@
 -- Slots one after another of which none is null.
 use Rattle.std.specs.Prelude.{◌≡◌, ◌≤◌, ℕ, Bool, true, false, List, [], ◌∷◌, length, ⊤}
 use Rattle.std.specs.List.{flat_map}
-use Rattle.arrow_data.specs.Column.{AreOf, Column, values_from}
+use Rattle.arrow_data.specs.Column.{AreOf, Column, IsList, values_from}
 use Rattle.arrow_data.specs.Form.{number_width}
 use Rattle.arrow_data.specs.PlainValue.{PlainValue}
 use Rattle.arrow_data.specs.declared.form.OffsetWidth.{OffsetWidth}
@@ -25,20 +25,29 @@ are_strings (forms.Numbers number) = false
 are_strings (forms.Bytes width) = true
 are_strings (forms.Texts width) = true
 are_strings (forms.FixedBytes width) = true
-are_strings (forms.Lists width) = false
+are_strings (forms.Lists list) = false
 are_strings forms.Structs = false
 
--- the items of all lists of a range are the child's values from `first` up to `last` (Columnar Format, "Variable-size List
--- Layout")
+-- The items of all lists of a range are the child's values from `first` up to `last`; no list is null, so that it does not
+-- matter how many nulls a null would send (Columnar Format, "Variable-size List Layout", "Fixed-Size List Layout").
 pub record HasRun (c : Column) (start stop first last : ℕ) (child : Column) : Type 0 where
   pub typed : AreOf c.data_type.children (child ∷ [])
   pub ordered : first ≤ last
   pub inside : last ≤ length child.raw
-  pub same : flat_map items_in_value (values_from c.raw start stop) ≡ values_from child.raw first last
+  pub same : (n : ℕ) → flat_map (items_in_value n) (values_from c.raw start stop) ≡ values_from child.raw first last
 
 -- they are the items of all lists of a slice
 abbrev pub HasItems : Slice → Slice → Type 0
 HasItems lists items = HasRun lists.array.now lists.start lists.stop items.start items.stop items.array.now
+
+-- there are no items in a range: nor in one of lists, whatever a null would send
+pub record HasNoRun (c : Column) (start stop : ℕ) : Type 0 where
+  pub none : flat_map (items_in_value 0) (values_from c.raw start stop) ≡ []
+  pub none_of_lists : IsList c → (n : ℕ) → flat_map (items_in_value n) (values_from c.raw start stop) ≡ []
+
+-- there are none in a slice
+abbrev pub HasNoItems : Slice → Type 0
+HasNoItems lists = HasNoRun lists.array.now lists.start lists.stop
 
 -- bytes are what slots with these values are in the buffer, which has bytes for each slot
 abbrev pub AreBytesOf : Part → List PlainValue → List ℕ → Type 0
@@ -63,7 +72,7 @@ AreSpansIn Validity vs s = ⊥
 AreSpansIn Truths vs s = ⊥
 AreSpansIn (Numbers number) vs s = ⊥
 AreSpansIn (StringOffsets width) vs s = AreOffsetsOf s width (λ v. length (bytes_in_value v)) vs
-AreSpansIn (ListOffsets width) vs s = AreOffsetsOf s width (λ v. length (items_in_value v)) vs
+AreSpansIn (ListOffsets width) vs s = AreOffsetsOf s width (λ v. length (items_in_value 0 v)) vs
 AreSpansIn Strings vs s = ⊥
 AreSpansIn (FixedBytes width) vs s = ⊥
 

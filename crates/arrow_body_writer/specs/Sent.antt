@@ -24,17 +24,18 @@ nodes_of_column c = nodes_of_type c.data_type c.encoding
 abbrev pub form_of_column : Column → Form
 form_of_column c = node_form c.data_type.tag c.encoding
 
--- What slots with these values send along steps: of lists the items of one slot after those of the one before; of structs
--- value k of each slot, null under a null (Columnar Format, "Variable-size List Layout", "Struct Layout").
+-- What slots with these values send along steps: of lists the items of one slot after those of the one before, so many nulls
+-- under a null; of structs value k of each slot, null under a null (Columnar Format, "Variable-size List Layout", "Fixed-Size
+-- List Layout", "Struct Layout").
 abbrev pub sent_along : Steps → List PlainValue → List PlainValue
 sent_along Here vs = vs
-sent_along (Items' p rest) vs = sent_along rest (flat_map items_in_value vs)
+sent_along (Items' n p rest) vs = sent_along rest (flat_map (items_in_value n) vs)
 sent_along (Field' k p rest) vs = sent_along rest (map (field_value k) vs)
 
 -- the steps lead down from a node of this type and this encoding
 abbrev pub LeadDown : Steps → TypeShape → Option Encoding → Type 0
 LeadDown Here t e = ⊤
-LeadDown (Items' p rest) t e = IsLists (node_form t.tag e) × MatchOption (type_of_field t.children 0) ⊥ (λ f. LeadDown rest f.0 f.1)
+LeadDown (Items' n p rest) t e = IsLists (node_form t.tag e) × MatchOption (type_of_field t.children 0) ⊥ (λ f. LeadDown rest f.0 f.1)
 LeadDown (Field' k p rest) t e = (node_form t.tag e ≡ forms.Structs) × MatchOption (type_of_field t.children k) ⊥ (λ f. LeadDown rest f.0 f.1)
 
 -- the same from a field that is there

@@ -13,17 +13,17 @@ use Rattle.arrow_body_writer.specs.declared.source.Source.{Source, Slots, Rest, 
 abbrev pub rest_of : ValueList → ℕ → Column
 rest_of d from = plain_column d.data_type (drop from d.values)
 
--- the column of a source: of lists their items, of structs one of their fields (Columnar Format, "Variable-size List
--- Layout", "Struct Layout")
+-- the column of a source: of lists their items, with so many nulls under a null, of structs one of their fields (Columnar
+-- Format, "Variable-size List Layout", "Fixed-Size List Layout", "Struct Layout")
 abbrev pub column_in : Source → Column
 column_in (Slots array) = array.now
 column_in (Rest dictionary from) = rest_of dictionary.now from
-column_in (Items' p lists) = column_by (type_of_field (column_in lists).data_type.children 0) (flat_map items_in_value (column_in lists).raw)
+column_in (Items' n p lists) = column_by (type_of_field (column_in lists).data_type.children 0) (flat_map (items_in_value n) (column_in lists).raw)
 column_in (Field' p structs k) = column_by (type_of_field (column_in structs).data_type.children k) (map (field_value k) (column_in structs).raw)
 
 -- above items there are lists, above a field structs that have it
 abbrev pub IsSource : Source → Type 0
 IsSource (Slots array) = ⊤
 IsSource (Rest dictionary from) = ⊤
-IsSource (Items' p lists) = IsSource lists × IsList (column_in lists) × (0 < width (column_in lists).data_type.children)
+IsSource (Items' n p lists) = IsSource lists × IsList (column_in lists) × (0 < width (column_in lists).data_type.children)
 IsSource (Field' p structs k) = IsSource structs × IsStruct (column_in structs) × (k < width (column_in structs).data_type.children)

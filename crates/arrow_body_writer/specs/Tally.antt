@@ -6,6 +6,7 @@ use Rattle.arrow_data.specs.PlainValue.{PlainValue, null_value}
 use Rattle.arrow_data.specs.declared.form.Form.{Form}
 use Rattle.arrow_data.specs.declared.form.Form.TheVariants as forms
 use Rattle.arrow_body_laws.specs.Raws.{last_offset}
+use Rattle.arrow_body_laws.specs.Size.{list_sizes}
 use Rattle.arrow_body_laws.specs.Stored.{nulls_in}
 use Rattle.arrow_body_writer.specs.declared.tally.Tally.{Tally}
 
@@ -35,5 +36,5 @@ sizes_told (forms.Numbers number) slots nulls end = (if nat_eq nulls 0 then 0 el
 sizes_told (forms.Bytes w) slots nulls end = (if nat_eq nulls 0 then 0 else div_ceil slots 8) ∷ offset_bytes w * (slots + 1) ∷ end ∷ []
 sizes_told (forms.Texts w) slots nulls end = (if nat_eq nulls 0 then 0 else div_ceil slots 8) ∷ offset_bytes w * (slots + 1) ∷ end ∷ []
 sizes_told (forms.FixedBytes width) slots nulls end = (if nat_eq nulls 0 then 0 else div_ceil slots 8) ∷ width * slots ∷ []
-sizes_told (forms.Lists w) slots nulls end = (if nat_eq nulls 0 then 0 else div_ceil slots 8) ∷ offset_bytes w * (slots + 1) ∷ []
+sizes_told (forms.Lists list) slots nulls end = (if nat_eq nulls 0 then 0 else div_ceil slots 8) ∷ list_sizes list slots
 sizes_told forms.Structs slots nulls end = (if nat_eq nulls 0 then 0 else div_ceil slots 8) ∷ []

@@ -7,7 +7,7 @@ use Rattle.arrow_body_laws.specs.Laws.{raws_of}
 use Rattle.arrow_body_laws.specs.Raws.{raws_below}
 
 -- The columns below the column's own node are sent just the raw values of the children (Columnar Format, "Variable-size List
--- Layout", "Struct Layout").
+-- Layout", "Fixed-Size List Layout", "Struct Layout").
 pub record AreSentWhole (c : Column) (children : List Column) : Type 0 where
   pub typed : AreOf (below c.encoding c.data_type.children) children
   pub same : raws_below (node_form c.data_type.tag c.encoding) c.data_type.children c.raw ≡ raws_of children

@@ -11,7 +11,7 @@ ghost use Rattle.arrow_body_writer.specs.Slice.{IsSlice, values_in};
 
 use crate::slice::Slice;
 use crate::spans::Spans;
-use arrow_data::form::OffsetWidth;
+use arrow_data::form::{ListForm, OffsetWidth};
 use arrow_data::{Array, Buffers};
 
 // The offsets of an array, and a bit for each slot, 0 of a null one: none where no slot is null.
@@ -72,14 +72,15 @@ fn strings_of(array: &Array) -> Option<(Offsets<'_>, &[u8])>
     }
 }
 
-// The offsets of the array's lists. None where slots hold something else.
+// The offsets of the array's lists. None where slots hold something else, and where no offsets are
+// stored (Columnar Format, "Fixed-Size List Layout").
 fn lists_of(array: &Array) -> Option<Offsets<'_>>
     ensures { IfSome result (λ offsets. (all : List PlainValue)
-        × AreHeld offsets all items_in_value array.now.raw) }
+        × AreHeld offsets all (items_in_value 0) array.now.raw) }
 {
     match array.buffers() {
         Buffers::Lists {
-            width,
+            form: ListForm::Offsets(width),
             validity,
             offsets,
             ..
@@ -114,7 +115,7 @@ pub(crate) fn strings_between(slice: Slice<'_>) -> Option<(Spans<'_>, &[u8])>
 // The same of the lists of a slice.
 pub(crate) fn lists_between(slice: Slice<'_>) -> Option<Spans<'_>>
     requires { IsSlice slice }
-    ensures { IfSome result (HasSpans slice.entry (λ v. length (items_in_value v))) }
+    ensures { IfSome result (HasSpans slice.entry (λ v. length (items_in_value 0 v))) }
 {
     let Slice { array, start, stop } = slice;
     let offsets = lists_of(array)?;

@@ -3,7 +3,7 @@
 ghost use Rattle.std.specs.Prelude.{◌≡◌, None, MatchOption};
 ghost use Rattle.arrow_body_writer.specs.Part.{part_of};
 
-use arrow_data::form::{Form, NumberForm, OffsetWidth};
+use arrow_data::form::{Form, ListForm, NumberForm, OffsetWidth};
 
 // One buffer of a node, by what it holds (Columnar Format, "Buffer Listing for Each Layout").
 #[derive(Clone, Copy)]
@@ -36,7 +36,7 @@ pub(crate) fn part_of(form: Form, k: usize) -> Option<Part>
         (Form::Bytes(width) | Form::Texts(width), 1) => Some(Part::StringOffsets(width)),
         (Form::Bytes(_) | Form::Texts(_), 2) => Some(Part::Strings),
         (Form::FixedBytes(width), 1) => Some(Part::FixedBytes(width)),
-        (Form::Lists(width), 1) => Some(Part::ListOffsets(width)),
+        (Form::Lists(ListForm::Offsets(width)), 1) => Some(Part::ListOffsets(width)),
         (
             Form::Bits
             | Form::Numbers(_)

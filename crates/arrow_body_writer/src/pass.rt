@@ -1,6 +1,7 @@
 //! A pass over the slots that a node is sent, of its own array or of one above it.
 
 ghost use Rattle.std.specs.Prelude.{◌≡◌, ℕ, List, [], ◌∷◌, IfOk, IsFalse, IsTrue, OnErr, OnOk, None, Some, map};
+ghost use Rattle.std.specs.Prelude.{replicate};
 ghost use Rattle.std.specs.List.{AllByRecursion, flat_map};
 ghost use Rattle.arrow_data.specs.Column.{IsList, IsStruct, type_of_field};
 ghost use Rattle.arrow_data.specs.PlainValue.{PlainValue, field_value, null_value};
@@ -73,8 +74,8 @@ impl Pass {
         }
     }
 
-    // Takes what a null sends along the steps: a null below structs alone, nothing below lists
-    // (Columnar Format, "Struct Layout").
+    // Takes what a null sends along the steps: a null below structs, so many below lists (Columnar
+    // Format, "Struct Layout", "Fixed-Size List Layout").
     #[cycle(take_null_along)]
     fn take_null_along(&mut self, steps: &Steps<'_>) -> Result<(), AllocError>
         ensures ok { OnOk result
@@ -83,9 +84,22 @@ impl Pass {
     {
         match steps {
             Steps::Here => self.take_null(),
-            Steps::Items(_) => Ok(()),
+            Steps::Items(nulls, rest) => self.take_nulls_along(*nulls, rest),
             Steps::Field(_, rest) => self.take_null_along(rest),
         }
+    }
+
+    // Takes what so many nulls send along the steps.
+    #[cycle(take_null_along)]
+    fn take_nulls_along(&mut self, nulls: u32, rest: &Steps<'_>) -> Result<(), AllocError>
+        ensures ok { OnOk result
+            (Takes self.old self.new (sent_along rest.now (replicate nulls null_value))) }
+        ensures err { OnErr result (part_in self.old ≡ None → ⊥) }
+    {
+        for _ in 0..nulls {
+            self.take_null_along(rest)?;
+        }
+        Ok(())
     }
 
     // Takes what field k of structs sends to its own node, where its child has no null of its own: by
@@ -132,7 +146,7 @@ impl Pass {
     {
         match steps {
             Steps::Here => self.take_slots(slice),
-            Steps::Items(rest) => self.take_items(slice, rest),
+            Steps::Items(nulls, rest) => self.take_items(slice, *nulls, rest),
             Steps::Field(k, rest) => {
                 if self.take_masked(slice, *k, rest)? {
                     return Ok(());
@@ -143,16 +157,22 @@ impl Pass {
     }
 
     // Takes what the items of lists send along the steps: those of one list after those of the one
-    // before (Columnar Format, "Variable-size List Layout"). Lists between two nulls are taken at once.
+    // before, and so many nulls under a null list (Columnar Format, "Variable-size List Layout",
+    // "Fixed-Size List Layout"). Lists between two nulls are taken at once.
     #[cycle(sent)]
-    fn take_items(&mut self, lists: Slice<'_>, steps: &Steps<'_>) -> Result<(), AllocError>
+    fn take_items(
+        &mut self,
+        lists: Slice<'_>,
+        nulls: u32,
+        steps: &Steps<'_>,
+    ) -> Result<(), AllocError>
         requires lists { IsList lists.array.now }
         requires slots { IsSlice lists }
         requires down { LeadFrom (type_of_field lists.array.now.data_type.children 0) steps.now }
         requires room { AllByRecursion (HasPlace (part_in self.old))
-            (sent_along steps.now (flat_map items_in_value (values_in lists))) }
+            (sent_along steps.now (flat_map (items_in_value nulls) (values_in lists))) }
         ensures ok { OnOk result (Takes self.old self.new
-            (sent_along steps.now (flat_map items_in_value (values_in lists.entry)))) }
+            (sent_along steps.now (flat_map (items_in_value nulls) (values_in lists.entry)))) }
         ensures err { OnErr result (part_in self.old ≡ None → ⊥) }
     {
         let Slice { array, start, stop } = lists;
@@ -167,7 +187,11 @@ impl Pass {
             if let Some(items) = items(full) {
                 self.take_along(items, steps)?;
             }
-            i = end.saturating_add(1).min(stop);
+            i = end;
+            if i < stop {
+                self.take_nulls_along(nulls, steps)?;
+                i += 1;
+            }
         }
         Ok(())
     }

@@ -11,7 +11,7 @@ ghost use Rattle.arrow_body_writer.specs.Tally.{IsTally, sizes_told};
 
 use crate::align::Align;
 use crate::tally::Tally;
-use arrow_data::form::Form;
+use arrow_data::form::{Form, ListForm};
 
 // The most slots that a node can have (`Schema.fbs`, where lengths go; `Message.fbs`, struct
 // `FieldNode`).
@@ -22,7 +22,9 @@ fn offset_limit(form: Form) -> u64
     ensures { result ≡ offset_limit form }
 {
     match form {
-        Form::Bytes(width) | Form::Texts(width) | Form::Lists(width) => width.greatest(),
+        Form::Bytes(width) | Form::Texts(width) | Form::Lists(ListForm::Offsets(width)) => {
+            width.greatest()
+        }
         _ => 0,
     }
 }
@@ -67,9 +69,9 @@ pub(crate) fn node_size(align: Align, form: Form, tally: Tally) -> u64
             validity + offsets + align.round_up(tally.end)
         }
         Form::FixedBytes(width) => validity + align.round_up(u64::from(width) * tally.slots),
-        Form::Lists(width) => {
+        Form::Lists(ListForm::Offsets(width)) => {
             validity + align.round_up(width.bytes() as u64 * (tally.slots + 1))
         }
-        Form::Structs => validity,
+        Form::Lists(ListForm::Fixed(_)) | Form::Structs => validity,
     }
 }

@@ -11,7 +11,7 @@ ghost use Rattle.arrow_body_laws.specs.Raws.{bytes_in_value, fixed_in, items_in_
 ghost use Rattle.arrow_body_laws.specs.Raws.{number_in, truth_in};
 ghost use Rattle.arrow_body_laws.specs.Stored.{number_buffer};
 ghost use Rattle.arrow_data.specs.declared.form.Form.TheVariants as forms;
-ghost use Rattle.arrow_body_writer.specs.Runs.{HasItems, are_strings};
+ghost use Rattle.arrow_body_writer.specs.Runs.{HasItems, HasNoItems, are_strings};
 ghost use Rattle.arrow_body_writer.specs.Slice.{IsFull, IsSlice, values_in};
 
 use crate::slice::Slice;
@@ -55,7 +55,7 @@ pub(crate) fn string(array: &Array, i: usize) -> &[u8]
 // How many items the slot's list has, none under a null.
 pub(crate) fn span(array: &Array, i: usize) -> usize
     requires { i < length array.now.raw }
-    ensures { result ≡ length (items_in_value (value_at array.now.raw i)) }
+    ensures { result ≡ length (items_in_value 0 (value_at array.now.raw i)) }
 {
     match array.list_at(i) {
         Some((start, end, _)) => end - start,
@@ -160,7 +160,7 @@ pub(crate) fn items(slice: Slice<'_>) -> Option<Slice<'_>>
     requires slots { IsSlice slice }
     requires full { IsFull slice }
     ensures { MatchOption result
-        (flat_map items_in_value (values_in slice.entry) ≡ [])
+        (HasNoItems slice.entry)
         (HasItems slice.entry) }
 {
     let Slice { array, start, stop } = slice;

@@ -7,7 +7,7 @@ ghost use Rattle.arrow_types.specs.Field.{width};
 ghost use Rattle.arrow_types.specs.View.{type_view};
 ghost use Rattle.arrow_data.specs.Column.{type_of_field};
 ghost use Rattle.arrow_body_laws.specs.Laws.{raws_of};
-ghost use Rattle.arrow_body_laws.specs.Raws.{AreRaws};
+ghost use Rattle.arrow_body_laws.specs.Raws.{AreRaws, nulls_under};
 ghost use Rattle.arrow_body_laws.specs.Stored.{fields_of_columns};
 ghost use Rattle.arrow_body_writer.specs.Pass.{HasPlace, Takes, part_in};
 ghost use Rattle.arrow_body_writer.specs.Sent.{LeadDown, form_of_column, sent_along, sent_below};
@@ -19,7 +19,7 @@ use crate::pass::Pass;
 use crate::slice::{Slice, all_slots};
 use crate::steps::Steps;
 use crate::whole::whole_below;
-use arrow_data::form::{Form, node_form};
+use arrow_data::form::{Form, ListForm, node_form};
 use arrow_data::{Array, Dictionary};
 use arrow_types::{DataType, Encoding, Field};
 use std::alloc::AllocError;
@@ -32,11 +32,23 @@ pub(crate) enum Source<'a> {
     // The values of a dictionary from this one on, in a column without an encoding: none where the
     // dictionary has no more than so many values (`Message.fbs`, table `DictionaryBatch`).
     Rest(&'a Dictionary, usize),
-    // The items of the lists of a column (Columnar Format, "Variable-size List Layout").
-    Items(&'a Source<'a>),
+    // The items of the lists of a column, with so many nulls under a null list (Columnar Format,
+    // "Variable-size List Layout", "Fixed-Size List Layout").
+    Items(u32, &'a Source<'a>),
     // This field of the structs of a column, null where these are (Columnar Format, "Struct
     // Layout").
     Field(&'a Source<'a>, usize),
+}
+
+// How many nulls the child is sent under a null list: as many as each list has items where all have
+// as many, none elsewhere (Columnar Format, "Fixed-Size List Layout").
+fn nulls_under(list: ListForm) -> u32
+    ensures { result ≡ nulls_under list }
+{
+    match list {
+        ListForm::Offsets(_) => 0,
+        ListForm::Fixed(size) => size,
+    }
 }
 
 // The child field at a place.
@@ -57,7 +69,7 @@ impl<'a> Source<'a> {
         match self {
             Source::Slots(array) => array.data_type(),
             Source::Rest(dictionary, _) => dictionary.data_type(),
-            Source::Items(lists) => &child_field(lists.data_type(), 0).data_type,
+            Source::Items(_, lists) => &child_field(lists.data_type(), 0).data_type,
             Source::Field(structs, k) => &child_field(structs.data_type(), *k).data_type,
         }
     }
@@ -70,7 +82,7 @@ impl<'a> Source<'a> {
         match self {
             Source::Slots(array) => array.encoding().copied(),
             Source::Rest(..) => None,
-            Source::Items(lists) => child_field(lists.data_type(), 0).dictionary,
+            Source::Items(_, lists) => child_field(lists.data_type(), 0).dictionary,
             Source::Field(structs, k) => child_field(structs.data_type(), *k).dictionary,
         }
     }
@@ -125,7 +137,7 @@ impl<'a> Source<'a> {
         ensures same { slice_get (sent_below (column_in self.now)) k ≡ Some (column_in result) }
     {
         match self.form() {
-            Form::Lists(_) => Source::Items(self),
+            Form::Lists(list) => Source::Items(nulls_under(list), self),
             _ => Source::Field(self, k),
         }
     }
@@ -144,7 +156,7 @@ impl<'a> Source<'a> {
         match self {
             Source::Slots(array) => pass.take_along(all_slots(array), steps),
             Source::Rest(dictionary, from) => take_rest(pass, dictionary, *from, steps),
-            Source::Items(lists) => lists.send(pass, &Steps::Items(&*steps)),
+            Source::Items(nulls, lists) => lists.send(pass, &Steps::Items(*nulls, &*steps)),
             Source::Field(structs, k) => structs.send(pass, &Steps::Field(*k, &*steps)),
         }
     }

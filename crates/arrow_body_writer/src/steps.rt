@@ -6,8 +6,9 @@
 pub(crate) enum Steps<'a> {
     // Those of the node itself.
     Here,
-    // From lists to their items, and from there on.
-    Items(&'a Steps<'a>),
+    // From lists to their items, with so many nulls under a null list (Columnar Format, "Variable-size
+    // List Layout", "Fixed-Size List Layout"), and from there on.
+    Items(u32, &'a Steps<'a>),
     // From structs to this field of theirs, and from there on.
     Field(usize, &'a Steps<'a>),
 }

@@ -5,7 +5,7 @@ ghost use Rattle.std.specs.Prelude.{count_by, length, not};
 ghost use Rattle.std.specs.List.{sum_by};
 ghost use Rattle.arrow_data.specs.Column.{values_from};
 ghost use Rattle.arrow_data.specs.PlainValue.{PlainValue};
-ghost use Rattle.arrow_body_laws.specs.Raws.{bytes_in_value, items_in_value, last_offset};
+ghost use Rattle.arrow_body_laws.specs.Raws.{bytes_in_value, last_item, last_offset};
 ghost use Rattle.arrow_body_writer.specs.Marks.{AreMarked, IsBitRange, bits_in};
 ghost use Rattle.arrow_body_writer.specs.Slice.{IsFull, IsSlice, values_in};
 ghost use Rattle.arrow_body_writer.specs.Tally.{Counts, CountsNull, IsTally, capped};
@@ -15,7 +15,7 @@ use crate::offsets::{lists_between, strings_between};
 use crate::packing::BitRange;
 use crate::slice::{Slice, is_without_null};
 use crate::slots::{items, strings};
-use arrow_data::form::Form;
+use arrow_data::form::{Form, ListForm};
 
 // How many slots there are, how many of them are null, and up to where their offsets go. Each stays
 // at the greatest number where it would be greater.
@@ -30,7 +30,25 @@ pub(crate) struct Tally {
 fn has_offsets(form: Form) -> bool
     ensures { IsFalse result → (vs : List PlainValue) → last_offset form vs ≡ 0 }
 {
-    matches!(form, Form::Bytes(_) | Form::Texts(_) | Form::Lists(_))
+    matches!(
+        form,
+        Form::Bytes(_) | Form::Texts(_) | Form::Lists(ListForm::Offsets(_))
+    )
+}
+
+// How far the offsets of lists go on of which none is null: 0 where none are stored.
+fn list_stretch(list: ListForm, slice: Slice<'_>) -> usize
+    requires slots { IsSlice slice }
+    requires full { IsFull slice }
+    ensures { result ≡ last_item list (values_in slice.entry) }
+{
+    match list {
+        ListForm::Offsets(_) => match items(slice) {
+            Some(items) => items.stop - items.start,
+            None => 0,
+        },
+        ListForm::Fixed(_) => 0,
+    }
 }
 
 // How far the offsets of slots go on of which none is null: 0 where the form has none.
@@ -42,10 +60,7 @@ fn stretch(form: Form, slice: Slice<'_>) -> usize
     match form {
         Form::Bytes(_) => strings(slice).len(),
         Form::Texts(_) => strings(slice).len(),
-        Form::Lists(_) => match items(slice) {
-            Some(items) => items.stop - items.start,
-            None => 0,
-        },
+        Form::Lists(list) => list_stretch(list, slice),
         _ => 0,
     }
 }
@@ -61,14 +76,18 @@ fn string_reach(slice: Slice<'_>) -> Option<usize>
     Some(spans.len())
 }
 
-// The same of the lists of a slice.
-fn list_reach(slice: Slice<'_>) -> Option<usize>
+// The same of the lists of a slice: 0 where no offsets are stored.
+fn list_reach(list: ListForm, slice: Slice<'_>) -> Option<usize>
     requires { IsSlice slice }
-    ensures { IfSome result (λ len. len
-        ≡ sum_by (λ v. length (items_in_value v)) (values_in slice.entry)) }
+    ensures { IfSome result (λ len. len ≡ last_item list (values_in slice.entry)) }
 {
-    let spans = lists_between(slice)?;
-    Some(spans.len())
+    match list {
+        ListForm::Offsets(_) => {
+            let spans = lists_between(slice)?;
+            Some(spans.len())
+        }
+        ListForm::Fixed(_) => Some(0),
+    }
 }
 
 // The same of the slots of a node of the form: 0 where it has no offsets.
@@ -79,7 +98,7 @@ fn reach(form: Form, slice: Slice<'_>) -> Option<usize>
     match form {
         Form::Bytes(_) => string_reach(slice),
         Form::Texts(_) => string_reach(slice),
-        Form::Lists(_) => list_reach(slice),
+        Form::Lists(list) => list_reach(list, slice),
         _ => Some(0),
     }
 }

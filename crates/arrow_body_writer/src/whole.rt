@@ -31,18 +31,19 @@ fn are_as_long(arrays: &[Array], len: usize) -> bool
 }
 
 // The child of lists of which none is null, where their items are all slots of it (Columnar Format,
-// "Variable-size List Layout").
+// "Variable-size List Layout", "Fixed-Size List Layout").
 fn whole_items(array: &Array) -> Option<&Array>
     ensures { IfSome result (λ child. AreSentWhole array.now (child.now ∷ [])) }
 {
     let own = array.items()?;
+    let count = own.len();
     if !is_full(array) {
         return None;
     }
     let (start, stop) = (0, array.len());
     match items(Slice { array, start, stop }) {
         Some(all) if all.start == 0 && all.stop == all.array.len() => Some(all.array),
-        None if own.len() == 0 => Some(own),
+        None if count == 0 => Some(own),
         Some(_) | None => None,
     }
 }

@@ -13,14 +13,15 @@ use Rattle.arrow_types.specs.declared.field.Field.{Field, the_lemmas}
 use Rattle.arrow_data.specs.Column.{Agree, Column, ValueList, AreOf, counts_of, listed_of, slots_of}
 use Rattle.arrow_data.specs.Fits.{Fits}
 use Rattle.arrow_data.specs.Form.{HasFieldsOf, form_of, node_form}
-use Rattle.arrow_data.specs.Layout.{HoldsTexts, buffer, child_count}
+use Rattle.arrow_data.specs.Layout.{HoldsTexts, buffer, child_count, list_offsets}
 use Rattle.arrow_data.specs.Layout.{IsIndexed as HasIndices}
 use Rattle.arrow_data.specs.Parts.{AreChildren, IsOfType, node_column, node_offsets, type_of, value_slot, values_in}
 use Rattle.arrow_data.specs.PlainValue.{PlainValue, null_value, struct_value, utf8_value, values_of}
-use Rattle.arrow_data.specs.Slots.{is_valid_at, list_slot, or_null, place_of, range_of, slots}
+use Rattle.arrow_data.specs.Slots.{is_valid_at, item_place, item_places, list_slot, or_null, range_of, slots}
 use Rattle.arrow_data.specs.declared.form.Form.{Form}
 use Rattle.arrow_data.specs.declared.form.Form.TheVariants as forms
-use Rattle.arrow_data.specs.declared.form.OffsetWidth.{OffsetWidth}
+use Rattle.arrow_data.specs.declared.form.ListForm.{ListForm}
+use Rattle.arrow_data.specs.declared.form.ListForm.TheVariants as lists
 use Rattle.arrow_data.proofs.Shown.{length_slots}
 use Rattle.arrow_data.specs.Listed.{dictionary_for, values_by}
 use Rattle.arrow_builder.specs.Buffers.{buffers_in}
@@ -28,7 +29,7 @@ use Rattle.arrow_builder.specs.Built.{Built, AreBelow, HaveSlots, built_size, co
 use Rattle.arrow_builder.specs.Columns.{AreHeld, all_items, child_column, child_columns, item_offsets}
 use Rattle.arrow_builder.specs.Fields.{FitsField, field_form}
 use Rattle.arrow_builder.specs.Finished.{AreArraysOf, AreTyped, IsArrayOf, IsIndexed, IsTyped, dictionary_by, fields_below}
-use Rattle.arrow_builder.specs.Kept.{CountsItems, Keeps, KeepsParts}
+use Rattle.arrow_builder.specs.Kept.{CountsItems, Keeps, KeepsLists}
 use Rattle.arrow_builder.specs.Nodes.{IsNode, built_of, slot_in}
 use Rattle.arrow_builder.specs.Puts.{StaySlots}
 use Rattle.arrow_builder.specs.declared.node.Node.TheInside.{Inside}
@@ -54,7 +55,7 @@ Shows (forms.Numbers number) n len b = ⊤
 Shows (forms.Bytes width) n len b = ⊤
 Shows (forms.Texts width) n len b = ⊤
 Shows (forms.FixedBytes width) n len b = ⊤
-Shows (forms.Lists width) n len b = n ≡ place_of width (buffer b 1) len
+Shows (forms.Lists list) n len b = n ≡ item_place list (list_offsets list b) len
 Shows forms.Structs n len b = n ≡ len
 
 shows_by : (form : Form) (n len most : ℕ) (b : List (List ℕ)) (raw : List PlainValue) → CountsItems form most b raw → len ≤ most → length raw ≡ most
@@ -65,7 +66,7 @@ shows_by (forms.Numbers number) n len most b raw counts le long shown = tt
 shows_by (forms.Bytes width) n len most b raw counts le long shown = tt
 shows_by (forms.Texts width) n len most b raw counts le long shown = tt
 shows_by (forms.FixedBytes width) n len most b raw counts le long shown = tt
-shows_by (forms.Lists width) n len most b raw counts le long shown = shown 0 ∙ sym (counts len le)
+shows_by (forms.Lists list) n len most b raw counts le long shown = shown 0 ∙ sym (counts len le)
 shows_by forms.Structs n len most b raw counts le long shown = grind (arith, shown 0, length-map, length-take, le, long)
 
 -- a node shows these slots of its children
@@ -92,10 +93,14 @@ all_long : (len n : ℕ) (bs : List Built) → n ≡ len → AllByRecursion (λ 
 all_long len n [] same = tt
 all_long len n (b ∷ bs) same = (omega (arith, same), all_long len n bs same)
 
-one_count : (width : OffsetWidth) (len n : ℕ) (b : List (List ℕ)) (bs : List Built) → KeepsParts width len (child_count (counts_in bs)) (buffer b 0) (buffer b 1) → 1 ≤ length bs
-    → n ≡ place_of width (buffer b 1) len → KeepsParts width len (child_count (map (λ (b : Built). n) bs)) (buffer b 0) (buffer b 1)
-one_count width len n b [] kept one shows = absurd (omega (arith, one))
-one_count width len n b (c ∷ bs) kept one shows = record { ranges = kept.ranges; inside = omega (arith, shows) }
+shown_count : (list : ListForm) (len top n : ℕ) (validity offsets : List ℕ) → KeepsLists list len top validity offsets → n ≡ item_place list offsets len → KeepsLists list len n validity offsets
+shown_count (lists.Offsets width) len top n validity offsets kept shows = record { ranges = kept.ranges; inside = omega (arith, shows) }
+shown_count (lists.Fixed size) len top n validity offsets kept shows = record { bits = kept.bits; inside = omega (arith, shows) }
+
+one_count : (list : ListForm) (len n : ℕ) (validity offsets : List ℕ) (bs : List Built) → KeepsLists list len (child_count (counts_in bs)) validity offsets → 1 ≤ length bs
+    → n ≡ item_place list offsets len → KeepsLists list len (child_count (map (λ (b : Built). n) bs)) validity offsets
+one_count list len n validity offsets [] kept one shows = absurd (omega (arith, one))
+one_count list len n validity offsets (c ∷ bs) kept one shows = shown_count list len (length c.raw) n validity offsets kept shows
 
 -- there is a child of lists
 abbrev HasChild : Form → List Built → Type 0
@@ -105,7 +110,7 @@ HasChild (forms.Numbers number) bs = ⊤
 HasChild (forms.Bytes width) bs = ⊤
 HasChild (forms.Texts width) bs = ⊤
 HasChild (forms.FixedBytes width) bs = ⊤
-HasChild (forms.Lists width) bs = (c : Built) × (bs ≡ c ∷ [])
+HasChild (forms.Lists list) bs = (c : Built) × (bs ≡ c ∷ [])
 HasChild forms.Structs bs = ⊤
 
 child_there : (form : Form) (tag : Tag) (e : Option Encoding) (fields : Fields) (bs : List Built) → node_form tag e ≡ form → HasFieldsOf (form_of tag) fields → AreBelow e fields bs → HasChild form bs
@@ -115,7 +120,7 @@ child_there (forms.Numbers number) tag e fields bs is own below = tt
 child_there (forms.Bytes width) tag e fields bs is own below = tt
 child_there (forms.Texts width) tag e fields bs is own below = tt
 child_there (forms.FixedBytes width) tag e fields bs is own below = tt
-child_there (forms.Lists width) tag e fields bs is own below = let o = only_child tag e fields bs width is own below in (o.child, o.only)
+child_there (forms.Lists list) tag e fields bs is own below = let o = only_child tag e fields bs list is own below in (o.child, o.only)
 child_there forms.Structs tag e fields bs is own below = tt
 
 keeps_shown : (form : Form) (len n : ℕ) (b : List (List ℕ)) (bs : List Built) → Keeps form len b (counts_in bs) → Shows form n len b → HasChild form bs
@@ -126,7 +131,7 @@ keeps_shown (forms.Numbers number) len n b bs kept shows has = kept
 keeps_shown (forms.Bytes width) len n b bs kept shows has = kept
 keeps_shown (forms.Texts width) len n b bs kept shows has = kept
 keeps_shown (forms.FixedBytes width) len n b bs kept shows has = kept
-keeps_shown (forms.Lists width) len n b bs kept shows has = one_count width len n b bs kept (omega (arith, ap (λ cs. length cs) has.1)) shows
+keeps_shown (forms.Lists list) len n b bs kept shows has = one_count list len n (buffer b 0) (list_offsets list b) bs kept (omega (arith, ap (λ cs. length cs) has.1)) shows
 keeps_shown forms.Structs len n b bs kept shows has = record { bits = kept.bits; longer = all_long len n bs shows }
 
 -- the slots of a node are the same where its children are cut to what it shows
@@ -138,10 +143,11 @@ shown_stay (forms.Numbers number) len n b bs kept shows has = λ j h. refl
 shown_stay (forms.Bytes width) len n b bs kept shows has = λ j h. refl
 shown_stay (forms.Texts width) len n b bs kept shows has = λ j h. refl
 shown_stay (forms.FixedBytes width) len n b bs kept shows has = λ j h. refl
-shown_stay (forms.Lists width) len n b bs kept shows has =
-    let start : take (place_of width (buffer b 1) len) (take n has.0.raw) ≡ take (place_of width (buffer b 1) len) has.0.raw = take-take (place_of width (buffer b 1) len) n has.0.raw (omega (arith, shows)) in
-    subst (λ cs. StaySlots len (λ j. list_slot width (buffer b 0) (buffer b 1) (get_or (raws_in cs) 0 []) j) (λ j. list_slot width (buffer b 0) (buffer b 1) (get_or (raws_in (map (cut_to n) cs)) 0 []) j)) (sym has.1)
-    (lists_stay width len (buffer b 0) (buffer b 0) (buffer b 1) (buffer b 1) has.0.raw (take n has.0.raw) kept.ranges (λ j h. refl) (λ j h. refl) start)
+shown_stay (forms.Lists list) len n b bs kept shows has =
+    let o = list_offsets list b in
+    let start : take (item_place list o len) (take n has.0.raw) ≡ take (item_place list o len) has.0.raw = take-take (item_place list o len) n has.0.raw (omega (arith, shows)) in
+    subst (λ cs. StaySlots len (λ j. list_slot list (buffer b 0) o (get_or (raws_in cs) 0 []) j) (λ j. list_slot list (buffer b 0) o (get_or (raws_in (map (cut_to n) cs)) 0 []) j)) (sym has.1)
+    (lists_stay list len (child_count (counts_in bs)) (buffer b 0) (buffer b 0) o o has.0.raw (take n has.0.raw) kept (λ j h. refl) (λ j h. refl) start)
 shown_stay forms.Structs len n b bs kept shows has = λ j h.
     ap (λ row. or_null (buffer b 0) j (struct_value (values_of row))) (row_by_cut len j (map (cut_to n) bs) bs (subst (λ m. map (cut_to m) (map (cut_to n) bs) ≡ map (cut_to m) bs) shows (cut_all n bs)) h)
 
@@ -158,7 +164,7 @@ texts_by (forms.Texts width) fields len b children fit = λ j h valid.
     text_of true bytes v h = h
     text_of false bytes v h = absurd (false≢true v)
 texts_by (forms.FixedBytes width) fields len b children fit = tt
-texts_by (forms.Lists width) fields len b children fit = tt
+texts_by (forms.Lists list) fields len b children fit = tt
 texts_by forms.Structs fields len b children fit = tt
 
 -- arrays have the types of their columns
@@ -230,6 +236,11 @@ below_plain a ok is = subst (λ e. AreBelow e (field_view a.field).children a.ch
 below_encoded : (a : Inside) (e : Encoding) → IsNode a → (field_view a.field).head.encoding ≡ Some e → has_encoding (field_view a.field).children ≡ false
 below_encoded a e ok is = (subst (λ e. AreBelow e (field_view a.field).children a.children.items) is ok.below).0
 
+-- where the items of each list begin
+places_each : (list : ListForm) (len : ℕ) (offsets : List ℕ) → item_places list len offsets ≡ map (item_place list offsets) (range_with_len 0 (len + 1))
+places_each (lists.Offsets width) len offsets = refl
+places_each (lists.Fixed size) len offsets = refl
+
 -- its offsets are those that the lists give
 offsets_made : (form : Form) (len most : ℕ) (b : List (List ℕ)) (raw : List PlainValue) → CountsItems form most b raw → len ≤ most → length raw ≡ most
     → node_offsets form len b ≡ item_offsets form (take len raw)
@@ -239,12 +250,13 @@ offsets_made (forms.Numbers number) len most b raw counts le long = refl
 offsets_made (forms.Bytes width) len most b raw counts le long = refl
 offsets_made (forms.Texts width) len most b raw counts le long = refl
 offsets_made (forms.FixedBytes width) len most b raw counts le long = refl
-offsets_made (forms.Lists width) len most b raw counts le long =
+offsets_made (forms.Lists list) len most b raw counts le long =
+    let o = list_offsets list b in
     let count : length (take len raw) ≡ len = grind (arith, length-take, le, long) in
-    let each : (j : ℕ) → j < 0 + (len + 1) → place_of width (buffer b 1) j ≡ length (all_items (take j (take len raw))) =
-    λ j h. counts j (omega (arith, le, h)) ∙ ap (λ vs. length (all_items vs)) (sym (take-take j len raw (omega (arith, h)))) in
-    same_from (place_of width (buffer b 1)) (λ j. length (all_items (take j (take len raw)))) 0 (len + 1) each
-    ∙ ap (λ m. map (λ j. length (all_items (take j (take len raw)))) (range_with_len 0 (m + 1))) (sym count)
+    let each : (j : ℕ) → j < 0 + (len + 1) → item_place list o j ≡ length (all_items list (take j (take len raw))) =
+    λ j h. counts j (omega (arith, le, h)) ∙ ap (λ vs. length (all_items list vs)) (sym (take-take j len raw (omega (arith, h)))) in
+    places_each list len o ∙ same_from (item_place list o) (λ j. length (all_items list (take j (take len raw)))) 0 (len + 1) each
+    ∙ ap (λ m. map (λ j. length (all_items list (take j (take len raw)))) (range_with_len 0 (m + 1))) (sym count)
 offsets_made forms.Structs len most b raw counts le long = refl
 
 -- the raw slots of columns are their raw values

@@ -7,14 +7,14 @@ use Rattle.arrow_types.specs.View.{field_view}
 use Rattle.arrow_types.specs.declared.field.Encoding.{Encoding}
 use Rattle.arrow_data.specs.Column.{ValueList}
 use Rattle.arrow_data.specs.Form.{node_form, int_width, index_form}
-use Rattle.arrow_data.specs.Layout.{HasFixed}
+use Rattle.arrow_data.specs.Layout.{HasFixed, list_offsets}
 use Rattle.arrow_data.specs.Parts.{value_slot}
 use Rattle.arrow_data.specs.PlainValue.{PlainValue, int_value, null_value}
 use Rattle.arrow_data.specs.Same.{Begins}
-use Rattle.arrow_data.specs.Slots.{AreIndices, IsIndex, int_slot, is_valid_at, place_of, slots}
+use Rattle.arrow_data.specs.Slots.{AreIndices, IsIndex, int_slot, is_valid_at, item_place, slots}
 use Rattle.arrow_data.specs.declared.form.Form.{Form}
 use Rattle.arrow_data.specs.declared.form.Form.TheVariants as forms
-use Rattle.arrow_data.specs.declared.form.OffsetWidth.{OffsetWidth}
+use Rattle.arrow_data.specs.declared.form.ListForm.{ListForm}
 use Rattle.arrow_data.specs.Listed.{values_by}
 use Rattle.arrow_bits.specs.Numbers.{int_of}
 use Rattle.arrow_builder.specs.Buffers.{buffers_in}
@@ -89,15 +89,15 @@ node_indexed ds a len n ok long =
     ok.below (node_held a len ok)
 
 -- the ranges of the first lists of a node
-pub lists_kept : (a : Inside) (width : OffsetWidth) (len : ℕ) → field_form (field_view a.field) ≡ forms.Lists width → len ≤ a.len → IsNode a
-    → Keeps (forms.Lists width) len (buffers_in a.buffers) (counts_in a.children.items)
-lists_kept a width len form le ok =
+pub lists_kept : (a : Inside) (list : ListForm) (len : ℕ) → field_form (field_view a.field) ≡ forms.Lists list → len ≤ a.len → IsNode a
+    → Keeps (forms.Lists list) len (buffers_in a.buffers) (counts_in a.children.items)
+lists_kept a list len form le ok =
     subst (λ f. Keeps f len (buffers_in a.buffers) (counts_in a.children.items)) form (keeps_fewer (field_form (field_view a.field)) len a.len (buffers_in a.buffers) (counts_in a.children.items) le ok.kept)
 
--- the first lists show as many items as the offset after them says
-pub lists_shown : (a : Inside) (width : OffsetWidth) (len : ℕ) → field_form (field_view a.field) ≡ forms.Lists width → len ≤ a.len → IsNode a
-    → (k : ℕ) → place_of width a.buffers.values.items len ≡ length (child_column (field_form (field_view a.field)) k (take len (built_of a).raw))
-lists_shown a width len form le ok k =
+-- the first lists show as many items as lie before the place after them
+pub lists_shown : (a : Inside) (list : ListForm) (len : ℕ) → field_form (field_view a.field) ≡ forms.Lists list → len ≤ a.len → IsNode a
+    → (k : ℕ) → item_place list (list_offsets list (buffers_in a.buffers)) len ≡ length (child_column (field_form (field_view a.field)) k (take len (built_of a).raw))
+lists_shown a list len form le ok k =
     (subst (λ f. CountsItems f a.len (buffers_in a.buffers) (built_of a).raw) form ok.counted) len le ∙ ap (λ f. length (child_column f k (take len (built_of a).raw))) (sym form)
 
 -- slot by slot

@@ -1,15 +1,19 @@
 -- Values counted one after another, in a column and in those below it.
-use Rattle.std.proofs.Common.{◌≡◌, ℕ, zero, suc, ◌+◌, ◌<◌, ◌≤◌, Bool, true, false, List, [], ◌∷◌, ◌++◌, length, take, drop, get_or, set, refl, ap, sym, ◌∙◌, subst, arith, None, Some}
+use Rattle.std.proofs.Common.{◌≡◌, ℕ, zero, suc, ◌+◌, ◌*◌, ◌<◌, ◌≤◌, Bool, true, false, List, [], ◌∷◌, ◌++◌, length, take, drop, get_or, map, replicate, set, refl, ap, sym, ◌∙◌, subst, arith, length-append, None, Some}
 use denote.Param.Weighed.{most}
 use Rattle.std.proofs.lemmas.Bool.{false≢true}
-use Rattle.std.proofs.lemmas.List.{append-nil, append_assoc, take-append-drop}
+use Rattle.std.proofs.lemmas.List.{append-nil, append_assoc, length-replicate, replicate-append-replicate, take-append-drop}
 use Rattle.arrow_types.specs.Field.{Fields, FieldShape, fields_of, none, more}
 use Rattle.arrow_data.specs.Form.{node_form}
-use Rattle.arrow_data.specs.PlainValue.{PlainValue}
+use Rattle.arrow_data.specs.PlainValue.{PlainValue, field_value, null_value}
 use Rattle.arrow_data.specs.Value.{value_view, values_view}
 use Rattle.arrow_data.specs.declared.form.Form.{Form}
+use Rattle.arrow_data.specs.declared.form.Form.TheVariants as forms
+use Rattle.arrow_data.specs.declared.form.ListForm.{ListForm}
+use Rattle.arrow_data.specs.declared.form.ListForm.TheVariants as lists
+use Rattle.arrow_data.specs.declared.form.OffsetWidth.{OffsetWidth}
 use Rattle.arrow_data.specs.declared.value.Value.{Value}
-use Rattle.arrow_builder.specs.Columns.{AllBelow, AllNodes, child_column}
+use Rattle.arrow_builder.specs.Columns.{AllBelow, AllNodes, all_items, child_column}
 use Rattle.arrow_builder.specs.Fields.{field_form}
 use Rattle.arrow_builder.specs.Tally.{Adds, AddsBelow, AreCounted, Grows, IsCounted, IsTotal, Settles}
 use Rattle.arrow_builder.specs.Within.{IsShortNode}
@@ -91,111 +95,111 @@ up_to_more R (suc n) k (o ∷ os) (t ∷ ns) d x h less r =
     let there : k + suc n ≡ k + 1 + n = omega arith in
     (h.0, up_to_more R n (k + 1) os ns d x h.1 (omega (arith, less)) (subst (λ j. R j (get_or os n d) x) there r))
 
--- what a value of the parent gives to child k was counted
-abbrev pub Gives : Form → PlainValue → Bool → ℕ → Tally → Tally → Type 0
-Gives form value within k old new = Adds (child_column form k (value ∷ [])) old new within
+-- what values of the parent give to child k was counted
+abbrev pub Gives : Form → List PlainValue → Bool → ℕ → Tally → Tally → Type 0
+Gives form values within k old new = Adds (child_column form k values) old new within
 
 -- where the first n were counted, and the next one is another, what is held stays
-pub held_so_far : (form : Form) (value : PlainValue) (n k : ℕ) (os ns : List Tally) (f : Form) (fields : Fields) (j : ℕ) (raw : List PlainValue) → UpTo (Gives form value true) n k os ns
+pub held_so_far : (form : Form) (values : List PlainValue) (n k : ℕ) (os ns : List Tally) (f : Form) (fields : Fields) (j : ℕ) (raw : List PlainValue) → UpTo (Gives form values true) n k os ns
     → AreCounted false f fields j raw os → AreCounted false f fields j raw ns
-held_so_far form value zero k os ns f fields j raw h c = subst (AreCounted false f fields j raw) (sym h) c
-held_so_far form value (suc n) k [] ns f fields j raw h c = subst (AreCounted false f fields j raw) (sym h) c
-held_so_far form value (suc n) k (o ∷ os) [] f fields j raw h c = absurd h
-held_so_far form value (suc n) k (o ∷ os) (t ∷ ns) f none j raw h c = absurd c
-held_so_far form value (suc n) k (o ∷ os) (t ∷ ns) f (more head children rest) j raw h c =
+held_so_far form values zero k os ns f fields j raw h c = subst (AreCounted false f fields j raw) (sym h) c
+held_so_far form values (suc n) k [] ns f fields j raw h c = subst (AreCounted false f fields j raw) (sym h) c
+held_so_far form values (suc n) k (o ∷ os) [] f fields j raw h c = absurd h
+held_so_far form values (suc n) k (o ∷ os) (t ∷ ns) f none j raw h c = absurd c
+held_so_far form values (suc n) k (o ∷ os) (t ∷ ns) f (more head children rest) j raw h c =
     let own = h.0.held (record { head = head; children = children }) (child_column f j raw) (record { form = c.0; own = c.1; below = c.2 }) in
-    (own.form, own.own, own.below, held_so_far form value n (k + 1) os ns f rest (j + 1) raw h.1 c.3)
+    (own.form, own.own, own.below, held_so_far form values n (k + 1) os ns f rest (j + 1) raw h.1 c.3)
 
 -- also where the next one was counted, whether or not to the end
-pub held_broken : (form : Form) (value : PlainValue) (n k : ℕ) (os ns : List Tally) (d x : Tally) (f : Form) (fields : Fields) (j : ℕ) (raw : List PlainValue) → UpTo (Gives form value true) n k os ns
-    → n < length os → Gives form value false (k + n) (get_or os n d) x → AreCounted false f fields j raw os → AreCounted false f fields j raw (set ns n x)
-held_broken form value zero k [] ns d x f fields j raw h less r c = absurd (omega (arith, less))
-held_broken form value zero k (o ∷ os) [] d x f fields j raw h less r c = absurd (cc)
-held_broken form value zero k (o ∷ os) (t ∷ ns) d x f none j raw h less r c = absurd c
-held_broken form value zero k (o ∷ os) (t ∷ ns) d x f (more head children rest) j raw h less r c =
+pub held_broken : (form : Form) (values : List PlainValue) (n k : ℕ) (os ns : List Tally) (d x : Tally) (f : Form) (fields : Fields) (j : ℕ) (raw : List PlainValue) → UpTo (Gives form values true) n k os ns
+    → n < length os → Gives form values false (k + n) (get_or os n d) x → AreCounted false f fields j raw os → AreCounted false f fields j raw (set ns n x)
+held_broken form values zero k [] ns d x f fields j raw h less r c = absurd (omega (arith, less))
+held_broken form values zero k (o ∷ os) [] d x f fields j raw h less r c = absurd (cc)
+held_broken form values zero k (o ∷ os) (t ∷ ns) d x f none j raw h less r c = absurd c
+held_broken form values zero k (o ∷ os) (t ∷ ns) d x f (more head children rest) j raw h less r c =
     let own = r.held (record { head = head; children = children }) (child_column f j raw) (record { form = c.0; own = c.1; below = c.2 }) in
     (own.form, own.own, own.below, subst (AreCounted false f rest (j + 1) raw) (sym (ap (λ ts. drop 1 ts) h)) c.3)
-held_broken form value (suc n) k [] ns d x f fields j raw h less r c = absurd (omega (arith, less))
-held_broken form value (suc n) k (o ∷ os) [] d x f fields j raw h less r c = absurd h
-held_broken form value (suc n) k (o ∷ os) (t ∷ ns) d x f none j raw h less r c = absurd c
-held_broken form value (suc n) k (o ∷ os) (t ∷ ns) d x f (more head children rest) j raw h less r c =
+held_broken form values (suc n) k [] ns d x f fields j raw h less r c = absurd (omega (arith, less))
+held_broken form values (suc n) k (o ∷ os) [] d x f fields j raw h less r c = absurd h
+held_broken form values (suc n) k (o ∷ os) (t ∷ ns) d x f none j raw h less r c = absurd c
+held_broken form values (suc n) k (o ∷ os) (t ∷ ns) d x f (more head children rest) j raw h less r c =
     let there : k + suc n ≡ k + 1 + n = omega arith in
     let own = h.0.held (record { head = head; children = children }) (child_column f j raw) (record { form = c.0; own = c.1; below = c.2 }) in
-    (own.form, own.own, own.below, held_broken form value n (k + 1) os ns d x f rest (j + 1) raw h.1 (omega (arith, less)) (subst (λ m. Gives form value false m (get_or os n d) x) there r) c.3)
+    (own.form, own.own, own.below, held_broken form values n (k + 1) os ns d x f rest (j + 1) raw h.1 (omega (arith, less)) (subst (λ m. Gives form values false m (get_or os n d) x) there r) c.3)
 
--- where all were counted, they are those of one more value of the parent
-pub next_below : (form : Form) (value : PlainValue) (n k : ℕ) (os ns : List Tally) (fields : Fields) (raw : List PlainValue) → UpTo (Gives form value true) n k os ns → length os ≤ n
-    → AreCounted true form fields k raw os → AreCounted true form fields k (raw ++ value ∷ []) ns
-next_below form value zero k [] [] none raw h less c = tt
-next_below form value zero k [] [] (more head children rest) raw h less c = absurd c
-next_below form value zero k [] (t ∷ ns) fields raw h less c = absurd (cc)
-next_below form value zero k (o ∷ os) ns fields raw h less c = absurd (omega (arith, less))
-next_below form value (suc n) k [] [] none raw h less c = tt
-next_below form value (suc n) k [] [] (more head children rest) raw h less c = absurd c
-next_below form value (suc n) k [] (t ∷ ns) fields raw h less c = absurd (cc)
-next_below form value (suc n) k (o ∷ os) [] fields raw h less c = absurd h
-next_below form value (suc n) k (o ∷ os) (t ∷ ns) none raw h less c = absurd c
-next_below form value (suc n) k (o ∷ os) (t ∷ ns) (more head children rest) raw h less c =
+-- where all were counted, they are those of more values of the parent
+pub next_below : (form : Form) (values : List PlainValue) (n k : ℕ) (os ns : List Tally) (fields : Fields) (raw : List PlainValue) → UpTo (Gives form values true) n k os ns → length os ≤ n
+    → AreCounted true form fields k raw os → AreCounted true form fields k (raw ++ values) ns
+next_below form values zero k [] [] none raw h less c = tt
+next_below form values zero k [] [] (more head children rest) raw h less c = absurd c
+next_below form values zero k [] (t ∷ ns) fields raw h less c = absurd (cc)
+next_below form values zero k (o ∷ os) ns fields raw h less c = absurd (omega (arith, less))
+next_below form values (suc n) k [] [] none raw h less c = tt
+next_below form values (suc n) k [] [] (more head children rest) raw h less c = absurd c
+next_below form values (suc n) k [] (t ∷ ns) fields raw h less c = absurd (cc)
+next_below form values (suc n) k (o ∷ os) [] fields raw h less c = absurd h
+next_below form values (suc n) k (o ∷ os) (t ∷ ns) none raw h less c = absurd c
+next_below form values (suc n) k (o ∷ os) (t ∷ ns) (more head children rest) raw h less c =
     let field : FieldShape = record { head = head; children = children } in
-    let own = subst (λ xs. IsCounted true field xs t) (sym (column_append form k raw (value ∷ []))) (h.0.next refl field (child_column form k raw) (record { form = c.0; own = c.1; below = c.2 })) in
-    (own.form, own.own, own.below, next_below form value n (k + 1) os ns rest raw h.1 (omega (arith, less)) c.3)
+    let own = subst (λ xs. IsCounted true field xs t) (sym (column_append form k raw values)) (h.0.next refl field (child_column form k raw) (record { form = c.0; own = c.1; below = c.2 })) in
+    (own.form, own.own, own.below, next_below form values n (k + 1) os ns rest raw h.1 (omega (arith, less)) c.3)
 
--- where one was not counted to the end, the parent's value is one too many
-pub past_below : (form : Form) (value : PlainValue) (n k : ℕ) (os : List Tally) (d x : Tally) (fields : Fields) (raw : List PlainValue) → n < length os
-    → Gives form value false (k + n) (get_or os n d) x → AreCounted true form fields k raw os → AllBelow IsShortNode form fields k (raw ++ value ∷ []) → ⊥
-past_below form value n k [] d x fields raw less r c w = omega (arith, less)
-past_below form value n k (o ∷ os) d x none raw less r c w = c
-past_below form value zero k (o ∷ os) d x (more head children rest) raw less r c w =
+-- where one was not counted to the end, the parent's values are too many
+pub past_below : (form : Form) (values : List PlainValue) (n k : ℕ) (os : List Tally) (d x : Tally) (fields : Fields) (raw : List PlainValue) → n < length os
+    → Gives form values false (k + n) (get_or os n d) x → AreCounted true form fields k raw os → AllBelow IsShortNode form fields k (raw ++ values) → ⊥
+past_below form values n k [] d x fields raw less r c w = omega (arith, less)
+past_below form values n k (o ∷ os) d x none raw less r c w = c
+past_below form values zero k (o ∷ os) d x (more head children rest) raw less r c w =
     let here : k + 0 ≡ k = omega arith in
     let field : FieldShape = record { head = head; children = children } in
-    let given = subst (λ m. Gives form value false m o x) here r in
+    let given = subst (λ m. Gives form values false m o x) here r in
     given.past refl field (child_column form k raw) (record { form = c.0; own = c.1; below = c.2 })
-    (subst (AllNodes IsShortNode field) (column_append form k raw (value ∷ [])) (w.0, w.1))
-past_below form value (suc n) k (o ∷ os) d x (more head children rest) raw less r c w =
+    (subst (AllNodes IsShortNode field) (column_append form k raw values) (w.0, w.1))
+past_below form values (suc n) k (o ∷ os) d x (more head children rest) raw less r c w =
     let there : k + suc n ≡ k + 1 + n = omega arith in
-    past_below form value n (k + 1) os d x rest raw (omega (arith, less)) (subst (λ m. Gives form value false m (get_or os n d) x) there r) c.3 w.2
+    past_below form values n (k + 1) os d x rest raw (omega (arith, less)) (subst (λ m. Gives form values false m (get_or os n d) x) there r) c.3 w.2
 
 -- the children are no deeper
-depth_so_far : (form : Form) (value : PlainValue) (n k : ℕ) (os ns : List Tally) → UpTo (Gives form value true) n k os ns → most size-Tally ns ≤ most size-Tally os
-depth_so_far form value zero k os ns h = omega (arith, ap (λ ts. most size-Tally ts) h)
-depth_so_far form value (suc n) k [] ns h = omega (arith, ap (λ ts. most size-Tally ts) h)
-depth_so_far form value (suc n) k (o ∷ os) [] h = absurd h
-depth_so_far form value (suc n) k (o ∷ os) (t ∷ ns) h = omega (arith, h.0.depth, depth_so_far form value n (k + 1) os ns h.1)
+depth_so_far : (form : Form) (values : List PlainValue) (n k : ℕ) (os ns : List Tally) → UpTo (Gives form values true) n k os ns → most size-Tally ns ≤ most size-Tally os
+depth_so_far form values zero k os ns h = omega (arith, ap (λ ts. most size-Tally ts) h)
+depth_so_far form values (suc n) k [] ns h = omega (arith, ap (λ ts. most size-Tally ts) h)
+depth_so_far form values (suc n) k (o ∷ os) [] h = absurd h
+depth_so_far form values (suc n) k (o ∷ os) (t ∷ ns) h = omega (arith, h.0.depth, depth_so_far form values n (k + 1) os ns h.1)
 
-depth_broken : (form : Form) (value : PlainValue) (n k : ℕ) (os ns : List Tally) (d x : Tally) → UpTo (Gives form value true) n k os ns → n < length os
-    → Gives form value false (k + n) (get_or os n d) x → most size-Tally (set ns n x) ≤ most size-Tally os
-depth_broken form value zero k [] ns d x h less r = absurd (omega (arith, less))
-depth_broken form value zero k (o ∷ os) [] d x h less r = absurd (cc)
-depth_broken form value zero k (o ∷ os) (t ∷ ns) d x h less r = omega (arith, r.depth, ap (λ ts. most size-Tally (drop 1 ts)) h)
-depth_broken form value (suc n) k [] ns d x h less r = absurd (omega (arith, less))
-depth_broken form value (suc n) k (o ∷ os) [] d x h less r = absurd h
-depth_broken form value (suc n) k (o ∷ os) (t ∷ ns) d x h less r =
+depth_broken : (form : Form) (values : List PlainValue) (n k : ℕ) (os ns : List Tally) (d x : Tally) → UpTo (Gives form values true) n k os ns → n < length os
+    → Gives form values false (k + n) (get_or os n d) x → most size-Tally (set ns n x) ≤ most size-Tally os
+depth_broken form values zero k [] ns d x h less r = absurd (omega (arith, less))
+depth_broken form values zero k (o ∷ os) [] d x h less r = absurd (cc)
+depth_broken form values zero k (o ∷ os) (t ∷ ns) d x h less r = omega (arith, r.depth, ap (λ ts. most size-Tally (drop 1 ts)) h)
+depth_broken form values (suc n) k [] ns d x h less r = absurd (omega (arith, less))
+depth_broken form values (suc n) k (o ∷ os) [] d x h less r = absurd h
+depth_broken form values (suc n) k (o ∷ os) (t ∷ ns) d x h less r =
     let there : k + suc n ≡ k + 1 + n = omega arith in
-    omega (arith, h.0.depth, depth_broken form value n (k + 1) os ns d x h.1 (omega (arith, less)) (subst (λ m. Gives form value false m (get_or os n d) x) there r))
+    omega (arith, h.0.depth, depth_broken form values n (k + 1) os ns d x h.1 (omega (arith, less)) (subst (λ m. Gives form values false m (get_or os n d) x) there r))
 
 -- how deep a tally is by those below it
 pub tally_depth : (t : Tally) → size-Tally t ≡ most size-Tally (out-Tally t).below.items + 1
 tally_depth t = omega (arith, size_is-Tally t)
 
 -- the children are counted where all of them are
-pub all_given : (form : Form) (value : PlainValue) (n : ℕ) (os ns : List Tally) → UpTo (Gives form value true) n 0 os ns → length os ≤ n → AddsBelow form value os ns true
-all_given form value n os ns h less = record {
-  depth = depth_so_far form value n 0 os ns h;
-  held = λ fields k raw f c. held_so_far form value n 0 os ns f fields k raw h c;
-  next = λ _ fields raw c. next_below form value n 0 os ns fields raw h less c;
+pub all_given : (form : Form) (values : List PlainValue) (n : ℕ) (os ns : List Tally) → UpTo (Gives form values true) n 0 os ns → length os ≤ n → AddsBelow form values os ns true
+all_given form values n os ns h less = record {
+  depth = depth_so_far form values n 0 os ns h;
+  held = λ fields k raw f c. held_so_far form values n 0 os ns f fields k raw h c;
+  next = λ _ fields raw c. next_below form values n 0 os ns fields raw h less c;
   past = λ no. absurd (false≢true (sym no));
 }
 
 -- and not where one is not
-pub one_past : (form : Form) (value : PlainValue) (n : ℕ) (os ns : List Tally) (d x : Tally) → UpTo (Gives form value true) n 0 os ns → n < length os → Gives form value false n (get_or os n d) x
-    → AddsBelow form value os (set ns n x) false
-one_past form value n os ns d x h less r =
-    let given = subst (λ m. Gives form value false m (get_or os n d) x) (let here : n ≡ 0 + n = omega arith in here) r in
+pub one_past : (form : Form) (values : List PlainValue) (n : ℕ) (os ns : List Tally) (d x : Tally) → UpTo (Gives form values true) n 0 os ns → n < length os → Gives form values false n (get_or os n d) x
+    → AddsBelow form values os (set ns n x) false
+one_past form values n os ns d x h less r =
+    let given = subst (λ m. Gives form values false m (get_or os n d) x) (let here : n ≡ 0 + n = omega arith in here) r in
     record {
-      depth = depth_broken form value n 0 os ns d x h less given;
-      held = λ fields k raw f c. held_broken form value n 0 os ns d x f fields k raw h less given c;
+      depth = depth_broken form values n 0 os ns d x h less given;
+      held = λ fields k raw f c. held_broken form values n 0 os ns d x f fields k raw h less given c;
       next = λ yes. absurd (false≢true yes);
-      past = λ _ fields raw c w. past_below form value n 0 os d x fields raw less given c w;
+      past = λ _ fields raw c w. past_below form values n 0 os d x fields raw less given c w;
     }
 
 -- all totals of some tallies are settled where those of each are
@@ -225,12 +229,12 @@ nothing_more form [] field k (o ∷ os) t c h = absurd c
 nothing_more form (f ∷ fields) field k [] t c h = absurd c
 nothing_more form (f ∷ fields) field k (o ∷ os) t c h = (c.0, c.1, c.2, nothing_more form fields field (k + 1) os t c.3 h)
 
--- a value was counted in a column, and what it gives to those below it
-pub adds_value : (t new : Tally) (value : PlainValue) (total : Total) (news : List Tally) (within : Bool) → Grows (out-Tally t).form value (out-Tally t).next (Some total)
-    → AddsBelow (out-Tally t).form value (out-Tally t).below.items news within
+-- values were counted in a column, and what they give to those below it
+pub adds_value : (t new : Tally) (values : List PlainValue) (total : Total) (news : List Tally) (within : Bool) → Grows (out-Tally t).form values (out-Tally t).next (Some total)
+    → AddsBelow (out-Tally t).form values (out-Tally t).below.items news within
     → (out-Tally new).form ≡ (out-Tally t).form → (out-Tally new).held ≡ (out-Tally t).held → (out-Tally new).next ≡ total → (out-Tally new).below.items ≡ news
-    → Adds (value ∷ []) t new within
-adds_value t new value total news within grows below form held next are = record {
+    → Adds values t new within
+adds_value t new values total news within grows below form held next are = record {
   depth = omega (arith, below.depth, tally_depth t, tally_depth new, ap (λ ts. most size-Tally ts) are);
   held = λ field raw h. record {
     form = form ∙ h.form;
@@ -239,20 +243,20 @@ adds_value t new value total news within grows below form held next are = record
   };
   next = λ yes field raw h. record {
     form = form ∙ h.form;
-    own = subst (IsTotal (field_form field) (raw ++ value ∷ [])) (sym next) (subst (λ f. Grows f value (out-Tally t).next (Some total)) h.form grows raw h.own);
-    below = subst (AreCounted true (field_form field) field.children 0 (raw ++ value ∷ [])) (sym are)
-        ((subst (λ f. AddsBelow f value (out-Tally t).below.items news within) h.form below).next yes field.children raw h.below);
+    own = subst (IsTotal (field_form field) (raw ++ values)) (sym next) (subst (λ f. Grows f values (out-Tally t).next (Some total)) h.form grows raw h.own);
+    below = subst (AreCounted true (field_form field) field.children 0 (raw ++ values)) (sym are)
+        ((subst (λ f. AddsBelow f values (out-Tally t).below.items news within) h.form below).next yes field.children raw h.below);
   };
-  past = λ no field raw h w. (subst (λ f. AddsBelow f value (out-Tally t).below.items news within) h.form below).past no field.children raw h.below w.1;
+  past = λ no field raw h w. (subst (λ f. AddsBelow f values (out-Tally t).below.items news within) h.form below).past no field.children raw h.below w.1;
 }
 
--- it is one too many in its own column
-pub adds_too_many : (t : Tally) (value : PlainValue) → Grows (out-Tally t).form value (out-Tally t).next None → Adds (value ∷ []) t t false
-adds_too_many t value grows = record {
+-- they are too many in their own column
+pub adds_too_many : (t : Tally) (values : List PlainValue) → Grows (out-Tally t).form values (out-Tally t).next None → Adds values t t false
+adds_too_many t values grows = record {
   depth = omega arith;
   held = λ field raw h. h;
   next = λ yes. absurd (false≢true yes);
-  past = λ _ field raw h w. subst (λ f. Grows f value (out-Tally t).next None) h.form grows raw h.own w.0;
+  past = λ _ field raw h w. subst (λ f. Grows f values (out-Tally t).next None) h.form grows raw h.own w.0;
 }
 
 -- the values with the next one
@@ -276,3 +280,40 @@ adds_stopped xs i d a b c h some one =
     subst (λ vs. Adds vs a c false) (ap (λ vs. vs ++ drop (suc i) (values_view xs)) (view_next xs i d h) ∙ take-append-drop (suc i) (values_view xs))
     (adds_past (take i (values_view xs) ++ value_view (get_or xs i d) ∷ []) (drop (suc i) (values_view xs)) a c
     (adds_then (take i (values_view xs)) (value_view (get_or xs i d) ∷ []) a b c false some one))
+
+-- what nulls of lists give to the child where offsets are stored
+pub offsets_of_nulls : (width : OffsetWidth) (count : ℕ) → all_items (lists.Offsets width) (replicate count null_value) ≡ []
+offsets_of_nulls width zero = refl
+offsets_of_nulls width (suc count) = offsets_of_nulls width count
+
+-- and in fixed-size lists
+pub sized_of_nulls : (size count : ℕ) → all_items (lists.Fixed size) (replicate count null_value) ≡ replicate (count * size) null_value
+sized_of_nulls size zero = let nothing : 0 ≡ 0 * size = omega arith in ap (λ n. replicate n null_value) nothing
+sized_of_nulls size (suc count) =
+    let steps : size + count * size ≡ suc count * size = grind arith in
+    ap (λ vs. replicate size null_value ++ vs) (sized_of_nulls size count) ∙ replicate-append-replicate size (count * size) null_value ∙ ap (λ n. replicate n null_value) steps
+
+-- nulls of structs give a null to each child
+pub structs_of_nulls : (k count : ℕ) → map (field_value k) (replicate count null_value) ≡ replicate count null_value
+structs_of_nulls k zero = refl
+structs_of_nulls k (suc count) = ap (λ vs. null_value ∷ vs) (structs_of_nulls k count)
+
+-- a column of another form has no children
+pub other_column : (form : Form) (k : ℕ) (raw : List PlainValue) → ((list : ListForm) → form ≡ forms.Lists list → ⊥) → (form ≡ forms.Structs → ⊥) → child_column form k raw ≡ []
+other_column forms.Nulls k raw no_lists no_structs = refl
+other_column forms.Bits k raw no_lists no_structs = refl
+other_column (forms.Numbers number) k raw no_lists no_structs = refl
+other_column (forms.Bytes width) k raw no_lists no_structs = refl
+other_column (forms.Texts width) k raw no_lists no_structs = refl
+other_column (forms.FixedBytes width) k raw no_lists no_structs = refl
+other_column (forms.Lists list) k raw no_lists no_structs = absurd (no_lists list refl)
+other_column forms.Structs k raw no_lists no_structs = absurd (no_structs refl)
+
+-- more nulls than a column has slots are too many
+pub nulls_past : (count : ℕ) (t : Tally) → 2147483647 < count → Adds (replicate count null_value) t t false
+nulls_past count t many = record {
+  depth = omega arith;
+  held = λ field raw h. h;
+  next = λ yes. absurd (false≢true yes);
+  past = λ _ field raw h w. omega (arith, many, w.0.few, length-append raw (replicate count null_value), length-replicate count null_value);
+}

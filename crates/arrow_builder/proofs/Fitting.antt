@@ -3,9 +3,14 @@ use Rattle.std.proofs.Common.{◌≡◌, List, [], ◌∷◌, length, refl, ap, 
 use Rattle.arrow_types.specs.View.{fields_view}
 use Rattle.arrow_types.specs.declared.field.Field.{Field}
 use Rattle.arrow_data.specs.Fits.{PartsFit}
-use Rattle.arrow_data.specs.PlainValue.{values_of}
+use Rattle.arrow_data.specs.PlainValue.{list_of_values, values_of}
 use Rattle.arrow_data.specs.Value.{values_view}
 use Rattle.arrow_data.specs.declared.value.Value.{Value}
+
+-- a list has as many items as it has values
+pub items_long : (items : List Value) → length (list_of_values (values_of (values_view items))) ≡ length items
+items_long [] = refl
+items_long (item ∷ items) = ap suc (items_long items)
 
 -- there are as many parts that fit as there are fields
 pub as_many_parts : (fields : List Field) (parts : List Value) → PartsFit (fields_view fields) (values_of (values_view parts))

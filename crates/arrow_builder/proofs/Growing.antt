@@ -7,8 +7,10 @@ use Rattle.arrow_data.specs.PlainValue.{PlainValue}
 use Rattle.arrow_data.specs.Slots.{slots}
 use Rattle.arrow_data.specs.declared.form.Form.{Form}
 use Rattle.arrow_data.specs.declared.form.Form.TheVariants as forms
+use Rattle.arrow_data.specs.declared.form.ListForm.{ListForm}
+use Rattle.arrow_data.specs.declared.form.ListForm.TheVariants as lists
 use Rattle.arrow_data.specs.declared.form.OffsetWidth.{OffsetWidth}
-use Rattle.arrow_builder.specs.Kept.{Keeps, KeepsParts, KeepsRanges}
+use Rattle.arrow_builder.specs.Kept.{Keeps, KeepsLists, KeepsParts, KeepsRanges}
 use Rattle.arrow_builder.specs.Puts.{PutsSlot, StaySlots}
 use Rattle.arrow_builder.proofs.Ranging.{place_below}
 
@@ -81,6 +83,14 @@ parts_fewer width at len top validity offsets le kept = record {
   inside = omega (arith, place_below width len validity offsets kept.ranges at le, kept.inside);
 }
 
+-- the items of fewer lists
+pub lists_fewer : (list : ListForm) (at len top : ℕ) (validity offsets : List ℕ) → at ≤ len → KeepsLists list len top validity offsets → KeepsLists list at top validity offsets
+lists_fewer (lists.Offsets width) at len top validity offsets le kept = parts_fewer width at len top validity offsets le kept
+lists_fewer (lists.Fixed size) at len top validity offsets le kept = record {
+  bits = omega (arith, le, kept.bits);
+  inside = omega (arith, times size at len le, kept.inside);
+}
+
 -- buffers and children hold fewer slots too
 pub keeps_fewer : (form : Form) (at len : ℕ) (b : List (List ℕ)) (counts : List ℕ) → at ≤ len → Keeps form len b counts → Keeps form at b counts
 keeps_fewer forms.Nulls at len b counts le kept = kept
@@ -95,5 +105,5 @@ keeps_fewer (forms.FixedBytes width) at len b counts le kept = record {
   bits = omega (arith, le, kept.bits);
   long = omega (arith, times width at len le, kept.long);
 }
-keeps_fewer (forms.Lists width) at len b counts le kept = parts_fewer width at len _ _ _ le kept
+keeps_fewer (forms.Lists list) at len b counts le kept = lists_fewer list at len _ _ _ le kept
 keeps_fewer forms.Structs at len b counts le kept = record { bits = omega (arith, le, kept.bits); longer = at_least_fewer at len counts le kept.longer }

@@ -1,26 +1,25 @@
 -- Children that begin with their columns.
 use Rattle.std.proofs.Common.{◌≡◌, ℕ, ◌+◌, ◌≤◌, List, [], ◌∷◌, ◌++◌, length, map, take, drop, refl, ap, sym, ◌∙◌, subst, arith, length-append, inl, inr}
 use Rattle.std.proofs.lemmas.Bool.{cases_lt}
-use Rattle.std.proofs.lemmas.List.{append_assoc, length-map, map-append, take-append-drop, take-append-le, take-take, take_all}
+use Rattle.std.proofs.lemmas.List.{append-nil, append_assoc, length-map, map-append, take-append-drop, take-append-le, take-take, take_all}
 use Rattle.std.proofs.Math.Seq.{take-append_seam}
-use Rattle.arrow_data.specs.Layout.{buffer}
-use Rattle.arrow_data.specs.PlainValue.{PlainValue, field_value, list_of_values, values_of}
+use Rattle.arrow_data.specs.Layout.{list_offsets}
+use Rattle.arrow_data.specs.PlainValue.{PlainValue, field_value}
 use Rattle.arrow_data.specs.Same.{Begins}
-use Rattle.arrow_data.specs.Slots.{place_of}
+use Rattle.arrow_data.specs.Slots.{item_place}
 use Rattle.arrow_data.specs.declared.form.Form.{Form}
 use Rattle.arrow_data.specs.declared.form.Form.TheVariants as forms
-use Rattle.arrow_data.specs.declared.form.OffsetWidth.{OffsetWidth}
-use Rattle.arrow_data.proofs.Lists.{list_again}
+use Rattle.arrow_data.specs.declared.form.ListForm.{ListForm}
+use Rattle.arrow_data.specs.declared.form.ListForm.TheVariants as lists
 use Rattle.arrow_builder.specs.Buffers.{IsLeaf}
-use Rattle.arrow_builder.specs.Built.{Built, cut_to, items_of, with_parts}
+use Rattle.arrow_builder.specs.Built.{Built, cut_to, given_items, with_parts}
 use Rattle.arrow_builder.specs.Columns.{AreHeld, all_items, child_column}
-use Rattle.arrow_builder.specs.Kept.{CountsItems, Keeps}
-use Rattle.arrow_builder.specs.Puts.{StayPlaces}
+use Rattle.arrow_builder.specs.Kept.{CountsItems, Keeps, KeepsLists}
 
 -- the items of more lists
-pub all_items_append : (xs ys : List PlainValue) → all_items (xs ++ ys) ≡ all_items xs ++ all_items ys
-all_items_append [] ys = refl
-all_items_append (x ∷ xs) ys = ap (λ vs. list_of_values (items_of x) ++ vs) (all_items_append xs ys) ∙ sym (append_assoc (list_of_values (items_of x)) (all_items xs) (all_items ys))
+pub all_items_append : (list : ListForm) (xs ys : List PlainValue) → all_items list (xs ++ ys) ≡ all_items list xs ++ all_items list ys
+all_items_append list [] ys = refl
+all_items_append list (x ∷ xs) ys = ap (λ vs. given_items list x ++ vs) (all_items_append list xs ys) ∙ sym (append_assoc (given_items list x) (all_items list xs) (all_items list ys))
 
 -- the column of a child by more values
 pub column_append : (form : Form) (k : ℕ) (xs ys : List PlainValue) → child_column form k (xs ++ ys) ≡ child_column form k xs ++ child_column form k ys
@@ -30,7 +29,7 @@ column_append (forms.Numbers number) k xs ys = refl
 column_append (forms.Bytes width) k xs ys = refl
 column_append (forms.Texts width) k xs ys = refl
 column_append (forms.FixedBytes width) k xs ys = refl
-column_append (forms.Lists width) k xs ys = all_items_append xs ys
+column_append (forms.Lists list) k xs ys = all_items_append list xs ys
 column_append forms.Structs k xs ys = map-append (field_value k) xs ys
 
 -- by none
@@ -41,7 +40,7 @@ column_of_none (forms.Numbers number) k = refl
 column_of_none (forms.Bytes width) k = refl
 column_of_none (forms.Texts width) k = refl
 column_of_none (forms.FixedBytes width) k = refl
-column_of_none (forms.Lists width) k = refl
+column_of_none (forms.Lists list) k = refl
 column_of_none forms.Structs k = refl
 
 -- of a node without children
@@ -52,7 +51,7 @@ leaf_column (forms.Numbers number) k raw leaf = refl
 leaf_column (forms.Bytes width) k raw leaf = refl
 leaf_column (forms.Texts width) k raw leaf = refl
 leaf_column (forms.FixedBytes width) k raw leaf = refl
-leaf_column (forms.Lists width) k raw leaf = absurd leaf
+leaf_column (forms.Lists list) k raw leaf = absurd leaf
 leaf_column forms.Structs k raw leaf = absurd leaf
 
 -- values begin with themselves
@@ -121,15 +120,11 @@ held_struct k at raw (b ∷ bs) v long h =
     (subst (Begins (map (field_value k) (raw ++ v ∷ []))) (sym own) (begins_self (map (field_value k) (raw ++ v ∷ []))), held_struct (k + 1) at raw bs v long h.1)
 
 -- the items with those of one list more
-pub items_grown : (start : ℕ) (raw child values : List PlainValue) (v : PlainValue) → start ≡ length (all_items raw) → Begins (all_items raw) child → values_of values ≡ items_of v
-    → take start child ++ values ≡ all_items (raw ++ v ∷ [])
-items_grown start raw child values v count held items =
-    let added : list_of_values (items_of v) ++ [] ≡ values = grind (arith, append_nil (list_of_values (items_of v)), ap list_of_values items, list_again values) in
-    (λ i. (ap (λ n. take n child) count ∙ held) i ++ sym added i) ∙ sym (all_items_append raw (v ∷ []))
-  where
-    append_nil : (xs : List PlainValue) → xs ++ [] ≡ xs
-    append_nil [] = refl
-    append_nil (x ∷ xs) = ap (λ ys. x ∷ ys) (append_nil xs)
+pub items_grown : (list : ListForm) (start : ℕ) (raw child values : List PlainValue) (v : PlainValue) → start ≡ length (all_items list raw) → Begins (all_items list raw) child
+    → values ≡ given_items list v → take start child ++ values ≡ all_items list (raw ++ v ∷ [])
+items_grown list start raw child values v count held items =
+    let added : values ≡ given_items list v ++ [] = items ∙ sym (append-nil (given_items list v)) in
+    (λ i. (ap (λ n. take n child) count ∙ held) i ++ added i) ∙ sym (all_items_append list raw (v ∷ []))
 
 -- the offsets of fewer lists
 pub counted_take : (form : Form) (at len : ℕ) (b : List (List ℕ)) (raw : List PlainValue) → at ≤ len → CountsItems form len b raw → CountsItems form at b (take at raw)
@@ -139,7 +134,7 @@ counted_take (forms.Numbers number) at len b raw le h = tt
 counted_take (forms.Bytes width) at len b raw le h = tt
 counted_take (forms.Texts width) at len b raw le h = tt
 counted_take (forms.FixedBytes width) at len b raw le h = tt
-counted_take (forms.Lists width) at len b raw le h = λ j inside. h j (omega (arith, le, inside)) ∙ ap (λ vs. length (all_items vs)) (sym (take-take j at raw inside))
+counted_take (forms.Lists list) at len b raw le h = λ j inside. h j (omega (arith, le, inside)) ∙ ap (λ vs. length (all_items list vs)) (sym (take-take j at raw inside))
 counted_take forms.Structs at len b raw le h = tt
 
 -- of a node without children nothing is said
@@ -150,20 +145,25 @@ counted_leaf (forms.Numbers number) len b raw leaf = tt
 counted_leaf (forms.Bytes width) len b raw leaf = tt
 counted_leaf (forms.Texts width) len b raw leaf = tt
 counted_leaf (forms.FixedBytes width) len b raw leaf = tt
-counted_leaf (forms.Lists width) len b raw leaf = absurd leaf
+counted_leaf (forms.Lists list) len b raw leaf = absurd leaf
 counted_leaf forms.Structs len b raw leaf = absurd leaf
 
 -- a list more
-pub counted_grows : (width : OffsetWidth) (at : ℕ) (old new : List ℕ) (raw : List PlainValue) (v : PlainValue) → length raw ≡ at
-    → ((j : ℕ) → j ≤ at → place_of width old j ≡ length (all_items (take j raw))) → StayPlaces width at old new → place_of width new (at + 1) ≡ length (all_items (raw ++ v ∷ []))
-    → (j : ℕ) → j ≤ at + 1 → place_of width new j ≡ length (all_items (take j (raw ++ v ∷ [])))
-counted_grows width at old new raw v long before same end j h = elim (cases_lt j (at + 1)) [ inl low ↦ same j (omega (arith, low)) ∙ before j (omega (arith, low)) ∙ ap (λ vs. length (all_items vs)) (sym (take-append-le j raw (v ∷ []) (omega (arith, low, long)))) | inr not ↦ last not ]
+pub counted_grows : (list : ListForm) (at : ℕ) (old new : List ℕ) (raw : List PlainValue) (v : PlainValue) → length raw ≡ at
+    → ((j : ℕ) → j ≤ at → item_place list old j ≡ length (all_items list (take j raw))) → ((j : ℕ) → j ≤ at → item_place list new j ≡ item_place list old j)
+    → item_place list new (at + 1) ≡ length (all_items list (raw ++ v ∷ [])) → (j : ℕ) → j ≤ at + 1 → item_place list new j ≡ length (all_items list (take j (raw ++ v ∷ [])))
+counted_grows list at old new raw v long before same end j h = elim (cases_lt j (at + 1)) [ inl low ↦ same j (omega (arith, low)) ∙ before j (omega (arith, low)) ∙ ap (λ vs. length (all_items list vs)) (sym (take-append-le j raw (v ∷ []) (omega (arith, low, long)))) | inr not ↦ last not ]
   where
-    last : at + 1 ≤ j → place_of width new j ≡ length (all_items (take j (raw ++ v ∷ [])))
+    last : at + 1 ≤ j → item_place list new j ≡ length (all_items list (take j (raw ++ v ∷ [])))
     last not =
         let here : j ≡ at + 1 = omega (arith, h, not) in
         let whole = take_all j (raw ++ v ∷ []) (omega (arith, here, long, length-append raw (v ∷ []))) in
-        ap (place_of width new) here ∙ end ∙ ap (λ vs. length (all_items vs)) (sym whole)
+        ap (item_place list new) here ∙ end ∙ ap (λ vs. length (all_items list vs)) (sym whole)
+
+-- the items of the first list begin at the first slot
+first_place : (list : ListForm) (top : ℕ) (validity offsets : List ℕ) → KeepsLists list 0 top validity offsets → item_place list offsets 0 ≡ 0
+first_place (lists.Offsets width) top validity offsets kept = kept.ranges.zero
+first_place (lists.Fixed size) top validity offsets kept = omega arith
 
 -- no lists have no items
 pub counted_none : (form : Form) (b : List (List ℕ)) → ((counts : List ℕ) → Keeps form 0 b counts) → CountsItems form 0 b []
@@ -173,6 +173,7 @@ counted_none (forms.Numbers number) b kept = tt
 counted_none (forms.Bytes width) b kept = tt
 counted_none (forms.Texts width) b kept = tt
 counted_none (forms.FixedBytes width) b kept = tt
-counted_none (forms.Lists width) b kept = λ j h.
-    let first : j ≡ 0 = omega (arith, h) in ap (place_of width (buffer b 1)) first ∙ (kept []).ranges.zero ∙ ap (λ n. length (all_items (take n []))) (sym first)
+counted_none (forms.Lists list) b kept = λ j h.
+    let first : j ≡ 0 = omega (arith, h) in
+    ap (item_place list (list_offsets list b)) first ∙ first_place list 0 _ (list_offsets list b) (kept []) ∙ ap (λ n. length (all_items list (take n []))) (sym first)
 counted_none forms.Structs b kept = tt

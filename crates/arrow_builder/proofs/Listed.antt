@@ -1,32 +1,36 @@
 -- Lists below a node.
-use Rattle.std.proofs.Common.{◌≡◌, ℕ, zero, suc, ◌+◌, ◌-◌, ◌<◌, ◌≤◌, List, [], ◌∷◌, ◌++◌, length, take, drop, get_or, refl, ap, sym, ◌∙◌, subst, arith, length-take, length-append, Option, None, Some}
-use Rattle.std.specs.Prelude.{slice_range, not}
+use Rattle.std.proofs.Common.{◌≡◌, ℕ, zero, suc, ◌+◌, ◌-◌, ◌*◌, ◌<◌, ◌≤◌, List, [], ◌∷◌, ◌++◌, length, take, drop, get_or, refl, ap, sym, ◌∙◌, subst, arith, length-take, length-append, Option, None, Some}
+use Rattle.std.specs.Prelude.{replicate, slice_range, not}
 use Rattle.std.specs.List.{AllByRecursion}
-use Rattle.std.proofs.lemmas.List.{append_assoc, drop-take, take-take, take_all}
+use Rattle.std.proofs.lemmas.List.{append_assoc, drop-take, length-replicate, replicate-append-replicate, take-take, take_all}
 use Rattle.std.proofs.Math.Seq.{drop-append_seam}
 use Rattle.arrow_types.specs.Field.{Fields, none, more}
 use Rattle.arrow_types.specs.DataType.{Tag}
 use Rattle.arrow_types.specs.declared.field.Encoding.{Encoding}
 use Rattle.arrow_data.specs.Fits.{Fits, ItemsFit}
 use Rattle.arrow_data.specs.Form.{HasFieldsOf, form_of, node_form}
-use Rattle.arrow_data.specs.PlainValue.{PlainValue, PlainValues, null_value, bool_value, int_value, binary_value, utf8_value, list_value, struct_value, is_null_value, values_of}
-use Rattle.arrow_data.specs.Slots.{list_slot, is_valid_at, or_null, place_of, range_of}
+use Rattle.arrow_data.specs.PlainValue.{PlainValue, PlainValues, null_value, bool_value, int_value, binary_value, utf8_value, list_of_values, list_value, struct_value, is_null_value, more_values, no_values, values_of}
+use Rattle.arrow_data.specs.Slots.{item_place, items_at, list_slot, is_valid_at, or_null}
 use Rattle.arrow_data.specs.declared.form.Form.TheVariants as forms
+use Rattle.arrow_data.specs.declared.form.ListForm.{ListForm}
+use Rattle.arrow_data.specs.declared.form.ListForm.TheVariants as lists
 use Rattle.arrow_data.specs.declared.form.OffsetWidth.{OffsetWidth}
+use Rattle.arrow_data.proofs.Lists.{list_again, values_again}
+use Rattle.arrow_data.proofs.Shown.{items_inside}
 use Rattle.arrow_data.specs.Value.{value_view, values_view}
 use Rattle.arrow_data.specs.declared.value.Value.{Value}
-use Rattle.arrow_builder.specs.Built.{Built, AreBelow, fields_in, items_of, with_value, with_values}
+use Rattle.arrow_builder.specs.Built.{Built, AreBelow, fields_in, given_items, items_of, sized_items, with_value, with_values}
 use Rattle.arrow_builder.specs.Fields.{FitsField}
-use Rattle.arrow_builder.specs.Kept.{KeepsRanges}
-use Rattle.arrow_builder.specs.Puts.{PutsSlot, PutsValid, StayPlaces, StaySlots}
+use Rattle.arrow_builder.specs.Kept.{KeepsLists}
+use Rattle.arrow_builder.specs.Puts.{PutsSlot, PutsValid, StaySlots}
 use Rattle.arrow_builder.proofs.Putting.{or_null_same}
 use Rattle.arrow_builder.proofs.Ranging.{place_below}
 use Rattle.arrow_builder.proofs.Nested.{take_front}
 
 -- a node of lists is not dictionary-encoded
-pub plain_list : (tag : Tag) (e : Option Encoding) (width : OffsetWidth) → node_form tag e ≡ forms.Lists width → (e ≡ None) × (form_of tag ≡ forms.Lists width)
-plain_list tag None width h = (refl, h)
-plain_list tag (Some e) width h = absurd (cc)
+pub plain_list : (tag : Tag) (e : Option Encoding) (list : ListForm) → node_form tag e ≡ forms.Lists list → (e ≡ None) × (form_of tag ≡ forms.Lists list)
+plain_list tag None list h = (refl, h)
+plain_list tag (Some e) list h = absurd (cc)
 
 -- nor is one of structs
 pub plain_struct : (tag : Tag) (e : Option Encoding) → node_form tag e ≡ forms.Structs → e ≡ None
@@ -39,36 +43,67 @@ pub record IsOnly (bs : List Built) (fields : Fields) : Type 0 where
   pub only : bs ≡ child ∷ []
   pub field : fields ≡ more child.field.head child.field.children none
 
-only_of : (bs : List Built) (fields : Fields) (width : OffsetWidth) → HasFieldsOf (forms.Lists width) fields → fields_in bs ≡ fields → IsOnly bs fields
-only_of [] none width one h = absurd one
-only_of [] (more head children rest) width one h = absurd (cc)
-only_of (b ∷ []) fields width one h = record { child = b; only = refl; field = sym h }
-only_of (b ∷ c ∷ bs) fields width one h = absurd (subst (HasFieldsOf (forms.Lists width)) (sym h) one)
+only_of : (bs : List Built) (fields : Fields) (list : ListForm) → HasFieldsOf (forms.Lists list) fields → fields_in bs ≡ fields → IsOnly bs fields
+only_of [] none list one h = absurd one
+only_of [] (more head children rest) list one h = absurd (cc)
+only_of (b ∷ []) fields list one h = record { child = b; only = refl; field = sym h }
+only_of (b ∷ c ∷ bs) fields list one h = absurd (subst (HasFieldsOf (forms.Lists list)) (sym h) one)
 
-pub only_child : (tag : Tag) (e : Option Encoding) (fields : Fields) (bs : List Built) (width : OffsetWidth) → node_form tag e ≡ forms.Lists width
+pub only_child : (tag : Tag) (e : Option Encoding) (fields : Fields) (bs : List Built) (list : ListForm) → node_form tag e ≡ forms.Lists list
     → HasFieldsOf (form_of tag) fields → AreBelow e fields bs → IsOnly bs fields
-only_child tag e fields bs width form own below =
-    let plain = plain_list tag e width form in
-    only_of bs fields width (subst (λ f. HasFieldsOf f fields) plain.1 own) (subst (λ e. AreBelow e fields bs) plain.0 below)
+only_child tag e fields bs list form own below =
+    let plain = plain_list tag e list form in
+    only_of bs fields list (subst (λ f. HasFieldsOf f fields) plain.1 own) (subst (λ e. AreBelow e fields bs) plain.0 below)
 
 -- items that fit
-items_all : (b : Built) (values : List PlainValue) → ItemsFit (more b.field.head b.field.children none) (values_of values) → AllByRecursion (FitsField b.field) values
-items_all b [] fit = tt
-items_all b (v ∷ values) fit = (fit.0, items_all b values fit.1)
+items_all : (b : Built) (items : PlainValues) → ItemsFit (more b.field.head b.field.children none) items → AllByRecursion (FitsField b.field) (list_of_values items)
+items_all b no_values fit = tt
+items_all b (more_values v items) fit = (fit.0, items_all b items fit.1)
+
+-- nulls fit every field
+nulls_fit : (b : Built) (count : ℕ) → AllByRecursion (FitsField b.field) (replicate count null_value)
+nulls_fit b zero = tt
+nulls_fit b (suc count) = (tt, nulls_fit b count)
+
+-- what a value that fits lists gives to the child
+pub given_fit : (b : Built) (fields : Fields) (list : ListForm) (v : PlainValue) → fields ≡ more b.field.head b.field.children none → Fits (forms.Lists list) fields v
+    → AllByRecursion (FitsField b.field) (given_items list v)
+given_fit b fields list v field fits = fit_of list v (subst (λ f. Fits (forms.Lists list) f v) field fits)
+  where
+    fit_of : (list : ListForm) (v : PlainValue) → Fits (forms.Lists list) (more b.field.head b.field.children none) v → AllByRecursion (FitsField b.field) (given_items list v)
+    fit_of (lists.Offsets width) null_value h = tt
+    fit_of (lists.Offsets width) (bool_value x) h = tt
+    fit_of (lists.Offsets width) (int_value z) h = tt
+    fit_of (lists.Offsets width) (binary_value x) h = tt
+    fit_of (lists.Offsets width) (utf8_value x) h = tt
+    fit_of (lists.Offsets width) (list_value vs) h = items_all b vs h.1
+    fit_of (lists.Offsets width) (struct_value vs) h = tt
+    fit_of (lists.Fixed size) null_value h = nulls_fit b size
+    fit_of (lists.Fixed size) (bool_value x) h = nulls_fit b size
+    fit_of (lists.Fixed size) (int_value z) h = nulls_fit b size
+    fit_of (lists.Fixed size) (binary_value x) h = nulls_fit b size
+    fit_of (lists.Fixed size) (utf8_value x) h = nulls_fit b size
+    fit_of (lists.Fixed size) (list_value vs) h = items_all b vs h.1
+    fit_of (lists.Fixed size) (struct_value vs) h = nulls_fit b size
+
+-- where offsets are stored these are the items
+pub items_given : (width : OffsetWidth) (v : PlainValue) (values : List PlainValue) → values_of values ≡ items_of v → values ≡ given_items (lists.Offsets width) v
+items_given width v values same = sym (list_again values) ∙ ap list_of_values same
 
 -- the items of a value that fits lists
 pub items_fit : (b : Built) (fields : Fields) (width : OffsetWidth) (v : PlainValue) (values : List PlainValue) → fields ≡ more b.field.head b.field.children none
-    → Fits (forms.Lists width) fields v → values_of values ≡ items_of v → AllByRecursion (FitsField b.field) values
-items_fit b fields width v values field fits same = items_all b values (subst (ItemsFit (more b.field.head b.field.children none)) (sym same) (subst (λ f. ItemsFit f (items_of v)) field (fit_of v fits)))
-  where
-    fit_of : (v : PlainValue) → Fits (forms.Lists width) fields v → ItemsFit fields (items_of v)
-    fit_of null_value h = tt
-    fit_of (bool_value b) h = tt
-    fit_of (int_value z) h = tt
-    fit_of (binary_value b) h = tt
-    fit_of (utf8_value b) h = tt
-    fit_of (list_value vs) h = h.1
-    fit_of (struct_value vs) h = tt
+    → Fits (forms.Lists (lists.Offsets width)) fields v → values_of values ≡ items_of v → AllByRecursion (FitsField b.field) values
+items_fit b fields width v values field fits same = subst (AllByRecursion (FitsField b.field)) (sym (items_given width v values same)) (given_fit b fields (lists.Offsets width) v field fits)
+
+-- a fixed-size list has so many items, and a null as many nulls
+pub sized_long : (size : ℕ) (fields : Fields) (v : PlainValue) → Fits (forms.Lists (lists.Fixed size)) fields v → length (sized_items size v) ≡ size
+sized_long size fields null_value fit = length-replicate size null_value
+sized_long size fields (bool_value b) fit = length-replicate size null_value
+sized_long size fields (int_value z) fit = length-replicate size null_value
+sized_long size fields (binary_value b) fit = length-replicate size null_value
+sized_long size fields (utf8_value b) fit = length-replicate size null_value
+sized_long size fields (list_value items) fit = fit.0
+sized_long size fields (struct_value parts) fit = length-replicate size null_value
 
 -- a part of what stands in front
 in_front : (xs : List PlainValue) (n start stop : ℕ) → start ≤ stop → stop ≤ n → take (stop - start) (drop start (take n xs)) ≡ take (stop - start) (drop start xs)
@@ -88,45 +123,65 @@ range_put front values start stop long end =
     let behind : drop start (front ++ values) ≡ values = ap (λ n. drop n (front ++ values)) (sym long) ∙ drop-append_seam front values in
     (λ i. take (size i) (behind i)) ∙ take_all (length values) values (omega arith)
 
+-- the items of the first `at` lists begin where they did
+abbrev pub StayItems : ListForm → ℕ → List ℕ → List ℕ → Type 0
+StayItems list at old new = (j : ℕ) → j ≤ at → item_place list new j ≡ item_place list old j
+
+-- each list ends behind its begin, and not behind the last one
+pub items_within : (list : ListForm) (at top : ℕ) (validity offsets : List ℕ) → KeepsLists list at top validity offsets → (j : ℕ) → j < at
+    → (item_place list offsets j ≤ item_place list offsets (j + 1)) × (item_place list offsets (j + 1) ≤ item_place list offsets at)
+items_within (lists.Offsets width) at top validity offsets kept j h = (kept.ranges.never j h, place_below width at validity offsets kept.ranges (j + 1) (omega (arith, h)))
+items_within (lists.Fixed size) at top validity offsets kept j h = items_inside size j at (size * at) h (omega arith)
+
+-- and the last one in the child
+pub items_end : (list : ListForm) (at top : ℕ) (validity offsets : List ℕ) → KeepsLists list at top validity offsets → item_place list offsets at ≤ top
+items_end (lists.Offsets width) at top validity offsets kept = kept.inside
+items_end (lists.Fixed size) at top validity offsets kept = kept.inside
+
 -- the lists of the first slots stay where the child's first values do
-pub lists_stay : (width : OffsetWidth) (at : ℕ) (validity validity' offsets offsets' : List ℕ) (child child' : List PlainValue) → KeepsRanges width at validity offsets
-    → ((j : ℕ) → j < at → is_valid_at validity' j ≡ is_valid_at validity j) → StayPlaces width at offsets offsets'
-    → take (place_of width offsets at) child' ≡ take (place_of width offsets at) child
-    → StaySlots at (λ j. list_slot width validity offsets child j) (λ j. list_slot width validity' offsets' child' j)
-lists_stay width at validity validity' offsets offsets' child child' kept valid same start j h =
-    or_null_same validity validity' j (list_value (values_of (range_of width offsets child j))) (list_value (values_of (range_of width offsets' child' j))) (valid j h)
+pub lists_stay : (list : ListForm) (at top : ℕ) (validity validity' offsets offsets' : List ℕ) (child child' : List PlainValue) → KeepsLists list at top validity offsets
+    → ((j : ℕ) → j < at → is_valid_at validity' j ≡ is_valid_at validity j) → StayItems list at offsets offsets'
+    → take (item_place list offsets at) child' ≡ take (item_place list offsets at) child
+    → StaySlots at (λ j. list_slot list validity offsets child j) (λ j. list_slot list validity' offsets' child' j)
+lists_stay list at top validity validity' offsets offsets' child child' kept valid same start j h =
+    let order = items_within list at top validity offsets kept j h in
+    or_null_same validity validity' j (list_value (values_of (items_at list offsets child j))) (list_value (values_of (items_at list offsets' child' j))) (valid j h)
     (ap (λ vs. list_value (values_of vs))
     ((λ i. slice_range child' (same j (omega (arith, h)) i) (same (j + 1) (omega (arith, h)) i))
-    ∙ range_front child' child (place_of width offsets at) (place_of width offsets j) (place_of width offsets (j + 1)) start (kept.never j h)
-    (place_below width at validity offsets kept (j + 1) (omega (arith, h)))))
+    ∙ range_front child' child (item_place list offsets at) (item_place list offsets j) (item_place list offsets (j + 1)) start order.0 order.1))
+
+-- what a list gives are its items
+list_given : (list : ListForm) (items : PlainValues) → given_items list (list_value items) ≡ list_of_values items
+list_given (lists.Offsets width) items = refl
+list_given (lists.Fixed size) items = refl
 
 -- the list of a slot
-list_in_slot : (v : PlainValue) (fields : Fields) (width : OffsetWidth) (validity : List ℕ) (at : ℕ) (vs : List PlainValue) → Fits (forms.Lists width) fields v
-    → is_valid_at validity at ≡ not (is_null_value v) → values_of vs ≡ items_of v → or_null validity at (list_value (values_of vs)) ≡ v
-list_in_slot null_value fields width validity at vs fit valid same = rw valid refl
-list_in_slot (bool_value b) fields width validity at vs fit valid same = absurd (cc)
-list_in_slot (int_value z) fields width validity at vs fit valid same = absurd fit
-list_in_slot (binary_value b) fields width validity at vs fit valid same = absurd fit
-list_in_slot (utf8_value b) fields width validity at vs fit valid same = absurd fit
-list_in_slot (list_value items) fields width validity at vs fit valid same = rw valid (ap list_value same)
-list_in_slot (struct_value parts) fields width validity at vs fit valid same = let e = fit.0 in absurd (cc)
+list_in_slot : (v : PlainValue) (fields : Fields) (list : ListForm) (validity : List ℕ) (at : ℕ) (vs : List PlainValue) → Fits (forms.Lists list) fields v
+    → is_valid_at validity at ≡ not (is_null_value v) → vs ≡ given_items list v → or_null validity at (list_value (values_of vs)) ≡ v
+list_in_slot null_value fields list validity at vs fit valid same = rw valid refl
+list_in_slot (bool_value b) fields list validity at vs fit valid same = absurd (cc)
+list_in_slot (int_value z) fields list validity at vs fit valid same = absurd fit
+list_in_slot (binary_value b) fields list validity at vs fit valid same = absurd fit
+list_in_slot (utf8_value b) fields list validity at vs fit valid same = absurd fit
+list_in_slot (list_value items) fields list validity at vs fit valid same = rw valid (ap list_value (ap values_of (same ∙ list_given list items) ∙ values_again items))
+list_in_slot (struct_value parts) fields list validity at vs fit valid same = let e = fit.0 in absurd (cc)
 
 -- a list more
-pub lists_put : (width : OffsetWidth) (at : ℕ) (fields : Fields) (v : PlainValue) (validity validity' offsets offsets' : List ℕ) (child values : List PlainValue)
-    → KeepsRanges width at validity offsets → PutsValid at (not (is_null_value v)) validity validity' → StayPlaces width at offsets offsets'
-    → place_of width offsets at ≤ length child → place_of width offsets' (at + 1) ≡ length (take (place_of width offsets at) child ++ values)
-    → Fits (forms.Lists width) fields v → values_of values ≡ items_of v
-    → PutsSlot at v (λ j. list_slot width validity offsets child j) (λ j. list_slot width validity' offsets' (take (place_of width offsets at) child ++ values) j)
-lists_put width at fields v validity validity' offsets offsets' child values kept valid same inside end fits items =
-    let start = place_of width offsets at in
+pub lists_put : (list : ListForm) (at : ℕ) (fields : Fields) (v : PlainValue) (validity validity' offsets offsets' : List ℕ) (child values : List PlainValue)
+    → KeepsLists list at (length child) validity offsets → PutsValid at (not (is_null_value v)) validity validity' → StayItems list at offsets offsets'
+    → item_place list offsets' (at + 1) ≡ length (take (item_place list offsets at) child ++ values) → Fits (forms.Lists list) fields v → values ≡ given_items list v
+    → PutsSlot at v (λ j. list_slot list validity offsets child j) (λ j. list_slot list validity' offsets' (take (item_place list offsets at) child ++ values) j)
+lists_put list at fields v validity validity' offsets offsets' child values kept valid same end fits items =
+    let start = item_place list offsets at in
+    let inside = items_end list at (length child) validity offsets kept in
     let front : length (take start child) ≡ start = grind (arith, length-take, inside) in
     let new = take start child ++ values in
     let here = same at (omega arith) in
-    let stop : place_of width offsets' (at + 1) ≡ start + length values = end ∙ length-append (take start child) values ∙ ap (λ n. n + length values) front in
-    let range : range_of width offsets' new at ≡ values = ap (λ n. slice_range new n (place_of width offsets' (at + 1))) here ∙ range_put (take start child) values start (place_of width offsets' (at + 1)) front stop in
+    let stop : item_place list offsets' (at + 1) ≡ start + length values = end ∙ length-append (take start child) values ∙ ap (λ n. n + length values) front in
+    let range : items_at list offsets' new at ≡ values = ap (λ n. slice_range new n (item_place list offsets' (at + 1))) here ∙ range_put (take start child) values start (item_place list offsets' (at + 1)) front stop in
     record {
-      same = lists_stay width at validity validity' offsets offsets' child new kept valid.same same (take_front start child values inside);
-      put = ap (λ vs. or_null validity' at (list_value (values_of vs))) range ∙ list_in_slot v fields width validity' at values fits valid.put items;
+      same = lists_stay list at (length child) validity validity' offsets offsets' child new kept valid.same same (take_front start child values inside);
+      put = ap (λ vs. or_null validity' at (list_value (values_of vs))) range ∙ list_in_slot v fields list validity' at values fits valid.put items;
     }
 
 -- the struct of a slot
@@ -156,3 +211,7 @@ pub items_more : (b : Built) (xs : List Value) (i : ℕ) (d : Value) → i < len
 items_more b xs i d h =
     let next : suc i ≡ i + 1 = omega arith in
     ap (λ raw. record { field = b.field; raw = raw }) (append_assoc b.raw (take i (values_view xs)) (value_view (get_or xs i d) ∷ []) ∙ ap (λ vs. b.raw ++ vs) (take_view xs i d h ∙ ap (λ n. take n (values_view xs)) next))
+
+-- one more null
+pub nulls_more : (b : Built) (i : ℕ) → with_value (with_values b (replicate i null_value)) null_value ≡ with_values b (replicate (i + 1) null_value)
+nulls_more b i = ap (λ raw. record { field = b.field; raw = raw }) (append_assoc b.raw (replicate i null_value) (null_value ∷ []) ∙ ap (λ vs. b.raw ++ vs) (replicate-append-replicate i 1 null_value))

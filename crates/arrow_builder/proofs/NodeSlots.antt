@@ -91,7 +91,7 @@ leaf_keeps (forms.Numbers number) len b counts others leaf kept = kept
 leaf_keeps (forms.Bytes width) len b counts others leaf kept = kept
 leaf_keeps (forms.Texts width) len b counts others leaf kept = kept
 leaf_keeps (forms.FixedBytes width) len b counts others leaf kept = kept
-leaf_keeps (forms.Lists width) len b counts others leaf kept = absurd leaf
+leaf_keeps (forms.Lists list) len b counts others leaf kept = absurd leaf
 leaf_keeps forms.Structs len b counts others leaf kept = absurd leaf
 
 -- the same slots of a node without children

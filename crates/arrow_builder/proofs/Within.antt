@@ -1,9 +1,12 @@
 -- Columns that pass no limit.
-use Rattle.std.proofs.Common.{◌≡◌, ℕ, ◌+◌, ◌≤◌, List, [], ◌∷◌, ◌++◌, length, subst, arith, length-append}
+use Rattle.std.proofs.Common.{◌≡◌, ℕ, zero, suc, ◌+◌, ◌*◌, ◌≤◌, List, [], ◌∷◌, ◌++◌, length, replicate, subst, arith, length-append}
+use Rattle.std.proofs.lemmas.List.{length-replicate}
 use Rattle.arrow_types.specs.Field.{Fields, FieldShape, none, more}
 use Rattle.arrow_data.specs.Form.{node_form}
-use Rattle.arrow_data.specs.PlainValue.{PlainValue}
+use Rattle.arrow_data.specs.PlainValue.{PlainValue, null_value}
 use Rattle.arrow_data.specs.declared.form.Form.{Form}
+use Rattle.arrow_data.specs.declared.form.Form.TheVariants as forms
+use Rattle.arrow_data.specs.declared.form.OffsetWidth.TheVariants.{Small, Large}
 use Rattle.arrow_builder.specs.Columns.{AllBelow, AllNodes, child_column}
 use Rattle.arrow_builder.specs.Fields.{field_form}
 use Rattle.arrow_builder.specs.Tally.{IsTotal}
@@ -57,4 +60,32 @@ pub total_past : (form : Form) (raw : List PlainValue) (value : PlainValue) (tot
 total_past form raw value total h long short = long (
   omega (arith, h.slots, short.few, length-append raw (value ∷ [])),
   omega (arith, h.bytes, short.near, data_append form raw (value ∷ [])),
+)
+
+-- no column has more bytes of data
+pub most_low : (form : Form) → most_bytes form ≤ 1099511627776
+most_low forms.Nulls = omega arith
+most_low forms.Bits = omega arith
+most_low (forms.Numbers number) = omega arith
+most_low (forms.Bytes Small) = omega arith
+most_low (forms.Bytes Large) = omega arith
+most_low (forms.Texts Small) = omega arith
+most_low (forms.Texts Large) = omega arith
+most_low (forms.FixedBytes width) = omega arith
+most_low (forms.Lists list) = omega arith
+most_low forms.Structs = omega arith
+
+-- the data of nulls
+data_of_nulls : (form : Form) (count : ℕ) → data_bytes form (replicate count null_value) ≡ slot_bytes form null_value * count
+data_of_nulls form zero = omega arith
+data_of_nulls form (suc count) =
+    let steps : slot_bytes form null_value * suc count ≡ slot_bytes form null_value + slot_bytes form null_value * count = grind arith in
+    omega (arith, steps, data_of_nulls form count)
+
+-- the total with nulls
+pub total_nulls : (form : Form) (raw : List PlainValue) (count : ℕ) (total : Total) → IsTotal form raw total
+    → (total.slots + count ≡ length (raw ++ replicate count null_value)) × (total.bytes + slot_bytes form null_value * count ≡ data_bytes form (raw ++ replicate count null_value))
+total_nulls form raw count total h = (
+  omega (arith, h.slots, length-append raw (replicate count null_value), length-replicate count null_value),
+  omega (arith, h.bytes, data_append form raw (replicate count null_value), data_of_nulls form count),
 )

@@ -16,5 +16,5 @@ IsLeaf (forms.Numbers number) = ⊤
 IsLeaf (forms.Bytes width) = ⊤
 IsLeaf (forms.Texts width) = ⊤
 IsLeaf (forms.FixedBytes width) = ⊤
-IsLeaf (forms.Lists width) = ⊥
+IsLeaf (forms.Lists list) = ⊥
 IsLeaf forms.Structs = ⊥

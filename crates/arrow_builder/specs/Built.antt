@@ -1,13 +1,15 @@
 -- A column as far as it is built: what contracts see of it.
-use Rattle.std.specs.Prelude.{◌≡◌, ◌≤◌, ◌+◌, ℕ, false, List, [], ◌∷◌, ◌++◌, length, map, take, Option, None, Some, refl}
+use Rattle.std.specs.Prelude.{◌≡◌, ◌≤◌, ◌+◌, ℕ, false, List, [], ◌∷◌, ◌++◌, length, map, replicate, take, Option, None, Some, refl}
 use Rattle.std.specs.Coded.{Coded, code_by, coded×, coded_list}
 use Rattle.std.specs.List.{AllByRecursion}
 use Rattle.arrow_types.specs.Field.{Fields, FieldShape, fields_of, levels}
 use Rattle.arrow_types.specs.Schema.{has_encoding}
 use Rattle.arrow_types.specs.Stored.{field_code}
 use Rattle.arrow_types.specs.declared.field.Encoding.{Encoding}
-use Rattle.arrow_data.specs.PlainValue.{PlainValue, PlainValues, null_value, bool_value, int_value, binary_value, utf8_value, list_value, struct_value, no_values, field_value}
+use Rattle.arrow_data.specs.PlainValue.{PlainValue, PlainValues, null_value, bool_value, int_value, binary_value, utf8_value, list_of_values, list_value, struct_value, no_values, field_value}
 use Rattle.arrow_data.specs.Stored.{value_code}
+use Rattle.arrow_data.specs.declared.form.ListForm.{ListForm}
+use Rattle.arrow_data.specs.declared.form.ListForm.TheVariants as lists
 
 -- the field, and the raw values so far
 pub record Built : Type 0 where
@@ -74,3 +76,19 @@ items_of (binary_value bytes) = no_values
 items_of (utf8_value bytes) = no_values
 items_of (list_value items) = items
 items_of (struct_value parts) = no_values
+
+-- The items of a fixed-size list, and as many nulls for a null: the child has slots for it too (Columnar Format, "Fixed-Size
+-- List Layout"). So for any other value, which is none of such lists.
+abbrev pub sized_items : ℕ → PlainValue → List PlainValue
+sized_items size null_value = replicate size null_value
+sized_items size (bool_value b) = replicate size null_value
+sized_items size (int_value z) = replicate size null_value
+sized_items size (binary_value bytes) = replicate size null_value
+sized_items size (utf8_value bytes) = replicate size null_value
+sized_items size (list_value items) = list_of_values items
+sized_items size (struct_value parts) = replicate size null_value
+
+-- what a value of a node of lists gives to the child: its items, where offsets are stored none for a null
+abbrev pub given_items : ListForm → PlainValue → List PlainValue
+given_items (lists.Offsets width) value = list_of_values (items_of value)
+given_items (lists.Fixed size) value = sized_items size value

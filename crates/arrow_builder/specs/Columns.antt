@@ -1,20 +1,21 @@
 -- The columns of all nodes of a field, by the raw values of its own: what each child has in its slots (Columnar Format,
--- "Variable-size List Layout" and "Struct Layout").
+-- "Variable-size List Layout", "Fixed-Size List Layout" and "Struct Layout").
 use Rattle.std.specs.Prelude.{◌+◌, ℕ, List, [], ◌∷◌, ◌++◌, length, map, take, ⊤}
 use Rattle.std.specs.List.{range_with_len}
 use Rattle.arrow_types.specs.Field.{Fields, FieldShape, Head, none, more}
 use Rattle.arrow_data.specs.Form.{node_form}
-use Rattle.arrow_data.specs.PlainValue.{PlainValue, list_of_values, field_value}
+use Rattle.arrow_data.specs.PlainValue.{PlainValue, field_value}
 use Rattle.arrow_data.specs.Same.{Begins}
 use Rattle.arrow_data.specs.declared.form.Form.{Form}
 use Rattle.arrow_data.specs.declared.form.Form.TheVariants as forms
-use Rattle.arrow_builder.specs.Built.{Built, items_of}
+use Rattle.arrow_data.specs.declared.form.ListForm.{ListForm}
+use Rattle.arrow_builder.specs.Built.{Built, given_items}
 use Rattle.arrow_builder.specs.Fields.{field_form}
 
--- the items of all lists, one list after another
-abbrev pub all_items : List PlainValue → List PlainValue
-all_items [] = []
-all_items (value ∷ values) = list_of_values (items_of value) ++ all_items values
+-- the items of all lists, one list after another; with nulls for a null in fixed-size lists
+abbrev pub all_items : ListForm → List PlainValue → List PlainValue
+all_items list [] = []
+all_items list (value ∷ values) = given_items list value ++ all_items list values
 
 -- The column of child k of a node of the form: of lists all their items, of structs the values of field k, with a null for a
 -- struct that is null. Other forms have no children.
@@ -25,7 +26,7 @@ child_column (forms.Numbers number) k raw = []
 child_column (forms.Bytes width) k raw = []
 child_column (forms.Texts width) k raw = []
 child_column (forms.FixedBytes width) k raw = []
-child_column (forms.Lists width) k raw = all_items raw
+child_column (forms.Lists list) k raw = all_items list raw
 child_column forms.Structs k raw = map (field_value k) raw
 
 -- The offsets of a node of the form: how many items all lists before each slot have, and all lists at the end. Other forms
@@ -37,7 +38,7 @@ item_offsets (forms.Numbers number) raw = []
 item_offsets (forms.Bytes width) raw = []
 item_offsets (forms.Texts width) raw = []
 item_offsets (forms.FixedBytes width) raw = []
-item_offsets (forms.Lists width) raw = map (λ j. length (all_items (take j raw))) (range_with_len 0 (length raw + 1))
+item_offsets (forms.Lists list) raw = map (λ j. length (all_items list (take j raw))) (range_with_len 0 (length raw + 1))
 item_offsets forms.Structs raw = []
 
 -- the columns of the children with these fields, the first of them child k

@@ -3,11 +3,13 @@
 use Rattle.std.specs.Prelude.{◌≡◌, ◌≤◌, ◌<◌, ◌+◌, ◌-◌, ◌*◌, ◌^◌, ℕ, List, length, take, ⊤}
 use Rattle.std.specs.List.{AllByRecursion}
 use Rattle.arrow_data.specs.Form.{number_width, offset_bytes}
-use Rattle.arrow_data.specs.Layout.{buffer, child_count}
+use Rattle.arrow_data.specs.Layout.{buffer, child_count, list_offsets}
 use Rattle.arrow_data.specs.PlainValue.{PlainValue}
-use Rattle.arrow_data.specs.Slots.{place_of}
+use Rattle.arrow_data.specs.Slots.{item_place, place_of}
 use Rattle.arrow_data.specs.declared.form.Form.{Form}
 use Rattle.arrow_data.specs.declared.form.Form.TheVariants as forms
+use Rattle.arrow_data.specs.declared.form.ListForm.{ListForm}
+use Rattle.arrow_data.specs.declared.form.ListForm.TheVariants as lists
 use Rattle.arrow_data.specs.declared.form.OffsetWidth.{OffsetWidth}
 use Rattle.arrow_builder.specs.Columns.{all_items}
 
@@ -39,6 +41,17 @@ pub record KeepsParts (width : OffsetWidth) (len top : ℕ) (validity offsets : 
   pub ranges : KeepsRanges width len validity offsets
   pub inside : place_of width offsets len ≤ top
 
+-- there is a validity bit for each slot, and of `top` slots of a child so many for each list (Columnar Format, "Fixed-Size
+-- List Layout")
+pub record KeepsSized (size len top : ℕ) (validity : List ℕ) : Type 0 where
+  pub bits : len ≤ 8 * length validity
+  pub inside : size * len ≤ top
+
+-- lists have their ranges of the child's `top` slots
+abbrev pub KeepsLists : ListForm → ℕ → ℕ → List ℕ → List ℕ → Type 0
+KeepsLists (lists.Offsets width) len top validity offsets = KeepsParts width len top validity offsets
+KeepsLists (lists.Fixed size) len top validity offsets = KeepsSized size len top validity
+
 -- there is a validity bit for each slot, and each child has the slot
 pub record KeepsStructs (len : ℕ) (validity counts : List ℕ) : Type 0 where
   pub bits : len ≤ 8 * length validity
@@ -52,10 +65,11 @@ Keeps (forms.Numbers number) len b counts = KeepsFixed len (number_width number)
 Keeps (forms.Bytes width) len b counts = KeepsParts width len (length (buffer b 2)) (buffer b 0) (buffer b 1)
 Keeps (forms.Texts width) len b counts = KeepsParts width len (length (buffer b 2)) (buffer b 0) (buffer b 1)
 Keeps (forms.FixedBytes width) len b counts = KeepsFixed len width (buffer b 0) (buffer b 1)
-Keeps (forms.Lists width) len b counts = KeepsParts width len (child_count counts) (buffer b 0) (buffer b 1)
+Keeps (forms.Lists list) len b counts = KeepsLists list len (child_count counts) (buffer b 0) (list_offsets list b)
 Keeps forms.Structs len b counts = KeepsStructs len (buffer b 0) counts
 
--- offset j is the number of items of the first j lists (Columnar Format, "Variable-size List Layout"); of other forms nothing
+-- the items of slot j begin after those of the first j lists (Columnar Format, "Variable-size List Layout", "Fixed-Size List
+-- Layout"); of other forms nothing
 abbrev pub CountsItems : Form → ℕ → List (List ℕ) → List PlainValue → Type 0
 CountsItems forms.Nulls len b raw = ⊤
 CountsItems forms.Bits len b raw = ⊤
@@ -63,5 +77,5 @@ CountsItems (forms.Numbers number) len b raw = ⊤
 CountsItems (forms.Bytes width) len b raw = ⊤
 CountsItems (forms.Texts width) len b raw = ⊤
 CountsItems (forms.FixedBytes width) len b raw = ⊤
-CountsItems (forms.Lists width) len b raw = (j : ℕ) → j ≤ len → place_of width (buffer b 1) j ≡ length (all_items (take j raw))
+CountsItems (forms.Lists list) len b raw = (j : ℕ) → j ≤ len → item_place list (list_offsets list b) j ≡ length (all_items list (take j raw))
 CountsItems forms.Structs len b raw = ⊤

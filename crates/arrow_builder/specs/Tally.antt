@@ -39,10 +39,10 @@ pub record IsCounted (next : Bool) (field : FieldShape) (raw : List PlainValue) 
   pub own : IsTotal (field_form field) raw (total_of next t)
   pub below : AreCounted next (field_form field) field.children 0 raw (out-Tally t).below.items
 
--- the total with one more value, or none where a limit would be passed
-abbrev pub Grows : Form → PlainValue → Total → Option Total → Type 0
-Grows form value total None = (raw : List PlainValue) → IsTotal form raw total → IsShort form (raw ++ value ∷ []) → ⊥
-Grows form value total (Some grown) = (raw : List PlainValue) → IsTotal form raw total → IsTotal form (raw ++ value ∷ []) grown
+-- the total with more values, or none where a limit would be passed
+abbrev pub Grows : Form → List PlainValue → Total → Option Total → Type 0
+Grows form values total None = (raw : List PlainValue) → IsTotal form raw total → IsShort form (raw ++ values) → ⊥
+Grows form values total (Some grown) = (raw : List PlainValue) → IsTotal form raw total → IsTotal form (raw ++ values) grown
 
 -- The values were counted behind the others, or some column would pass a limit with them. What is held stays.
 pub record Adds (values : List PlainValue) (old new : Tally) (within : Bool) : Type 0 where
@@ -51,12 +51,12 @@ pub record Adds (values : List PlainValue) (old new : Tally) (within : Bool) : T
   pub next : within ≡ true → (field : FieldShape) (raw : List PlainValue) → IsCounted true field raw old → IsCounted true field (raw ++ values) new
   pub past : within ≡ false → (field : FieldShape) (raw : List PlainValue) → IsCounted true field raw old → AllNodes IsShortNode field (raw ++ values) → ⊥
 
--- so of the children of a node of the form, by one more value of its own
-pub record AddsBelow (form : Form) (value : PlainValue) (old new : List Tally) (within : Bool) : Type 0 where
+-- so of the children of a node of the form, by more values of its own
+pub record AddsBelow (form : Form) (values : List PlainValue) (old new : List Tally) (within : Bool) : Type 0 where
   pub depth : most size-Tally new ≤ most size-Tally old
   pub held : (fields : Fields) (k : ℕ) (raw : List PlainValue) (f : Form) → AreCounted false f fields k raw old → AreCounted false f fields k raw new
-  pub next : within ≡ true → (fields : Fields) (raw : List PlainValue) → AreCounted true form fields 0 raw old → AreCounted true form fields 0 (raw ++ value ∷ []) new
-  pub past : within ≡ false → (fields : Fields) (raw : List PlainValue) → AreCounted true form fields 0 raw old → AllBelow IsShortNode form fields 0 (raw ++ value ∷ []) → ⊥
+  pub next : within ≡ true → (fields : Fields) (raw : List PlainValue) → AreCounted true form fields 0 raw old → AreCounted true form fields 0 (raw ++ values) new
+  pub past : within ≡ false → (fields : Fields) (raw : List PlainValue) → AreCounted true form fields 0 raw old → AllBelow IsShortNode form fields 0 (raw ++ values) → ⊥
 
 -- the totals of one kind are those of both kinds from now on
 abbrev pub Settles : Bool → Tally → Tally → Type 0

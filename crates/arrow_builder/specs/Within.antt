@@ -31,7 +31,7 @@ slot_bytes (forms.Numbers number) value = 0
 slot_bytes (forms.Bytes width) value = value_bytes value
 slot_bytes (forms.Texts width) value = value_bytes value
 slot_bytes (forms.FixedBytes width) value = width
-slot_bytes (forms.Lists width) value = 0
+slot_bytes (forms.Lists list) value = 0
 slot_bytes forms.Structs value = 0
 
 -- how many all of them take
@@ -52,7 +52,7 @@ most_bytes (forms.Numbers number) = 0
 most_bytes (forms.Bytes width) = most_behind width
 most_bytes (forms.Texts width) = most_behind width
 most_bytes (forms.FixedBytes width) = 2 ^ 40
-most_bytes (forms.Lists width) = 0
+most_bytes (forms.Lists list) = 0
 most_bytes forms.Structs = 0
 
 -- a node of the form passes no limit by these values

@@ -9,7 +9,7 @@ ghost use Rattle.arrow_types.specs.View.{field_view, fields_view};
 
 use crate::node::Node;
 use crate::slots::Buffers;
-use arrow_data::form::{Form, OffsetWidth, form_of, node_form};
+use arrow_data::form::{Form, ListForm, OffsetWidth, form_of, node_form};
 use arrow_types::Field;
 use std::alloc::{AllocError, Global};
 
@@ -65,9 +65,8 @@ fn no_slots(alloc: Global, form: Form) -> Result<Buffers, AllocError>
     Ok(Buffers {
         validity: Vec::new(alloc),
         values: match form {
-            Form::Bytes(width) | Form::Texts(width) | Form::Lists(width) => {
-                first_offset(alloc, width)?
-            }
+            Form::Bytes(width) | Form::Texts(width) | Form::Lists(ListForm::Offsets(width)) =>
+                first_offset(alloc, width)?,
             _ => Vec::new(alloc),
         },
         bytes: Vec::new(alloc),

@@ -73,7 +73,8 @@ impl ArrayBuilder {
     /// with it; and else that there is no memory for it. After every fault the builder is as it was.
     ///
     /// A column has at most 2,147,483,647 slots. One of `Binary` or `Utf8` has at most as many bytes
-    /// of data, one of `LargeBinary`, `LargeUtf8` or `FixedSizeBinary` at most 2^40.
+    /// of data, one of `LargeBinary`, `LargeUtf8` or `FixedSizeBinary` at most 2^40. A null of
+    /// `FixedSizeList` takes as many slots below it as a list ("Fixed-Size List Layout").
     pub fn push(&mut self, value: &Value) -> Result<(), PushFault>
         ensures ok { OnOk result (self.new ≡ with_value self.old (value_view value.now)) }
         ensures err { OnErr result (self.new ≡ self.old) }

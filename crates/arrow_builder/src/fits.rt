@@ -1,9 +1,9 @@
 //! Whether a value fits a column.
 
-ghost use Rattle.std.specs.Prelude.{◌↔◌, IsTrue};
+ghost use Rattle.std.specs.Prelude.{◌↔◌, IsTrue, length};
 ghost use Rattle.arrow_data.specs.Fits.{HoldsBinary, HoldsInt, HoldsUtf8, ItemsFit, PartsFit};
-ghost use Rattle.arrow_data.specs.Form.{int_width};
-ghost use Rattle.arrow_data.specs.PlainValue.{values_of};
+ghost use Rattle.arrow_data.specs.Form.{HoldsList, int_width};
+ghost use Rattle.arrow_data.specs.PlainValue.{list_of_values, values_of};
 ghost use Rattle.arrow_data.specs.Value.{value_view, values_view};
 ghost use Rattle.arrow_bits.specs.Numbers.{FitsInt};
 ghost use Rattle.arrow_builder.specs.Fields.{FitsField};
@@ -11,7 +11,7 @@ ghost use Rattle.arrow_types.specs.View.{field_view, fields_view};
 ghost use Rattle.std.specs.String.{string_bytes};
 
 use arrow_data::Value;
-use arrow_data::form::{Form, NumberForm, node_form};
+use arrow_data::form::{Form, ListForm, NumberForm, node_form};
 use arrow_types::{BitWidth, Field};
 
 /// Whether the value may stand in a slot of the field's column.
@@ -28,9 +28,7 @@ pub(crate) fn fits(value: &Value, field: &Field) -> bool
         Value::Int(number) => holds_int(form, *number),
         Value::Bytes(bytes) => holds_binary(form, bytes),
         Value::Text(text) => holds_text(form, text),
-        Value::List(items) => {
-            matches!(form, Form::Lists(_)) && items_fit(items, field.children())
-        }
+        Value::List(items) => { holds_list(form, items) && items_fit(items, field.children()) }
         Value::Struct(parts) => {
             matches!(form, Form::Structs) && parts_fit(parts, field.children())
         }
@@ -66,6 +64,18 @@ fn parts_fit(parts: &[Value], fields: &[Field]) -> bool
         }
     }
     true
+}
+
+// Whether slots of the form hold lists, and may hold one of so many items.
+fn holds_list(form: Form, items: &[Value]) -> bool
+    ensures { IsTrue result ↔ HoldsList form
+        (length (list_of_values (values_of (values_view items.now)))) }
+{
+    match form {
+        Form::Lists(ListForm::Offsets(_)) => true,
+        Form::Lists(ListForm::Fixed(size)) => items.len() == size as usize,
+        _ => false,
+    }
 }
 
 // Whether slots of the form hold the number.

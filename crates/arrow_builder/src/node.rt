@@ -1,22 +1,23 @@
 //! The tree of the columns that are built: a node for each field that is not below an encoding.
 
-ghost use Rattle.std.specs.Prelude.{◌≡◌, ◌≤◌, ◌<◌, ℕ, length, map, take, OnErr, OnOk};
+ghost use Rattle.std.specs.Prelude.{◌≡◌, ◌≤◌, ◌<◌, ℕ, length, map, replicate, take, OnErr, OnOk};
 ghost use Rattle.std.specs.List.{AllByRecursion};
 ghost use Rattle.arrow_data.specs.Fits.{Fits};
 ghost use Rattle.arrow_data.specs.PlainValue.{field_value, is_null_value, nth_value, null_value, values_of};
 ghost use Rattle.arrow_data.specs.Value.{value_view, values_view};
 ghost use Rattle.arrow_data.specs.declared.form.Form.TheVariants as forms;
+ghost use Rattle.arrow_data.specs.declared.form.ListForm.TheVariants as lists;
 ghost use Rattle.arrow_builder.specs.Buffers.{IsLeaf};
 ghost use Rattle.arrow_builder.specs.Built.{cut_to, fields_in, items_of, with_parts, with_value};
-ghost use Rattle.arrow_builder.specs.Built.{HaveSlots, with_values};
+ghost use Rattle.arrow_builder.specs.Built.{HaveSlots, sized_items, with_values};
 ghost use Rattle.arrow_builder.specs.Columns.{child_column};
 ghost use Rattle.arrow_builder.specs.Fields.{FitsField, field_form};
 
 use crate::bits::put_bit;
 use crate::leaf::put_leaf;
-use crate::slots::{Buffers, SlotEnd, place_at, put_range};
+use crate::slots::{Buffers, SlotEnd, place_at, put_range, sized_place};
 use arrow_data::Value;
-use arrow_data::form::{Form, OffsetWidth, node_form};
+use arrow_data::form::{Form, ListForm, OffsetWidth, node_form};
 use arrow_types::Field;
 use std::alloc::AllocError;
 use std::marker::Model;
@@ -90,7 +91,8 @@ impl Node {
             ≡ length (child_column (field_form self.now.field) k (take len self.now.raw)) }
     {
         match self.form() {
-            Form::Lists(width) => place_at(width, &self.buffers.values, len),
+            Form::Lists(ListForm::Offsets(width)) => place_at(width, &self.buffers.values, len),
+            Form::Lists(ListForm::Fixed(size)) => sized_place(size, len),
             Form::Structs => len,
             _ => 0,
         }
@@ -126,7 +128,8 @@ pub(crate) fn push_value(node: &mut Node, value: &Value) -> Result<(), AllocErro
         return Err(AllocError);
     }
     match node.form() {
-        Form::Lists(width) => push_list(node, width, value),
+        Form::Lists(ListForm::Offsets(width)) => push_list(node, width, value),
+        Form::Lists(ListForm::Fixed(size)) => push_sized(node, size, value),
         Form::Structs => push_struct(node, value),
         form => node.push_leaf(form, value),
     }
@@ -136,7 +139,7 @@ pub(crate) fn push_value(node: &mut Node, value: &Value) -> Result<(), AllocErro
 #[cycle(push)]
 fn push_list(node: &mut Node, width: OffsetWidth, value: &Value) -> Result<(), AllocError>
     requires few { length node.old.raw < 2147483647 }
-    requires form { field_form node.old.field ≡ forms.Lists width }
+    requires form { field_form node.old.field ≡ forms.Lists (lists.Offsets width) }
     requires fits { FitsField node.old.field (value_view value.now) }
     ensures ok { OnOk result (node.new ≡ with_value node.old (value_view value.now)) }
     ensures err { OnErr result (node.new ≡ node.old) }
@@ -167,6 +170,79 @@ fn push_items(node: &mut Node, start: usize, items: &[Value]) -> Result<(), Allo
     node.cut(start);
     for item in items {
         push_value(node, item)?;
+    }
+    Ok(())
+}
+
+// Puts a list of so many items, or null.
+#[cycle(push)]
+fn push_sized(node: &mut Node, size: u32, value: &Value) -> Result<(), AllocError>
+    requires few { length node.old.raw < 2147483647 }
+    requires form { field_form node.old.field ≡ forms.Lists (lists.Fixed size) }
+    requires fits { FitsField node.old.field (value_view value.now) }
+    ensures ok { OnOk result (node.new ≡ with_value node.old (value_view value.now)) }
+    ensures err { OnErr result (node.new ≡ node.old) }
+{
+    let null = null();
+    push_run(node, size, value, &null)
+}
+
+// Puts a list of so many items, or null: the items, or as many nulls, after those of the other
+// lists (Columnar Format, "Fixed-Size List Layout").
+#[cycle(push)]
+fn push_run(node: &mut Node, size: u32, value: &Value, null: &Value) -> Result<(), AllocError>
+    requires few { length node.old.raw < 2147483647 }
+    requires form { field_form node.old.field ≡ forms.Lists (lists.Fixed size) }
+    requires fits { FitsField node.old.field (value_view value.now) }
+    requires null { value_view null.now ≡ null_value }
+    ensures ok { OnOk result (node.new ≡ with_value node.old (value_view value.now)) }
+    ensures err { OnErr result (node.new ≡ node.old) }
+{
+    let len = node.len;
+    let start = sized_place(size, len);
+    push_slots(&mut node.children[0], start, size, value, null)?;
+    put_bit(&mut node.buffers.validity, len, !is_null(value))?;
+    node.len = len + 1;
+    Ok(())
+}
+
+// Puts the items of a list, or so many nulls, after the first `start` values.
+#[cycle(push)]
+fn push_slots(
+    node: &mut Node,
+    start: usize,
+    size: u32,
+    value: &Value,
+    null: &Value,
+) -> Result<(), AllocError>
+    requires inside { start ≤ length node.old.raw }
+    requires fits { AllByRecursion (FitsField node.old.field)
+        (sized_items size (value_view value.now)) }
+    requires null { value_view null.now ≡ null_value }
+    ensures ok { OnOk result (node.new
+        ≡ with_values (cut_to start node.old) (sized_items size (value_view value.now))) }
+    ensures err { OnErr result (cut_to start node.new ≡ cut_to start node.old) }
+    ensures long { OnErr result (start ≤ length node.new.raw) }
+{
+    match value {
+        Value::List(items) => push_items(node, start, items),
+        _ => push_nulls(node, start, size, null),
+    }
+}
+
+// Puts so many nulls after the first `start` values.
+#[cycle(push)]
+fn push_nulls(node: &mut Node, start: usize, count: u32, null: &Value) -> Result<(), AllocError>
+    requires inside { start ≤ length node.old.raw }
+    requires null { value_view null.now ≡ null_value }
+    ensures ok { OnOk result
+        (node.new ≡ with_values (cut_to start node.old) (replicate count null_value)) }
+    ensures err { OnErr result (cut_to start node.new ≡ cut_to start node.old) }
+    ensures long { OnErr result (start ≤ length node.new.raw) }
+{
+    node.cut(start);
+    for _i in 0..count {
+        push_value(node, null)?;
     }
     Ok(())
 }

@@ -150,6 +150,15 @@ pub(crate) fn place_at(width: OffsetWidth, offsets: &[u8], at: usize) -> usize
     int_at(offsets, width.bytes(), false, at) as usize
 }
 
+/// The slot of the child in which the items of `at` fixed-size lists end (Columnar Format,
+/// "Fixed-Size List Layout").
+pub(crate) fn sized_place(size: u32, at: usize) -> usize
+    requires { at ≤ 2147483647 }
+    ensures { result ≡ size * at }
+{
+    size as usize * at
+}
+
 // Whether the number is one of a signed offset.
 fn is_offset(width: OffsetWidth, place: usize) -> bool
     ensures { IsTrue result ↔ (place < offset_bound width) }

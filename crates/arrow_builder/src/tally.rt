@@ -3,11 +3,12 @@
 //!
 //! What a value adds is counted on every level before it is put anywhere, without memory.
 
-ghost use Rattle.std.specs.Prelude.{◌≡◌, ◌≤◌, ◌↔◌, ◌∷◌, [], false, ℕ, IfOk, IsTrue};
+ghost use Rattle.std.specs.Prelude.{◌≡◌, ◌≤◌, ◌*◌, ◌↔◌, ◌∷◌, [], false, ℕ, replicate, IfOk, IsTrue};
 ghost use Rattle.arrow_data.specs.PlainValue.{null_value};
 ghost use Rattle.arrow_data.specs.Value.{value_view, values_view};
 ghost use Rattle.arrow_data.specs.declared.form.Form.{Form};
-ghost use Rattle.arrow_builder.specs.Columns.{child_column};
+ghost use Rattle.arrow_builder.specs.Built.{given_items, sized_items};
+ghost use Rattle.arrow_builder.specs.Columns.{all_items, child_column};
 ghost use Rattle.arrow_builder.specs.Tally.{Adds, AddsBelow, AllSettle, AreCounted, Grows};
 ghost use Rattle.arrow_builder.specs.Tally.{IsCounted, Settles};
 ghost use Rattle.arrow_builder.specs.Within.{most_behind, most_bytes, slot_bytes, value_bytes};
@@ -15,7 +16,7 @@ ghost use Rattle.arrow_types.specs.View.{field_view, fields_view};
 
 use crate::node::{MOST_SLOTS, items_in, null, part_of};
 use arrow_data::Value;
-use arrow_data::form::{Form, OffsetWidth, node_form};
+use arrow_data::form::{Form, ListForm, OffsetWidth, node_form};
 use arrow_types::Field;
 use std::alloc::{AllocError, Global};
 
@@ -120,7 +121,7 @@ pub(crate) fn add(tally: &mut Tally, value: &Value) -> bool
 #[cycle(add)]
 fn add_below(tallies: &mut [Tally], given: Given<'_>) -> bool
     requires { value_view given.null.now ≡ null_value }
-    ensures { AddsBelow given.entry.form (value_view given.entry.value.now)
+    ensures { AddsBelow given.entry.form (value_view given.entry.value.now ∷ [])
         tallies.old tallies.new result }
 {
     for k in 0..tallies.len() {
@@ -131,7 +132,8 @@ fn add_below(tallies: &mut [Tally], given: Given<'_>) -> bool
     true
 }
 
-// Counts what the value gives to child `k`: a list its items, a struct its part.
+// Counts what the value gives to child `k`: a list its items, or nulls in place of them, a struct
+// its part.
 #[cycle(add)]
 fn add_child(tally: &mut Tally, k: usize, given: Given<'_>) -> bool
     requires { value_view given.null.now ≡ null_value }
@@ -139,9 +141,92 @@ fn add_child(tally: &mut Tally, k: usize, given: Given<'_>) -> bool
         tally.old tally.new result }
 {
     match given.form {
-        Form::Lists(_) => add_all(tally, items_in(given.value)),
+        Form::Lists(list) => add_items(tally, list, given.value),
         Form::Structs => add(tally, part_of(given.value, given.null, k)),
         _ => true,
+    }
+}
+
+// Counts what the value gives to the child of a column of lists.
+#[cycle(add)]
+fn add_items(tally: &mut Tally, list: ListForm, value: &Value) -> bool
+    ensures { Adds (given_items list (value_view value.now)) tally.old tally.new result }
+{
+    match list {
+        ListForm::Offsets(_) => add_all(tally, items_in(value)),
+        ListForm::Fixed(size) => add_sized(tally, size, value),
+    }
+}
+
+// Counts the items of a list, or so many nulls.
+#[cycle(add)]
+fn add_sized(tally: &mut Tally, size: u32, value: &Value) -> bool
+    ensures { Adds (sized_items size (value_view value.now)) tally.old tally.new result }
+{
+    match value {
+        Value::List(items) => add_all(tally, items),
+        _ => add_nulls(tally, size as usize),
+    }
+}
+
+// Counts so many nulls at once, in every column that they reach.
+#[cycle(nulls)]
+fn add_nulls(tally: &mut Tally, count: usize) -> bool
+    ensures { Adds (replicate count null_value) tally.old tally.new result }
+{
+    let Some(total) = grown_by_nulls(tally.next, tally.form, count) else {
+        return false;
+    };
+    tally.next = total;
+    nulls_below(&mut tally.below, tally.form, count)
+}
+
+// Counts what so many nulls of a column of the form give to each of its children.
+#[cycle(nulls)]
+fn nulls_below(tallies: &mut [Tally], form: Form, count: usize) -> bool
+    ensures { AddsBelow form (replicate count null_value) tallies.old tallies.new result }
+{
+    for k in 0..tallies.len() {
+        if !nulls_child(&mut tallies[k], form, count) {
+            return false;
+        }
+    }
+    true
+}
+
+// Counts what they give to one child: of structs as many nulls.
+#[cycle(nulls)]
+fn nulls_child(tally: &mut Tally, form: Form, count: usize) -> bool
+    ensures { (k : ℕ) → Adds (child_column form k (replicate count null_value))
+        tally.old tally.new result }
+{
+    match form {
+        Form::Lists(list) => nulls_items(tally, list, count),
+        Form::Structs => add_nulls(tally, count),
+        _ => true,
+    }
+}
+
+// Counts what they give to the child of a column of lists: nothing where offsets are stored, and
+// in fixed-size lists as many nulls for each.
+#[cycle(nulls)]
+fn nulls_items(tally: &mut Tally, list: ListForm, count: usize) -> bool
+    ensures { Adds (all_items list (replicate count null_value)) tally.old tally.new result }
+{
+    match list {
+        ListForm::Offsets(_) => true,
+        ListForm::Fixed(size) => nulls_times(tally, count, size),
+    }
+}
+
+// Counts so many times so many nulls.
+#[cycle(nulls)]
+fn nulls_times(tally: &mut Tally, count: usize, size: u32) -> bool
+    ensures { Adds (replicate (count * size) null_value) tally.old tally.new result }
+{
+    match count.checked_mul(size as usize) {
+        Some(product) => add_nulls(tally, product),
+        None => false,
     }
 }
 
@@ -160,7 +245,7 @@ fn add_all(tally: &mut Tally, values: &[Value]) -> bool
 
 // The total with one slot more, if the column passes no limit by it.
 fn grown(total: Total, form: Form, value: &Value) -> Option<Total>
-    ensures { Grows form (value_view value.now) total result }
+    ensures { Grows form (value_view value.now ∷ []) total result }
 {
     let slots = total.slots.checked_add(1)?;
     let (more, most) = bytes_and_most(form, value);
@@ -169,6 +254,30 @@ fn grown(total: Total, form: Form, value: &Value) -> Option<Total>
         return None;
     }
     Some(Total { slots, bytes })
+}
+
+// The total with so many nulls more, if the column passes no limit by them.
+fn grown_by_nulls(total: Total, form: Form, count: usize) -> Option<Total>
+    ensures { Grows form (replicate count null_value) total result }
+{
+    let slots = total.slots.saturating_add(count);
+    let (more, most) = null_bytes_and_most(form);
+    let bytes = total
+        .bytes
+        .saturating_add(more.saturating_mul(count as u64));
+    if !is_short(slots, bytes, most) {
+        return None;
+    }
+    Some(Total { slots, bytes })
+}
+
+// How many bytes of data null takes in a column of the form, and the most of the column.
+fn null_bytes_and_most(form: Form) -> (u64, u64)
+    ensures slot { result.0 ≡ slot_bytes form null_value }
+    ensures most { result.1 ≡ most_bytes form }
+{
+    let null = null();
+    bytes_and_most(form, &null)
 }
 
 // Whether a column may have so many slots, and so many bytes of data where it has at most `most`.

@@ -8,6 +8,7 @@ mod lengths;
 mod limits;
 mod noted;
 mod pushes;
+mod sized;
 mod sums;
 mod told;
 mod values;

@@ -45,17 +45,22 @@ fn limits() -> Limits {
     Limits::standard().with_types(TypeSet::All)
 }
 
+/// The field of a column.
+fn field(rt: &(impl Abort + AllocGlobal), column: &(&str, DecimalWidth, u8, i8)) -> Field {
+    let (name, width, precision, scale) = column;
+    let name = String::from_str(rt.alloc(), name).expect(rt, MEMORY);
+    let data_type = DataType::Decimal {
+        width: *width,
+        precision: *precision,
+        scale: *scale,
+    };
+    Field::new(rt.alloc(), name, data_type, true)
+}
+
 fn schema(rt: &(impl Abort + AllocGlobal)) -> Schema {
     let mut fields = Vec::new(rt.alloc());
-    for (name, width, precision, scale) in &COLUMNS {
-        let name = String::from_str(rt.alloc(), name).expect(rt, MEMORY);
-        let data_type = DataType::Decimal {
-            width: *width,
-            precision: *precision,
-            scale: *scale,
-        };
-        let field = Field::new(rt.alloc(), name, data_type, true);
-        fields.push(field).expect(rt, MEMORY);
+    for column in &COLUMNS {
+        fields.push(field(rt, column)).expect(rt, MEMORY);
     }
     Schema::new(rt.alloc(), fields).expect(rt, "four columns")
 }
@@ -71,9 +76,9 @@ fn values(rt: &(impl Abort + AllocGlobal), is_wide: bool) -> [Value; 3] {
     }
 }
 
-/// The column of a field.
-fn column(rt: &(impl Abort + AllocGlobal), field: &Field) -> Array {
-    let is_wide = matches!(&field.data_type, DataType::Decimal { width, .. } if *width == WIDEST);
+/// The values as the one column of a schema.
+fn values_in(rt: &(impl Abort + AllocGlobal), schema: &Schema, is_wide: bool) -> Array {
+    let field = schema.fields().first().expect(rt, "a column");
     assert!(rt; !field.data_type.has_encoding_below());
     let mut builder = ArrayBuilder::new(rt.alloc(), field).expect(rt, MEMORY);
     for value in &values(rt, is_wide) {
@@ -82,13 +87,18 @@ fn column(rt: &(impl Abort + AllocGlobal), field: &Field) -> Array {
     builder.finish(rt.alloc(), &[]).expect(rt, MEMORY)
 }
 
+fn column(rt: &(impl Abort + AllocGlobal), column: &(&str, DecimalWidth, u8, i8)) -> Array {
+    let fields = vec![in rt.alloc(); field(rt, column)].expect(rt, MEMORY);
+    let schema = Schema::new(rt.alloc(), fields).expect(rt, "one column");
+    values_in(rt, &schema, column.1 == WIDEST)
+}
+
 fn batch(rt: &(impl Abort + AllocGlobal)) -> Batch {
-    let schema = schema(rt);
     let mut columns = Vec::new(rt.alloc());
-    for field in schema.fields() {
-        columns.push(column(rt, field)).expect(rt, MEMORY);
+    for row in &COLUMNS {
+        columns.push(column(rt, row)).expect(rt, MEMORY);
     }
-    let schema = Rc::new(rt.alloc(), schema).expect(rt, MEMORY);
+    let schema = Rc::new(rt.alloc(), schema(rt)).expect(rt, MEMORY);
     Batch::new(schema, columns, 3).expect(rt, "columns of the schema")
 }
 

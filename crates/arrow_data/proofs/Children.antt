@@ -1,5 +1,5 @@
 -- The children of lists and structs.
-use Rattle.std.proofs.Common.{◌≡◌, ℕ, zero, suc, ◌+◌, ◌<◌, ◌≤◌, Bool, true, false, List, [], ◌∷◌, ◌++◌, length, map, take, drop, get_or, Option, Some, None, slice_get, refl, sym, ap, ◌∙◌, subst, arith, Bor, MatchOption, true≢false, if◌then◌else◌}
+use Rattle.std.proofs.Common.{◌≡◌, ℕ, zero, suc, ◌+◌, ◌*◌, ◌<◌, ◌≤◌, Bool, true, false, List, [], ◌∷◌, ◌++◌, length, map, take, drop, get_or, Option, Some, None, slice_get, refl, sym, ap, ◌∙◌, subst, arith, Bor, MatchOption, true≢false, if◌then◌else◌}
 use Rattle.std.specs.List.{AllByRecursion, HoldsAt}
 use Rattle.std.specs.Prelude.{IfSome, option_map}
 use Rattle.std.proofs.lemmas.List.Elements.{All-from_recursion}
@@ -7,16 +7,17 @@ use Rattle.std.proofs.Math.Seq.{take-append_seam, drop-append_seam}
 use Rattle.std.proofs.lemmas.List.{length-map}
 use Rattle.std.proofs.lemmas.List.FromFn.{get_or-map-range_with_len, length-map-range_with_len}
 use Rattle.std.proofs.lemmas.Option.{get_or_from_slice_get, slice_get-map, slice_get_read, slice_get_within}
-use Rattle.arrow_bits.specs.Offsets.{plain_list}
 use Rattle.arrow_bits.proofs.Rising.{numbers_from_offsets, offsets_inside}
 use Rattle.arrow_types.specs.Field.{Fields, Head, none, more, TypeShape}
 use Rattle.arrow_data.specs.PlainValue.{PlainValue, value_at, null_value, is_null_value, list_value, struct_value, values_of, field_value, nth_value}
 use Rattle.arrow_data.specs.Column.{Column, AreOf, HasChild, HasField, HasItems, IsColumn, column_dictionaries, dictionaries_of_field, field_of_listed, listed_of, slots_of, type_of_field, struct_fields, struct_fields_of}
 use Rattle.arrow_data.specs.Form.{IsLists, form_of, offset_bytes}
-use Rattle.arrow_data.specs.Slots.{slots, list_slot, struct_slot, is_valid_at, place_of, range_of, HasOffsets}
+use Rattle.arrow_data.specs.Slots.{slots, item_place, item_places, items_at, list_slot, struct_slot, is_valid_at, place_of, HasItemPlaces, HasOffsets}
 use Rattle.arrow_data.specs.declared.form.Form.TheVariants as forms
+use Rattle.arrow_data.specs.declared.form.ListForm.{ListForm}
+use Rattle.arrow_data.specs.declared.form.ListForm.TheVariants.{Offsets, Fixed}
 use Rattle.arrow_data.specs.declared.form.OffsetWidth.{OffsetWidth}
-use Rattle.arrow_data.proofs.Shown.{length_slots, at_slots, row_same}
+use Rattle.arrow_data.proofs.Shown.{length_slots, at_slots, items_inside, row_same}
 
 -- a slot that is not null is valid
 valid_from_value : (b : Bool) (x : PlainValue) → is_null_value (if b then x else null_value) ≡ false → b ≡ true
@@ -29,14 +30,14 @@ value_of_valid true x h = refl
 value_of_valid false x h = absurd (true≢false (sym h))
 
 -- the column of a node of lists, and that of a node of structs
-abbrev lists : TypeShape → OffsetWidth → ℕ → List ℕ → List ℕ → Column → Column
+abbrev lists : TypeShape → ListForm → ℕ → List ℕ → List ℕ → Column → Column
 lists t w n v o child = record {
   data_type = t;
   encoding = None;
   raw = slots n (list_slot w v o child.raw);
   resolved = slots n (list_slot w v o child.resolved);
   dictionaries = child.dictionaries;
-  offsets = plain_list (offset_bytes w) n o;
+  offsets = item_places w n o;
   below = slots_of child ∷ [];
 }
 
@@ -52,8 +53,13 @@ structs t n v cs = record {
 }
 
 -- an offset of those of a column of lists
-at_offsets : (w : OffsetWidth) (n : ℕ) (o : List ℕ) (j : ℕ) → j ≤ n → get_or (plain_list (offset_bytes w) n o) j 0 ≡ place_of w o j
+at_offsets : (w : OffsetWidth) (n : ℕ) (o : List ℕ) (j : ℕ) → j ≤ n → get_or (item_places (Offsets w) n o) j 0 ≡ place_of w o j
 at_offsets w n o j h = get_or-map-range_with_len (place_of w o) 0 (n + 1) j j 0 (omega (arith, h)) (omega arith)
+
+-- where the items of a list of such a column begin
+at_places : (w : ListForm) (n : ℕ) (o : List ℕ) (j : ℕ) → j ≤ n → get_or (item_places w n o) j 0 ≡ item_place w o j
+at_places (Offsets w) n o j h = at_offsets w n o j h
+at_places (Fixed size) n o j h = get_or-map-range_with_len (λ k. size * k) 0 (n + 1) j j 0 (omega (arith, h)) (omega arith)
 
 -- offsets do not fall and stay within the top
 offsets_known : (w : OffsetWidth) (n top : ℕ) (o : List ℕ) (j : ℕ) → ((i : ℕ) → get_or o i 0 < 256) → HasOffsets w n top o → j < n
@@ -65,9 +71,15 @@ offsets_known w n top o j small rising h =
       subst (λ x. x ≤ top) (at_offsets w n o (j + 1) (omega (arith, h))) (offsets_inside (offset_bytes w) o n top small offsets (j + 1) 0 (omega (arith, long, h))),
     )
 
+-- nor do the places of items
+pub places_known : (w : ListForm) (n top : ℕ) (o : List ℕ) (j : ℕ) → ((i : ℕ) → get_or o i 0 < 256) → HasItemPlaces w n top o → j < n
+    → (item_place w o j ≤ item_place w o (j + 1)) × (item_place w o (j + 1) ≤ top)
+places_known (Offsets w) n top o j small rising h = offsets_known w n top o j small rising h
+places_known (Fixed size) n top o j small long h = items_inside size j n top h long
+
 -- what a valid slot of lists shows
-pub items_shown : (t : TypeShape) (w : OffsetWidth) (n : ℕ) (v o : List ℕ) (child : Column) (i : ℕ) → AreOf t.children (child ∷ []) → IsColumn child → i < n → is_valid_at v i ≡ true
-    → place_of w o i ≤ place_of w o (i + 1) → place_of w o (i + 1) ≤ length child.raw → HasItems (lists t w n v o child) i (place_of w o i) (place_of w o (i + 1)) child
+pub items_shown : (t : TypeShape) (w : ListForm) (n : ℕ) (v o : List ℕ) (child : Column) (i : ℕ) → AreOf t.children (child ∷ []) → IsColumn child → i < n → is_valid_at v i ≡ true
+    → item_place w o i ≤ item_place w o (i + 1) → item_place w o (i + 1) ≤ length child.raw → HasItems (lists t w n v o child) i (item_place w o i) (item_place w o (i + 1)) child
 items_shown t w n v o child i typed known inside valid order within =
     let raw = list_slot w v o child.raw in
     let resolved = list_slot w v o child.resolved in
@@ -75,24 +87,24 @@ items_shown t w n v o child i typed known inside valid order within =
       typed = typed;
       whole = refl;
       listed = refl;
-      starts = sym (at_offsets w n o i (omega (arith, inside)));
-      stops = sym (at_offsets w n o (i + 1) (omega (arith, inside)));
+      starts = sym (at_places w n o i (omega (arith, inside)));
+      stops = sym (at_places w n o (i + 1) (omega (arith, inside)));
       ordered = order;
       inside = within;
       long = known.long;
-      same = at_slots n (λ j. raw j) i inside ∙ value_of_valid (is_valid_at v i) (list_value (values_of (range_of w o child.raw i))) valid;
-      same_resolved = at_slots n (λ j. resolved j) i inside ∙ value_of_valid (is_valid_at v i) (list_value (values_of (range_of w o child.resolved i))) valid;
+      same = at_slots n (λ j. raw j) i inside ∙ value_of_valid (is_valid_at v i) (list_value (values_of (items_at w o child.raw i))) valid;
+      same_resolved = at_slots n (λ j. resolved j) i inside ∙ value_of_valid (is_valid_at v i) (list_value (values_of (items_at w o child.resolved i))) valid;
     }
 
 -- the same of a column that is known to be one of lists
-pub items_of_column : (c : Column) (t : TypeShape) (w : OffsetWidth) (n : ℕ) (v o : List ℕ) (child : Column) (i start stop : ℕ) → c ≡ lists t w n v o child → AreOf t.children (child ∷ []) → IsColumn child → i < n
-    → is_valid_at v i ≡ true → start ≡ place_of w o i → stop ≡ place_of w o (i + 1) → start ≤ stop → stop ≤ length child.raw → HasItems c i start stop child
+pub items_of_column : (c : Column) (t : TypeShape) (w : ListForm) (n : ℕ) (v o : List ℕ) (child : Column) (i start stop : ℕ) → c ≡ lists t w n v o child → AreOf t.children (child ∷ []) → IsColumn child → i < n
+    → is_valid_at v i ≡ true → start ≡ item_place w o i → stop ≡ item_place w o (i + 1) → start ≤ stop → stop ≤ length child.raw → HasItems c i start stop child
 items_of_column c t w n v o child i start stop is typed known inside valid low high order within =
     rw (is, low, high) (items_shown t w n v o child i typed known inside valid (omega (arith, low, high, order)) (omega (arith, high, within)))
 
 -- what a column of lists says of its child
-pub child_shown : (c : Column) (t : TypeShape) (w : OffsetWidth) (n : ℕ) (v o : List ℕ) (child : Column) → c ≡ lists t w n v o child → form_of t.tag ≡ forms.Lists w → AreOf t.children (child ∷ []) → IsColumn child
-    → ((i : ℕ) → get_or o i 0 < 256) → HasOffsets w n (length child.raw) o → HasChild c child
+pub child_shown : (c : Column) (t : TypeShape) (w : ListForm) (n : ℕ) (v o : List ℕ) (child : Column) → c ≡ lists t w n v o child → form_of t.tag ≡ forms.Lists w → AreOf t.children (child ∷ []) → IsColumn child
+    → ((i : ℕ) → get_or o i 0 < 256) → HasItemPlaces w n (length child.raw) o → HasChild c child
 child_shown c t w n v o child is form typed known small rising =
     let raw = list_slot w v o child.raw in
     let shown : HasChild (lists t w n v o child) child = record {
@@ -103,10 +115,10 @@ child_shown c t w n v o child is form typed known small rising =
       same = λ i h full.
           let inside : i < n = omega (arith, length_slots n (λ j. raw j), h) in
           let here = at_slots n (λ j. raw j) i inside in
-          let valid = valid_from_value (is_valid_at v i) (list_value (values_of (range_of w o child.raw i))) (ap is_null_value (sym here) ∙ full) in
-          let places = offsets_known w n (length child.raw) o i small rising inside in
+          let valid = valid_from_value (is_valid_at v i) (list_value (values_of (items_at w o child.raw i))) (ap is_null_value (sym here) ∙ full) in
+          let places = places_known w n (length child.raw) o i small rising inside in
           let own = items_shown t w n v o child i typed known inside valid places.0 places.1 in
-          rw (at_offsets w n o i (omega (arith, inside)), at_offsets w n o (i + 1) (omega (arith, inside))) own;
+          rw (at_places w n o i (omega (arith, inside)), at_places w n o (i + 1) (omega (arith, inside))) own;
     } in
     subst (λ x. HasChild x child) (sym is) shown
 

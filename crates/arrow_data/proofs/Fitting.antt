@@ -10,18 +10,21 @@ use Rattle.arrow_types.specs.Field.{Fields, Head, none, more, TypeShape}
 use Rattle.arrow_types.specs.declared.field.Encoding.{Encoding}
 use Rattle.arrow_data.specs.Column.{Column, AreOf, IsColumn}
 use Rattle.arrow_data.specs.Fits.{AllFit, Fits, FitsType, HoldsBinary, HoldsInt, HoldsUtf8, ItemsFit, PartsFit}
-use Rattle.arrow_data.specs.Form.{form_of, node_form, number_width, IsLists}
+use Rattle.arrow_data.specs.Form.{form_of, node_form, number_width, HoldsItems, HoldsList}
 use Rattle.arrow_data.specs.Node.{AreBytes, AreInts, AreRanges, IsFormat, bytes_of, raw_slot}
-use Rattle.arrow_data.specs.PlainValue.{PlainValue, value_at, null_value, values_of}
-use Rattle.arrow_data.specs.Slots.{slots, is_valid_at, place_of, range_of}
+use Rattle.arrow_data.specs.PlainValue.{PlainValue, value_at, list_of_values, null_value, values_of}
+use Rattle.arrow_data.specs.Slots.{slots, is_valid_at, item_place, items_at, range_of, HasItemPlaces}
 use Rattle.arrow_data.specs.declared.array.Ranges.{Ranges}
 use Rattle.arrow_data.specs.declared.array.Ranges.TheVariants as ranges
 use Rattle.arrow_data.specs.declared.buffers.Ints.{Ints}
 use Rattle.arrow_data.specs.declared.byte_range.ByteRange.{ByteRange}
 use Rattle.arrow_data.specs.declared.form.Form.{Form}
 use Rattle.arrow_data.specs.declared.form.Form.TheVariants as forms
+use Rattle.arrow_data.specs.declared.form.ListForm.{ListForm}
+use Rattle.arrow_data.specs.declared.form.ListForm.TheVariants.{Offsets, Fixed}
 use Rattle.arrow_data.specs.declared.form.OffsetWidth.{OffsetWidth}
-use Rattle.arrow_data.proofs.Shown.{slot_inside}
+use Rattle.arrow_data.proofs.Lists.{list_again}
+use Rattle.arrow_data.proofs.Shown.{items_inside, slot_inside}
 
 -- slot by slot
 fit_from : (P : PlainValue → Type 0) (n a : ℕ) (f : ℕ → PlainValue) → ((j : ℕ) → j < a + n → P (f j)) → AllByRecursion P (map f (range_with_len a n))
@@ -99,6 +102,22 @@ list_fits (more head children rest) child a b typed known =
     let P = FitsType (record { tag = head.tag; children = children }) head.encoding in
     items_fit head children rest (slice_range child.raw a b) (all_take P (b - a) (drop a child.raw) (all_drop P a child.raw (field_fits head children child typed.0 typed.1 known)))
 
+-- as many as the form asks for
+items_many : (w : ListForm) (len j : ℕ) (places : List ℕ) (xs : List PlainValue) → HasItemPlaces w len (length xs) places → j < len → HoldsItems w (length (items_at w places xs j))
+items_many (Offsets width) len j places xs laid l = tt
+items_many (Fixed size) len j places xs laid l =
+    let inside = items_inside size j len (length xs) l laid in
+    let start = size * j in
+    let stop = size * (j + 1) in
+    let long : stop ≡ start + size = omega arith in
+    omega (arith, length-take (stop - start) (drop start xs), length-drop start xs, inside.0, inside.1, long)
+
+-- a list of the child's values has as many items as the form asks for
+pub list_many : (form : Form) (w : ListForm) (len j : ℕ) (places : List ℕ) (xs : List PlainValue) → form ≡ forms.Lists w → HasItemPlaces w len (length xs) places → j < len
+    → HoldsList form (length (list_of_values (values_of (items_at w places xs j))))
+list_many form w len j places xs is laid l =
+    subst (λ f. HoldsList f (length (list_of_values (values_of (items_at w places xs j))))) (sym is) (rw (list_again (items_at w places xs j)) (items_many w len j places xs laid l))
+
 -- a slot of each of the children
 struct_fits : (fields : Fields) (cs : List Column) (j : ℕ) → AreOf fields cs → AllByRecursion IsColumn cs
     → PartsFit fields (values_of (map (λ values. value_at values j) (map (λ (c : Column). c.raw) cs)))
@@ -142,7 +161,7 @@ ranges_fit len t e body (ranges.Lists w v o child) small h =
     let places = bytes_of body o in
     subst (λ x. AllFit t x (slots len (raw_slot body (ranges.Lists w v o child)))) (sym h.0) (slots_fit (FitsType t None) len _ (λ j l.
     shown_fits (form_of t.tag) t.children (is_valid_at (bytes_of body v) j) _ (λ _.
-    (subst IsLists (sym h.1) tt, list_fits t.children child.value (place_of w places j) (place_of w places (j + 1)) h.2.typed h.2.known))))
+    (list_many (form_of t.tag) w len j places child.value.raw h.1 h.2.laid.rising l, list_fits t.children child.value (item_place w places j) (item_place w places (j + 1)) h.2.typed h.2.known))))
 ranges_fit len t e body (ranges.Structs v children) small h =
     subst (λ x. AllFit t x (slots len (raw_slot body (ranges.Structs v children)))) (sym h.0) (slots_fit (FitsType t None) len _ (λ j l.
     shown_fits (form_of t.tag) t.children (is_valid_at (bytes_of body v) j) _ (λ _. (h.1, struct_fits t.children children.items j h.2.typed h.2.known))))

@@ -7,17 +7,16 @@ use Rattle.std.specs.List.{AllByRecursion}
 use Rattle.std.specs.Prelude.{slice_index_or}
 use Rattle.std.specs.declared.alloc.Global.{Global}
 use Rattle.std.specs.declared.vec.Vec.{Vec}
-use Rattle.arrow_bits.specs.Offsets.{plain_list}
 use Rattle.arrow_types.specs.Field.{Fields, none, more, TypeShape}
 use Rattle.arrow_data.specs.declared.form.NumberForm.{NumberForm}
 use Rattle.arrow_types.specs.declared.field.Encoding.{Encoding}
 use Rattle.arrow_data.specs.Column.{Column, AreOf, IsColumn, counts_of, listed_of, plain_column, slots_of}
-use Rattle.arrow_data.specs.Form.{HasFieldsOf, IsLeaf, IsOneField, form_of, node_form, offset_bytes}
-use Rattle.arrow_data.specs.Layout.{buffer, HasStrings, HoldsSlots}
-use Rattle.arrow_data.specs.Node.{column_by, AreLists, AreStrings, AreStructs, bytes_of, IsInside, IsFormat}
+use Rattle.arrow_data.specs.Form.{HasFieldsOf, IsLeaf, IsOneField, form_of, list_buffers, node_form}
+use Rattle.arrow_data.specs.Layout.{buffer, list_offsets, HasStrings, HoldsSlots}
+use Rattle.arrow_data.specs.Node.{column_by, AreLists, AreStrings, AreStructs, bytes_of, list_range, IsInside, IsFormat}
 use Rattle.arrow_data.specs.Parts.{node_column, node_offsets, value_slot}
 use Rattle.arrow_data.specs.PlainValue.{PlainValue}
-use Rattle.arrow_data.specs.Slots.{AreTexts, slots, entry_slot, int_slot, list_slot, struct_slot}
+use Rattle.arrow_data.specs.Slots.{AreTexts, slots, entry_slot, int_slot, item_places, list_slot, struct_slot}
 use Rattle.arrow_data.specs.declared.buffers.Ints.{Ints}
 use Rattle.arrow_data.specs.declared.buffers.Strings.{Strings}
 use Rattle.arrow_data.specs.declared.array.Array.{Array}
@@ -26,6 +25,8 @@ use Rattle.arrow_data.specs.declared.dictionary.Dictionary.{Dictionary}
 use Rattle.arrow_data.specs.declared.byte_range.ByteRange.{ByteRange}
 use Rattle.arrow_data.specs.declared.form.Form.{Form}
 use Rattle.arrow_data.specs.declared.form.Form.TheVariants as forms
+use Rattle.arrow_data.specs.declared.form.ListForm.{ListForm}
+use Rattle.arrow_data.specs.declared.form.ListForm.TheVariants.{Offsets, Fixed}
 use Rattle.arrow_data.specs.declared.form.OffsetWidth.{OffsetWidth}
 
 -- the bytes of a buffer that was read
@@ -66,16 +67,32 @@ one_child (more head children none) (a ∷ []) one h = refl
 one_child (more head children none) (a ∷ b ∷ cs) one h = absurd h.2
 one_child (more head children (more head' children' rest)) cs one h = absurd one
 
+-- the offsets of lists, where they are stored
+offsets_read : (w : ListForm) (body : List ℕ) (bs : List ByteRange) → list_buffers w ≤ length bs → list_offsets w (map (bytes_of body) bs) ≡ bytes_of body (list_range w bs)
+offsets_read (Offsets width) body bs many = buffer_read body bs 1 (record { start = 0; end = 0 }) (omega (arith, many))
+offsets_read (Fixed size) body bs many = refl
+
+-- they lie inside the body
+offsets_inside : (w : ListForm) (body : List ℕ) (bs : List ByteRange) → list_buffers w ≤ length bs → AllByRecursion (IsInside body) bs → IsInside body (list_range w bs)
+offsets_inside (Offsets width) body bs many inside = inside_read body bs 1 (record { start = 0; end = 0 }) inside (omega (arith, many))
+offsets_inside (Fixed size) body bs many inside = (omega arith, omega arith)
+
+-- lists have a buffer
+some_buffer : (w : ListForm) → 1 ≤ list_buffers w
+some_buffer (Offsets width) = omega arith
+some_buffer (Fixed size) = omega arith
+
 -- a node of lists
-pub list_lies : (w : OffsetWidth) (t : TypeShape) (len : ℕ) (body : List ℕ) (bs : List ByteRange) (d : ByteRange) (cs : List Column) (child : Column) → form_of t.tag ≡ forms.Lists w → cs ≡ child ∷ [] → AreOf t.children cs → AllByRecursion IsColumn cs
-    → 2 ≤ length bs → AllByRecursion (IsInside body) bs → HoldsSlots (form_of t.tag) len (map (bytes_of body) bs) (counts_of cs) → AreLists w len t body (slice_index_or bs 0 d) (slice_index_or bs 1 d) child
-list_lies w t len body bs d cs child form one typed known two inside laid =
+pub list_lies : (w : ListForm) (t : TypeShape) (len : ℕ) (body : List ℕ) (bs : List ByteRange) (d : ByteRange) (cs : List Column) (child : Column) → form_of t.tag ≡ forms.Lists w → cs ≡ child ∷ [] → AreOf t.children cs → AllByRecursion IsColumn cs
+    → list_buffers w ≤ length bs → AllByRecursion (IsInside body) bs → HoldsSlots (form_of t.tag) len (map (bytes_of body) bs) (counts_of cs) → AreLists w len t body (slice_index_or bs 0 d) (list_range w bs) child
+list_lies w t len body bs d cs child form one typed known many inside laid =
+    let first : 0 < length bs = omega (arith, some_buffer w, many) in
     let here = subst (λ x. HoldsSlots x len (map (bytes_of body) bs) (counts_of cs)) form laid in
     let hers = subst (λ x. HoldsSlots (forms.Lists w) len (map (bytes_of body) bs) (counts_of x)) one here in
     record {
-      validity = inside_read body bs 0 d inside (omega arith);
-      offsets = inside_read body bs 1 d inside (omega arith);
-      laid = rw (← buffer_read body bs 0 d (omega arith), ← buffer_read body bs 1 d (omega arith)) hers;
+      validity = inside_read body bs 0 d inside first;
+      offsets = offsets_inside w body bs many inside;
+      laid = rw (← buffer_read body bs 0 d first, ← offsets_read w body bs many) hers;
       typed = subst (AreOf t.children) one typed;
       known = (subst (AllByRecursion IsColumn) one known).0;
     }
@@ -93,19 +110,19 @@ values_by t form len b cs = record {
 }
 
 -- its ranges and its child stand for what its buffers and its child do
-pub list_same : (w : OffsetWidth) (t : TypeShape) (len : ℕ) (body : List ℕ) (bs : List ByteRange) (d : ByteRange) (cs : List Column) (child : Box Array) → form_of t.tag ≡ forms.Lists w → cs ≡ child.value ∷ [] → 2 ≤ length bs
-    → column_by t None len body (ranges.Lists w (slice_index_or bs 0 d) (slice_index_or bs 1 d) child) ≡ node_column t None len (map (bytes_of body) bs) cs []
-list_same w t len body bs d cs child form one two =
-    let v = buffer_read body bs 0 d (omega arith) in
-    let o = buffer_read body bs 1 d (omega arith) in
+pub list_same : (w : ListForm) (t : TypeShape) (len : ℕ) (body : List ℕ) (bs : List ByteRange) (d : ByteRange) (cs : List Column) (child : Box Array) → form_of t.tag ≡ forms.Lists w → cs ≡ child.value ∷ [] → list_buffers w ≤ length bs
+    → column_by t None len body (ranges.Lists w (slice_index_or bs 0 d) (list_range w bs) child) ≡ node_column t None len (map (bytes_of body) bs) cs []
+list_same w t len body bs d cs child form one many =
+    let v = buffer_read body bs 0 d (omega (arith, some_buffer w, many)) in
+    let o = offsets_read w body bs many in
     let whole : child.value.dictionaries ≡ child.value.dictionaries ++ [] = sym (append-nil child.value.dictionaries) in
-    let literal : column_by t None len body (ranges.Lists w (slice_index_or bs 0 d) (slice_index_or bs 1 d) child) ≡ values_by t (forms.Lists w) len (map (bytes_of body) bs) (child.value ∷ []) = λ i. record {
+    let literal : column_by t None len body (ranges.Lists w (slice_index_or bs 0 d) (list_range w bs) child) ≡ values_by t (forms.Lists w) len (map (bytes_of body) bs) (child.value ∷ []) = λ i. record {
       data_type = t;
       encoding = None;
       raw = slots len (list_slot w (sym v i) (sym o i) child.value.raw);
       resolved = slots len (list_slot w (sym v i) (sym o i) child.value.resolved);
       dictionaries = whole i;
-      offsets = plain_list (offset_bytes w) len (sym o i);
+      offsets = item_places w len (sym o i);
       below = slots_of child.value ∷ [];
     } in
     literal ∙ ap (values_by t (forms.Lists w) len (map (bytes_of body) bs)) (sym one) ∙ ap (λ x. values_by t x len (map (bytes_of body) bs) cs) (sym form)

@@ -1,5 +1,5 @@
 -- Why the resolved values of every array fit its type without any encoding.
-use Rattle.std.proofs.Common.{◌≡◌, ◌||◌, ◌+◌, ◌-◌, ◌*◌, ℕ, ℤ, pos, negsuc, false, List, [], ◌∷◌, map, drop, Option, None, Some, is_some, refl, sym, ap, ◌∙◌, subst}
+use Rattle.std.proofs.Common.{◌≡◌, ◌||◌, ◌+◌, ◌-◌, ◌*◌, ℕ, ℤ, pos, negsuc, false, List, [], ◌∷◌, length, map, drop, Option, None, Some, is_some, refl, sym, ap, ◌∙◌, subst}
 use Rattle.std.proofs.lemmas.Bool.{false≢true, or_parts}
 use Rattle.std.specs.List.{AllByRecursion}
 use Rattle.std.specs.Prelude.{slice_range}
@@ -9,13 +9,13 @@ use Rattle.arrow_types.specs.Schema.{has_encoding}
 use Rattle.arrow_types.specs.declared.field.Encoding.{Encoding}
 use Rattle.arrow_data.specs.Column.{Column, ValueList, AreOf, IsColumn, IsValueList}
 use Rattle.arrow_data.specs.Fits.{AllFit, FitsType, ItemsFit, PartsFit, plain_fields, plain_head, plain_type}
-use Rattle.arrow_data.specs.Form.{form_of, IsLists}
+use Rattle.arrow_data.specs.Form.{form_of}
 use Rattle.arrow_data.specs.Node.{AreBytes, AreRanges, bytes_of, resolved_slot}
 use Rattle.arrow_data.specs.PlainValue.{PlainValue, value_at, values_of}
-use Rattle.arrow_data.specs.Slots.{slots, entry_at, is_valid_at, place_of}
+use Rattle.arrow_data.specs.Slots.{slots, entry_at, is_valid_at, item_place, HasItemPlaces}
 use Rattle.arrow_data.specs.declared.array.Ranges.{Ranges}
 use Rattle.arrow_data.specs.declared.array.Ranges.TheVariants as ranges
-use Rattle.arrow_data.proofs.Fitting.{all_at, all_drop, all_take, items_fit, ranges_fit, shown_fits, slots_fit}
+use Rattle.arrow_data.proofs.Fitting.{all_at, all_drop, all_take, items_fit, list_many, ranges_fit, shown_fits, slots_fit}
 
 -- what has no encoding has none
 pub no_encoding : (e : Option Encoding) → is_some e ≡ false → e ≡ None
@@ -78,8 +78,10 @@ ranges_resolved_fit len t e body (ranges.FixedBytes f) small h = ranges_fit len 
 ranges_resolved_fit len t e body (ranges.Lists w v o child) small h =
     let places = bytes_of body o in
     slots_fit (FitsType (plain_type t) None) len _ (λ j l.
-    shown_fits (form_of t.tag) (plain_fields t.children) (is_valid_at (bytes_of body v) j) _ (λ _.
-    (subst IsLists (sym h.1) tt, list_resolved_fits t.children child.value (place_of w places j) (place_of w places (j + 1)) h.2.typed h.2.known)))
+    shown_fits (form_of t.tag) (plain_fields t.children) (is_valid_at (bytes_of body v) j) _ (λ _. (
+      list_many (form_of t.tag) w len j places child.value.resolved h.1 (subst (λ n. HasItemPlaces w len n places) (sym h.2.known.long) h.2.laid.rising) l,
+      list_resolved_fits t.children child.value (item_place w places j) (item_place w places (j + 1)) h.2.typed h.2.known,
+    )))
 ranges_resolved_fit len t e body (ranges.Structs v children) small h =
     slots_fit (FitsType (plain_type t) None) len _ (λ j l.
     shown_fits (form_of t.tag) (plain_fields t.children) (is_valid_at (bytes_of body v) j) _ (λ _. (h.1, struct_resolved_fits t.children children.items j h.2.typed h.2.known)))

@@ -16,7 +16,7 @@ use Rattle.arrow_data.specs.Fits.{AllFit, plain_type}
 use Rattle.arrow_data.specs.Form.{form_of}
 use Rattle.arrow_data.specs.Resolve.{resolve, resolve_items, resolve_parts, entry_of, before}
 use Rattle.arrow_data.specs.Column.{Column, ValueList, AreOf, Agree, IsColumn, IsValueList, field_of_listed, listed_of}
-use Rattle.arrow_data.specs.Slots.{slots, list_slot, struct_slot, is_valid_at, place_of, entry_at, IsIndex}
+use Rattle.arrow_data.specs.Slots.{slots, list_slot, struct_slot, is_valid_at, item_place, entry_at, IsIndex}
 use Rattle.arrow_data.specs.Node.{AreBytes, HasOwnFields, column_by, column_of, raw_slot, resolved_slot, AreRanges, IsArray, bytes_of}
 use Rattle.arrow_data.specs.declared.array.Array.TheInside.{Inside}
 use Rattle.arrow_data.specs.declared.array.Ranges.{Ranges}
@@ -170,7 +170,7 @@ ranges_known len t e body (ranges.Lists w v o child) few small has h =
     let places = bytes_of body o in
     subst (λ x. IsColumn (column_by t x len body (ranges.Lists w v o child))) (sym h.0) (values_known t len _ _ child.value.dictionaries _ _ few (none_fit len t e body (ranges.Lists w v o child) small h h.0) (ranges_resolved_fit len t e body (ranges.Lists w v o child) small h) (child_listed t.children child.value h.2.typed h.2.known) h.2.known.listed_known
     (λ flat j. ap (λ vs. list_slot w (bytes_of body v) places vs j) (child_plain t.children child.value h.2.typed h.2.known flat)) (λ d agree j l.
-    shown_resolves None t.children d (is_valid_at (bytes_of body v) j) _ _ (λ valid. ap (option_map list_value) (list_resolves t.children child.value d (place_of w places j) (place_of w places (j + 1)) h.2.typed h.2.known agree))))
+    shown_resolves None t.children d (is_valid_at (bytes_of body v) j) _ _ (λ valid. ap (option_map list_value) (list_resolves t.children child.value d (item_place w places j) (item_place w places (j + 1)) h.2.typed h.2.known agree))))
 ranges_known len t e body (ranges.Structs v children) few small has h =
     subst (λ x. IsColumn (column_by t x len body (ranges.Structs v children))) (sym h.0) (values_known t len _ _ (listed_of children.items) _ _ few (none_fit len t e body (ranges.Structs v children) small h h.0) (ranges_resolved_fit len t e body (ranges.Structs v children) small h) (fields_listed t.children children.items h.2.typed h.2.known) (all_listed_known children.items h.2.known)
     (λ flat j. ap (λ vs. struct_slot (bytes_of body v) vs j) (children_plain t.children children.items h.2.typed h.2.known flat)) (λ d agree j l.

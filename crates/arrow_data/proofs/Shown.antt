@@ -26,6 +26,10 @@ slot_inside width i n m h long = omega (arith, column_fits width i width n h (om
 pub parts_inside : (width i k n m : ℕ) → i ≤ k → k ≤ n → width * n ≤ m → (width * i ≤ width * k) × (width * k ≤ m)
 parts_inside width i k n m order inside long = (mul-le width i width k (omega arith) order, omega (arith, mul-le width k width n (omega arith) inside, long))
 
+-- the items of a fixed-size list
+pub items_inside : (size i n m : ℕ) → i < n → size * n ≤ m → (size * i ≤ size * (i + 1)) × (size * (i + 1) ≤ m)
+items_inside size i n m h long = parts_inside size i (i + 1) n m (omega arith) (omega (arith, h)) long
+
 -- how many slots there are, what stands in each, and where its bytes are
 pub ruleset shown = (length_slots, at_slots, slot_inside)
 

@@ -24,6 +24,7 @@ use Rattle.arrow_data.specs.declared.byte_range.ByteRange.{ByteRange}
 use Rattle.arrow_data.specs.declared.dictionary.Dictionary.{Dictionary}
 use Rattle.arrow_data.specs.declared.form.Form.{Form}
 use Rattle.arrow_data.specs.declared.form.Form.TheVariants as forms
+use Rattle.arrow_data.specs.declared.form.ListForm.{ListForm}
 use Rattle.arrow_data.specs.declared.form.OffsetWidth.{OffsetWidth}
 use Rattle.arrow_data.proofs.Children.{child_shown, part_of_column}
 use Rattle.arrow_data.proofs.Entries.{dictionary_shown}
@@ -126,7 +127,7 @@ fixed_held a c b v vs view ok is e f =
     subst (λ (x : Column). HoldFixed x b.width v vs) view (rw (e, f) held)
 
 -- lists, with their child
-pub lists_held : (a : Inside) (c : Column) (w : OffsetWidth) (v' o' : ByteRange) (child : Box Array) (v o : List ℕ) → column_of a ≡ c → IsArray a → a.ranges ≡ ranges.Lists w v' o' child
+pub lists_held : (a : Inside) (c : Column) (w : ListForm) (v' o' : ByteRange) (child : Box Array) (v o : List ℕ) → column_of a ≡ c → IsArray a → a.ranges ≡ ranges.Lists w v' o' child
     → v ≡ bytes_of a.body v' → o ≡ bytes_of a.body o' → HoldLists c w v o child.value
 lists_held a c w v' o' child v o view ok is e f =
     let r = ranges.Lists w v' o' child in

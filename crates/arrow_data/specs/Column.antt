@@ -168,7 +168,7 @@ struct_fields_of (forms.Numbers number) children = none
 struct_fields_of (forms.Bytes width) children = none
 struct_fields_of (forms.Texts width) children = none
 struct_fields_of (forms.FixedBytes width) children = none
-struct_fields_of (forms.Lists width) children = none
+struct_fields_of (forms.Lists list) children = none
 struct_fields_of forms.Structs children = children
 
 -- the fields whose values stand side by side in each slot of the column: none of a dictionary-encoded one

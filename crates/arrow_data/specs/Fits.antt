@@ -4,8 +4,8 @@ use Rattle.std.specs.List.{AllByRecursion}
 use Rattle.arrow_bits.specs.Numbers.{FitsInt}
 use Rattle.arrow_types.specs.Field.{Fields, Head, none, more, TypeShape}
 use Rattle.arrow_types.specs.declared.field.Encoding.{Encoding}
-use Rattle.arrow_data.specs.Form.{IsLists, node_form, number_width, has_sign}
-use Rattle.arrow_data.specs.PlainValue.{PlainValue, PlainValues, null_value, bool_value, int_value, binary_value, utf8_value, list_value, struct_value, no_values, more_values}
+use Rattle.arrow_data.specs.Form.{HoldsList, node_form, number_width, has_sign}
+use Rattle.arrow_data.specs.PlainValue.{PlainValue, PlainValues, null_value, bool_value, int_value, binary_value, utf8_value, list_of_values, list_value, struct_value, no_values, more_values}
 use Rattle.arrow_data.specs.declared.form.Form.{Form}
 use Rattle.arrow_data.specs.declared.form.Form.TheVariants as forms
 
@@ -17,7 +17,7 @@ HoldsInt (forms.Numbers number) z = FitsInt (number_width number) (has_sign numb
 HoldsInt (forms.Bytes width) z = ⊥
 HoldsInt (forms.Texts width) z = ⊥
 HoldsInt (forms.FixedBytes width) z = ⊥
-HoldsInt (forms.Lists width) z = ⊥
+HoldsInt (forms.Lists list) z = ⊥
 HoldsInt forms.Structs z = ⊥
 
 -- the byte string is of any length, or of the form's own
@@ -28,7 +28,7 @@ HoldsBinary (forms.Numbers number) bytes = ⊥
 HoldsBinary (forms.Bytes width) bytes = ⊤
 HoldsBinary (forms.Texts width) bytes = ⊥
 HoldsBinary (forms.FixedBytes width) bytes = length bytes ≡ width
-HoldsBinary (forms.Lists width) bytes = ⊥
+HoldsBinary (forms.Lists list) bytes = ⊥
 HoldsBinary forms.Structs bytes = ⊥
 
 -- the bytes are a text
@@ -39,7 +39,7 @@ HoldsUtf8 (forms.Numbers number) bytes = ⊥
 HoldsUtf8 (forms.Bytes width) bytes = ⊥
 HoldsUtf8 (forms.Texts width) bytes = IsUtf8 bytes
 HoldsUtf8 (forms.FixedBytes width) bytes = ⊥
-HoldsUtf8 (forms.Lists width) bytes = ⊥
+HoldsUtf8 (forms.Lists list) bytes = ⊥
 HoldsUtf8 forms.Structs bytes = ⊥
 
 abbrev mutual
@@ -51,7 +51,7 @@ abbrev mutual
   Fits form children (int_value z) = HoldsInt form z
   Fits form children (binary_value bytes) = HoldsBinary form bytes
   Fits form children (utf8_value bytes) = HoldsUtf8 form bytes
-  Fits form children (list_value items) = IsLists form × ItemsFit children items
+  Fits form children (list_value items) = HoldsList form (length (list_of_values items)) × ItemsFit children items
   Fits form children (struct_value parts) = (form ≡ forms.Structs) × PartsFit children parts
 
   -- the items of a list, by its one child field

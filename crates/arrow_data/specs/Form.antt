@@ -13,6 +13,8 @@ use Rattle.arrow_types.specs.declared.data_type.IntervalUnit.TheVariants.{YearMo
 use Rattle.arrow_types.specs.declared.field.Encoding.{Encoding}
 use Rattle.arrow_data.specs.declared.form.Form.{Form}
 use Rattle.arrow_data.specs.declared.form.Form.TheVariants as forms
+use Rattle.arrow_data.specs.declared.form.ListForm.{ListForm}
+use Rattle.arrow_data.specs.declared.form.ListForm.TheVariants as lists
 use Rattle.arrow_data.specs.declared.form.NumberForm.{NumberForm}
 use Rattle.arrow_data.specs.declared.form.NumberForm.TheVariants as numbers
 use Rattle.arrow_data.specs.declared.form.OffsetWidth.{OffsetWidth}
@@ -49,10 +51,11 @@ form_of tags.large_binary = forms.Bytes Large
 form_of (tags.fixed_size_binary width) = forms.FixedBytes width
 form_of tags.utf8 = forms.Texts Small
 form_of tags.large_utf8 = forms.Texts Large
-form_of tags.list = forms.Lists Small
-form_of tags.large_list = forms.Lists Large
+form_of tags.list = forms.Lists (lists.Offsets Small)
+form_of tags.large_list = forms.Lists (lists.Offsets Large)
 form_of tags.struct = forms.Structs
-form_of (tags.map sorted) = forms.Lists Small
+form_of (tags.map sorted) = forms.Lists (lists.Offsets Small)
+form_of (tags.fixed_size_list size) = forms.Lists (lists.Fixed size)
 
 -- the form of the indices of an encoding
 abbrev pub index_form : Encoding → Form
@@ -87,6 +90,12 @@ abbrev pub has_sign : NumberForm → Bool
 has_sign (numbers.Int bits signed) = signed
 has_sign numbers.Int128 = true
 
+-- how many buffers a node of lists has: that of validity, and that of the offsets where these are stored (Columnar Format,
+-- "Buffer Listing for Each Layout")
+abbrev pub list_buffers : ListForm → ℕ
+list_buffers (lists.Offsets width) = 2
+list_buffers (lists.Fixed size) = 1
+
 -- how many buffers a node of the form has
 abbrev pub buffers_of : Form → ℕ
 buffers_of forms.Nulls = 0
@@ -95,7 +104,7 @@ buffers_of (forms.Numbers number) = 2
 buffers_of (forms.Bytes width) = 3
 buffers_of (forms.Texts width) = 3
 buffers_of (forms.FixedBytes width) = 2
-buffers_of (forms.Lists width) = 2
+buffers_of (forms.Lists list) = list_buffers list
 buffers_of forms.Structs = 1
 
 -- there is one field
@@ -112,7 +121,7 @@ HasFieldsOf (forms.Numbers number) fields = fields ≡ none
 HasFieldsOf (forms.Bytes width) fields = fields ≡ none
 HasFieldsOf (forms.Texts width) fields = fields ≡ none
 HasFieldsOf (forms.FixedBytes width) fields = fields ≡ none
-HasFieldsOf (forms.Lists width) fields = IsOneField fields
+HasFieldsOf (forms.Lists list) fields = IsOneField fields
 HasFieldsOf forms.Structs fields = ⊤
 
 -- slots hold lists
@@ -123,8 +132,24 @@ IsLists (forms.Numbers number) = ⊥
 IsLists (forms.Bytes width) = ⊥
 IsLists (forms.Texts width) = ⊥
 IsLists (forms.FixedBytes width) = ⊥
-IsLists (forms.Lists width) = ⊤
+IsLists (forms.Lists list) = ⊤
 IsLists forms.Structs = ⊥
+
+-- slots of a node of lists may hold so many items: any number, or the fixed one (Schema.fbs, table "FixedSizeList")
+abbrev pub HoldsItems : ListForm → ℕ → Type 0
+HoldsItems (lists.Offsets width) count = ⊤
+HoldsItems (lists.Fixed size) count = count ≡ size
+
+-- slots of the form hold lists, and may hold one of so many items
+abbrev pub HoldsList : Form → ℕ → Type 0
+HoldsList forms.Nulls count = ⊥
+HoldsList forms.Bits count = ⊥
+HoldsList (forms.Numbers number) count = ⊥
+HoldsList (forms.Bytes width) count = ⊥
+HoldsList (forms.Texts width) count = ⊥
+HoldsList (forms.FixedBytes width) count = ⊥
+HoldsList (forms.Lists list) count = HoldsItems list count
+HoldsList forms.Structs count = ⊥
 
 -- no fields stand below a type of the form
 abbrev pub IsLeaf : Form → Type 0
@@ -134,5 +159,5 @@ IsLeaf (forms.Numbers number) = ⊤
 IsLeaf (forms.Bytes width) = ⊤
 IsLeaf (forms.Texts width) = ⊤
 IsLeaf (forms.FixedBytes width) = ⊤
-IsLeaf (forms.Lists width) = ⊥
+IsLeaf (forms.Lists list) = ⊥
 IsLeaf forms.Structs = ⊥

@@ -34,7 +34,7 @@ width_in (forms.Numbers number) = number_width number
 width_in (forms.Bytes width) = 0
 width_in (forms.Texts width) = 0
 width_in (forms.FixedBytes width) = 0
-width_in (forms.Lists width) = 0
+width_in (forms.Lists list) = 0
 width_in forms.Structs = 0
 
 -- The bytes that a value is in a node of the form: of a number its own, of a byte string or a text those that it has; of

@@ -6,9 +6,11 @@ use Rattle.arrow_types.specs.DataType.{Tag}
 use Rattle.arrow_types.specs.declared.field.Encoding.{Encoding}
 use Rattle.arrow_data.specs.Form.{buffers_of, node_form, number_width}
 use Rattle.arrow_data.specs.PlainValue.{PlainValue}
-use Rattle.arrow_data.specs.Slots.{HasBits, HasOffsets, AreTexts, AreIndices, index_width}
+use Rattle.arrow_data.specs.Slots.{HasBits, HasItemPlaces, HasOffsets, AreTexts, AreIndices, index_width}
 use Rattle.arrow_data.specs.declared.form.Form.{Form}
 use Rattle.arrow_data.specs.declared.form.Form.TheVariants as forms
+use Rattle.arrow_data.specs.declared.form.ListForm.{ListForm}
+use Rattle.arrow_data.specs.declared.form.ListForm.TheVariants as lists
 use Rattle.arrow_data.specs.declared.form.OffsetWidth.{OffsetWidth}
 
 -- a bit for each slot
@@ -27,9 +29,9 @@ pub record HasStrings (width : OffsetWidth) (len : ℕ) (validity offsets bytes 
   pub rising : HasOffsets width len (length bytes) offsets
 
 -- a range of the child's `count` slots for each slot
-pub record HasLists (width : OffsetWidth) (len : ℕ) (validity offsets : List ℕ) (count : ℕ) : Type 0 where
+pub record HasLists (list : ListForm) (len : ℕ) (validity offsets : List ℕ) (count : ℕ) : Type 0 where
   pub bits : HasBits len validity
-  pub rising : HasOffsets width len count offsets
+  pub rising : HasItemPlaces list len count offsets
 
 -- each slot is one of every child
 pub record HasStructs (len : ℕ) (validity counts : List ℕ) : Type 0 where
@@ -45,6 +47,11 @@ buffer buffers k = get_or buffers k []
 abbrev pub buffer_count : Tag → Option Encoding → ℕ
 buffer_count tag e = buffers_of (node_form tag e)
 
+-- the offsets of a node of lists, none where none are stored
+abbrev pub list_offsets : ListForm → List (List ℕ) → List ℕ
+list_offsets (lists.Offsets width) b = buffer b 1
+list_offsets (lists.Fixed size) b = []
+
 -- how many slots the child of a list has
 abbrev pub child_count : List ℕ → ℕ
 child_count counts = get_or counts 0 0
@@ -57,7 +64,7 @@ HoldsSlots (forms.Numbers number) len b counts = HasFixed len (number_width numb
 HoldsSlots (forms.Bytes width) len b counts = HasStrings width len (buffer b 0) (buffer b 1) (buffer b 2)
 HoldsSlots (forms.Texts width) len b counts = HasStrings width len (buffer b 0) (buffer b 1) (buffer b 2)
 HoldsSlots (forms.FixedBytes width) len b counts = HasFixed len width (buffer b 0) (buffer b 1)
-HoldsSlots (forms.Lists width) len b counts = HasLists width len (buffer b 0) (buffer b 1) (child_count counts)
+HoldsSlots (forms.Lists list) len b counts = HasLists list len (buffer b 0) (list_offsets list b) (child_count counts)
 HoldsSlots forms.Structs len b counts = HasStructs len (buffer b 0) counts
 
 -- the buffers and the children of a node hold its slots
@@ -72,7 +79,7 @@ HoldsTexts (forms.Numbers number) len b = ⊤
 HoldsTexts (forms.Bytes width) len b = ⊤
 HoldsTexts (forms.Texts width) len b = AreTexts width len (buffer b 0) (buffer b 1) (buffer b 2)
 HoldsTexts (forms.FixedBytes width) len b = ⊤
-HoldsTexts (forms.Lists width) len b = ⊤
+HoldsTexts (forms.Lists list) len b = ⊤
 HoldsTexts forms.Structs len b = ⊤
 
 -- the valid slots of a node, if it is one of texts, are UTF-8

@@ -1,15 +1,14 @@
 -- What the ranges of a node stand for, and what is known of them in every array.
-use Rattle.std.specs.Prelude.{◌≡◌, ◌≤◌, ◌<◌, ℕ, ℤ, List, [], ◌∷◌, map, length, get_or, slice_range, Option, None, Some}
+use Rattle.std.specs.Prelude.{◌≡◌, ◌≤◌, ◌<◌, ℕ, ℤ, List, [], ◌∷◌, map, length, get_or, slice_index_or, slice_range, Option, None, Some}
 use Rattle.std.specs.List.{AllByRecursion}
 use Rattle.arrow_bits.specs.Numbers.{IsIntWidth}
-use Rattle.arrow_bits.specs.Offsets.{plain_list}
 use Rattle.arrow_types.specs.Field.{TypeShape}
 use Rattle.arrow_types.specs.View.{type_view}
 use Rattle.arrow_types.specs.declared.field.Encoding.{Encoding}
-use Rattle.arrow_data.specs.Form.{HasFieldsOf, form_of, node_form, number_width, offset_bytes, has_sign}
+use Rattle.arrow_data.specs.Form.{HasFieldsOf, form_of, node_form, number_width, has_sign}
 use Rattle.arrow_data.specs.PlainValue.{PlainValue, null_value}
 use Rattle.arrow_data.specs.Column.{Column, ValueList, AreOf, IsColumn, IsValueList, listed_of, counts_of, slots_of}
-use Rattle.arrow_data.specs.Slots.{slots, bool_slot, int_slot, fixed_slot, binary_slot, utf8_slot, list_slot, struct_slot, entry_slot, AreTexts, AreIndices}
+use Rattle.arrow_data.specs.Slots.{slots, bool_slot, int_slot, fixed_slot, binary_slot, utf8_slot, item_places, list_slot, struct_slot, entry_slot, AreTexts, AreIndices}
 use Rattle.arrow_data.specs.Layout.{HasBools, HasFixed, HasStrings, HasLists, HasStructs}
 use Rattle.arrow_data.specs.declared.byte_range.ByteRange.{ByteRange}
 use Rattle.arrow_data.specs.declared.buffers.Bools.{Bools}
@@ -19,7 +18,8 @@ use Rattle.arrow_data.specs.declared.buffers.Strings.{Strings}
 use Rattle.arrow_data.specs.declared.array.Ranges.{Ranges}
 use Rattle.arrow_data.specs.declared.form.Form.{Form}
 use Rattle.arrow_data.specs.declared.form.Form.TheVariants as forms
-use Rattle.arrow_data.specs.declared.form.OffsetWidth.{OffsetWidth}
+use Rattle.arrow_data.specs.declared.form.ListForm.{ListForm}
+use Rattle.arrow_data.specs.declared.form.ListForm.TheVariants as lists
 use Rattle.arrow_data.specs.declared.array.Ranges.TheVariants as ranges
 use Rattle.arrow_data.specs.declared.array.Array.TheInside.{Inside}
 
@@ -108,9 +108,9 @@ dictionaries_of e (ranges.Binaries s) = []
 dictionaries_of e (ranges.Texts s) = []
 dictionaries_of e (ranges.FixedBytes f) = []
 
--- the offsets of lists
+-- where the items of lists begin and end
 abbrev pub offsets_in : ℕ → List ℕ → Ranges → List ℕ
-offsets_in len body (ranges.Lists w v o child) = plain_list (offset_bytes w) len (bytes_of body o)
+offsets_in len body (ranges.Lists w v o child) = item_places w len (bytes_of body o)
 offsets_in len body ranges.Nulls = []
 offsets_in len body (ranges.Bools b) = []
 offsets_in len body (ranges.Ints n) = []
@@ -159,10 +159,10 @@ pub record AreFixed (len : ℕ) (body : List ℕ) (f : Fixed) : Type 0 where
   pub laid : HasFixed len f.width (bytes_of body f.validity) (bytes_of body f.values)
 
 -- the ranges hold a part of the child's slots for each slot, and the child is of the type's one field
-pub record AreLists (width : OffsetWidth) (len : ℕ) (t : TypeShape) (body : List ℕ) (v o : ByteRange) (child : Column) : Type 0 where
+pub record AreLists (list : ListForm) (len : ℕ) (t : TypeShape) (body : List ℕ) (v o : ByteRange) (child : Column) : Type 0 where
   pub validity : IsInside body v
   pub offsets : IsInside body o
-  pub laid : HasLists width len (bytes_of body v) (bytes_of body o) (length child.raw)
+  pub laid : HasLists list len (bytes_of body v) (bytes_of body o) (length child.raw)
   pub typed : AreOf t.children (child ∷ [])
   pub known : IsColumn child
 
@@ -181,7 +181,7 @@ IsFormat (forms.Numbers number) n = (n.width ≡ number_width number) × (n.sign
 IsFormat (forms.Bytes width) n = ⊥
 IsFormat (forms.Texts width) n = ⊥
 IsFormat (forms.FixedBytes width) n = ⊥
-IsFormat (forms.Lists width) n = ⊥
+IsFormat (forms.Lists list) n = ⊥
 IsFormat forms.Structs n = ⊥
 
 -- the ranges hold an index for each slot, which has its value where it is valid, in a dictionary of the type
@@ -232,6 +232,11 @@ AreBytes body = (i : ℕ) → get_or body i 0 < 256
 -- below a type stand the fields that its form asks for
 abbrev pub HasOwnFields : TypeShape → Type 0
 HasOwnFields t = HasFieldsOf (form_of t.tag) t.children
+
+-- where the offsets of a node of lists lie: in its second buffer, nowhere where none are stored
+abbrev pub list_range : ListForm → List ByteRange → ByteRange
+list_range (lists.Offsets width) ranges = slice_index_or ranges 1 (record { start = 0; end = 0 })
+list_range (lists.Fixed size) ranges = record { start = 0; end = 0 }
 
 -- what is known of every array: its slots can be counted by a signed 32-bit number, and its ranges, of a body of bytes, are
 -- of its type

@@ -1,14 +1,13 @@
 -- The column of a node, by its buffers, its children and its dictionary (Columnar Format, "Physical Memory Layout").
 use Rattle.std.specs.Prelude.{◌≡◌, ℕ, List, [], ◌∷◌, map, ⊤, get_or, false, Option, None, Some}
-use Rattle.arrow_bits.specs.Offsets.{plain_list}
 use Rattle.arrow_types.specs.Field.{FieldShape, TypeShape}
 use Rattle.arrow_types.specs.Schema.{has_encoding}
 use Rattle.arrow_types.specs.declared.field.Encoding.{Encoding}
 use Rattle.arrow_data.specs.PlainValue.{PlainValue, null_value}
 use Rattle.arrow_data.specs.Column.{Column, ValueList, AreOf, listed_of, slots_of}
-use Rattle.arrow_data.specs.Form.{form_of, number_width, offset_bytes, has_sign}
-use Rattle.arrow_data.specs.Layout.{buffer}
-use Rattle.arrow_data.specs.Slots.{slots, bool_slot, int_slot, fixed_slot, binary_slot, utf8_slot, list_slot, struct_slot, entry_slot, index_width}
+use Rattle.arrow_data.specs.Form.{form_of, number_width, has_sign}
+use Rattle.arrow_data.specs.Layout.{buffer, list_offsets}
+use Rattle.arrow_data.specs.Slots.{slots, bool_slot, int_slot, fixed_slot, binary_slot, utf8_slot, item_places, list_slot, struct_slot, entry_slot, index_width}
 use Rattle.arrow_data.specs.declared.form.Form.{Form}
 use Rattle.arrow_data.specs.declared.form.Form.TheVariants as forms
 
@@ -24,10 +23,10 @@ value_slot (forms.Numbers number) b children j = int_slot (number_width number) 
 value_slot (forms.Bytes width) b children j = binary_slot width (buffer b 0) (buffer b 1) (buffer b 2) j
 value_slot (forms.Texts width) b children j = utf8_slot width (buffer b 0) (buffer b 1) (buffer b 2) j
 value_slot (forms.FixedBytes width) b children j = fixed_slot width (buffer b 0) (buffer b 1) j
-value_slot (forms.Lists width) b children j = list_slot width (buffer b 0) (buffer b 1) (get_or children 0 []) j
+value_slot (forms.Lists list) b children j = list_slot list (buffer b 0) (list_offsets list b) (get_or children 0 []) j
 value_slot forms.Structs b children j = struct_slot (buffer b 0) children j
 
--- the offsets of a node of lists
+-- where the items of a node of lists begin and end
 abbrev pub node_offsets : Form → ℕ → List (List ℕ) → List ℕ
 node_offsets forms.Nulls len b = []
 node_offsets forms.Bits len b = []
@@ -35,7 +34,7 @@ node_offsets (forms.Numbers number) len b = []
 node_offsets (forms.Bytes width) len b = []
 node_offsets (forms.Texts width) len b = []
 node_offsets (forms.FixedBytes width) len b = []
-node_offsets (forms.Lists width) len b = plain_list (offset_bytes width) len (buffer b 1)
+node_offsets (forms.Lists list) len b = item_places list len (list_offsets list b)
 node_offsets forms.Structs len b = []
 
 -- the index in a slot

@@ -4,10 +4,12 @@ use Rattle.std.specs.Prelude.{◌≡◌, ◌≤◌, ◌<◌, ◌+◌, ◌*◌, �
 use Rattle.std.specs.List.{range_with_len}
 use Rattle.arrow_bits.specs.Bitmap.{bit_of}
 use Rattle.arrow_bits.specs.Numbers.{number_at, int_of}
-use Rattle.arrow_bits.specs.Offsets.{AreOffsetsOf}
+use Rattle.arrow_bits.specs.Offsets.{AreOffsetsOf, plain_list}
 use Rattle.arrow_types.specs.declared.field.IndexType.{IndexType}
 use Rattle.arrow_data.specs.Form.{int_width, offset_bytes}
 use Rattle.arrow_data.specs.PlainValue.{PlainValue, null_value, bool_value, int_value, binary_value, utf8_value, list_value, struct_value, values_of, value_at}
+use Rattle.arrow_data.specs.declared.form.ListForm.{ListForm}
+use Rattle.arrow_data.specs.declared.form.ListForm.TheVariants as lists
 use Rattle.arrow_data.specs.declared.form.OffsetWidth.{OffsetWidth}
 
 -- slot j is valid: its bit is set, or there is no bitmap (Columnar Format, "Validity bitmaps")
@@ -47,9 +49,24 @@ binary_slot width validity offsets bytes j = or_null validity j (binary_value (r
 abbrev pub utf8_slot : OffsetWidth → List ℕ → List ℕ → List ℕ → ℕ → PlainValue
 utf8_slot width validity offsets bytes j = or_null validity j (utf8_value (range_of width offsets bytes j))
 
--- the items out of the values of the child (Columnar Format, "Variable-size List Layout")
-abbrev pub list_slot : OffsetWidth → List ℕ → List ℕ → List PlainValue → ℕ → PlainValue
-list_slot width validity offsets child j = or_null validity j (list_value (values_of (range_of width offsets child j)))
+-- where the items of slot j begin among the slots of the child: at offset j, or after those of j fixed-size lists (Columnar
+-- Format, "Variable-size List Layout", "Fixed-Size List Layout")
+abbrev pub item_place : ListForm → List ℕ → ℕ → ℕ
+item_place (lists.Offsets width) offsets j = place_of width offsets j
+item_place (lists.Fixed size) offsets j = size * j
+
+-- what lies in the child from where the items of slot j begin up to where those of the next one do
+abbrev pub items_at : ListForm → List ℕ → List PlainValue → ℕ → List PlainValue
+items_at list offsets child j = slice_range child (item_place list offsets j) (item_place list offsets (j + 1))
+
+-- the items out of the values of the child
+abbrev pub list_slot : ListForm → List ℕ → List ℕ → List PlainValue → ℕ → PlainValue
+list_slot list validity offsets child j = or_null validity j (list_value (values_of (items_at list offsets child j)))
+
+-- where the items of each of `len` slots begin, and where those of the last end
+abbrev pub item_places : ListForm → ℕ → List ℕ → List ℕ
+item_places (lists.Offsets width) len offsets = plain_list (offset_bytes width) len offsets
+item_places (lists.Fixed size) len offsets = map (λ j. size * j) (range_with_len 0 (len + 1))
 
 -- slot j of the values of each child (Columnar Format, "Struct Layout")
 abbrev pub struct_slot : List ℕ → List (List PlainValue) → ℕ → PlainValue
@@ -75,6 +92,11 @@ HasBits len bits = 0 < length bits → len ≤ 8 * length bits
 -- `len` ranges that end at `top` or before; for no slots the offsets may be left out
 abbrev pub HasOffsets : OffsetWidth → ℕ → ℕ → List ℕ → Type 0
 HasOffsets width len top offsets = 0 < len + length offsets → AreOffsetsOf (offset_bytes width) offsets len top
+
+-- the items of `len` lists end at slot `top` of the child or before
+abbrev pub HasItemPlaces : ListForm → ℕ → ℕ → List ℕ → Type 0
+HasItemPlaces (lists.Offsets width) len top offsets = HasOffsets width len top offsets
+HasItemPlaces (lists.Fixed size) len top offsets = size * len ≤ top
 
 -- each valid slot is a text in UTF-8
 abbrev pub AreTexts : OffsetWidth → ℕ → List ℕ → List ℕ → List ℕ → Type 0

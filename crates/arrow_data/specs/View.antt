@@ -1,15 +1,15 @@
 -- What the buffers of a column hold (Columnar Format, "Physical Memory Layout").
 use Rattle.std.specs.Prelude.{◌≡◌, ◌<◌, ℕ, pos, Bool, List, length, map, None, is_some, IsTrue}
 use Rattle.arrow_bits.specs.Numbers.{IsIntWidth}
-use Rattle.arrow_bits.specs.Offsets.{plain_list}
 use Rattle.arrow_data.specs.declared.form.NumberForm.{NumberForm}
 use Rattle.arrow_data.specs.PlainValue.{PlainValue, int_value, null_value, value_at}
 use Rattle.arrow_data.specs.Column.{Column, HasChild, HasDictionary, HasFields, ValueList}
-use Rattle.arrow_data.specs.Form.{has_sign, node_form, number_width, offset_bytes}
+use Rattle.arrow_data.specs.Form.{has_sign, node_form, number_width}
 use Rattle.arrow_data.specs.Layout.{HasBools, HasFixed, HasLists, HasStrings}
-use Rattle.arrow_data.specs.Slots.{AreIndices, AreTexts, HasBits, binary_slot, bool_slot, entry_slot, fixed_slot, int_slot, list_slot, struct_slot, utf8_slot}
+use Rattle.arrow_data.specs.Slots.{AreIndices, AreTexts, HasBits, binary_slot, bool_slot, entry_slot, fixed_slot, int_slot, item_places, list_slot, struct_slot, utf8_slot}
 use Rattle.arrow_data.specs.declared.form.Form.{Form}
 use Rattle.arrow_data.specs.declared.form.Form.TheVariants as forms
+use Rattle.arrow_data.specs.declared.form.ListForm.{ListForm}
 use Rattle.arrow_data.specs.declared.form.OffsetWidth.{OffsetWidth}
 use Rattle.arrow_data.specs.declared.view.Buffers.{Buffers}
 use Rattle.arrow_data.specs.declared.view.Buffers.TheVariants as buffers
@@ -76,12 +76,12 @@ HoldFixed c width validity values =
     IsOf (forms.FixedBytes width) c × HasFixed (length c.raw) width validity values
     × AreRaw c (fixed_slot width validity values) × AreValues c (fixed_slot width validity values)
 
--- lists, with the child that their items stand in; the offsets are the column's, also those of slots without a value
-abbrev pub HoldLists : Column → OffsetWidth → List ℕ → List ℕ → Column → Type 0
-HoldLists c width validity offsets child =
-    IsOf (forms.Lists width) c × HasLists width (length c.raw) validity offsets (length child.raw) × HasChild c child
-    × (c.offsets ≡ plain_list (offset_bytes width) (length c.raw) offsets)
-    × AreRaw c (list_slot width validity offsets child.raw) × AreValues c (list_slot width validity offsets child.resolved)
+-- lists, with the child that their items stand in; where these begin and end is the column's, also of slots without a value
+abbrev pub HoldLists : Column → ListForm → List ℕ → List ℕ → Column → Type 0
+HoldLists c list validity offsets child =
+    IsOf (forms.Lists list) c × HasLists list (length c.raw) validity offsets (length child.raw) × HasChild c child
+    × (c.offsets ≡ item_places list (length c.raw) offsets)
+    × AreRaw c (list_slot list validity offsets child.raw) × AreValues c (list_slot list validity offsets child.resolved)
 
 -- structs, with the children that have a slot for each of theirs
 abbrev pub HoldStructs : Column → List ℕ → List Column → Type 0
@@ -104,6 +104,6 @@ AreBuffersOf c (buffers.Numbers of) = HoldInts c of.width of.signed of.validity.
 AreBuffersOf c (buffers.Binaries of) = HoldBinaries c of.width of.validity.now of.offsets.now of.bytes.now
 AreBuffersOf c (buffers.Texts of) = HoldTexts c of.width of.validity.now of.offsets.now of.bytes.now
 AreBuffersOf c (buffers.FixedBytes width validity values) = HoldFixed c width validity.now values.now
-AreBuffersOf c (buffers.Lists width validity offsets child) = HoldLists c width validity.now offsets.now child.now
+AreBuffersOf c (buffers.Lists list validity offsets child) = HoldLists c list validity.now offsets.now child.now
 AreBuffersOf c (buffers.Structs validity children) = HoldStructs c validity.now children.now
 AreBuffersOf c (buffers.Indices of dictionary) = HoldIndices c of.width of.signed of.validity.now of.values.now dictionary.now

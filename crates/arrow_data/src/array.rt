@@ -22,9 +22,9 @@ use crate::byte_range::{ByteRange, bytes_in};
 use crate::decimals::{self, Decimal};
 use crate::dictionary::Dictionary;
 use crate::floats::number_of;
-use crate::form::OffsetWidth;
+use crate::form::ListForm;
 use crate::intervals::{self, Interval};
-use crate::offsets::OffsetBuffer;
+use crate::offsets::ItemPlaces;
 use crate::shared_body::SharedBody;
 use crate::slot::{first_invalid, is_valid};
 use arrow_types::{DataType, Encoding};
@@ -42,7 +42,7 @@ pub(crate) enum Ranges {
     Texts(Strings),
     FixedBytes(Fixed),
     Lists {
-        width: OffsetWidth,
+        form: ListForm,
         validity: ByteRange,
         offsets: ByteRange,
         child: Box<Array>,
@@ -211,19 +211,19 @@ impl Array {
                 None => Seen::Nothing,
             },
             Ranges::Lists {
-                width,
+                form,
                 validity,
                 offsets,
                 child,
             } => {
-                let (marks, places) = (bytes_in(body, *validity), bytes_in(body, *offsets));
-                let offsets = OffsetBuffer {
-                    width: *width,
+                let (marks, offsets) = (bytes_in(body, *validity), bytes_in(body, *offsets));
+                let places = ItemPlaces {
+                    form: *form,
                     len: self.len,
                     top: child.len(),
-                    bytes: places,
+                    offsets,
                 };
-                match offsets.range_at(marks, i) {
+                match places.range_at(marks, i) {
                     Some((start, end)) => Seen::Items(start, end, child),
                     None => Seen::Nothing,
                 }

@@ -7,7 +7,7 @@ ghost use Rattle.arrow_types.specs.Field.{none};
 ghost use Rattle.arrow_types.specs.View.{type_view};
 ghost use Rattle.arrow_data.specs.Form.{buffers_of, decimal_form, form_of, greatest_offset};
 ghost use Rattle.arrow_data.specs.Form.{has_sign, HasFieldsOf, int_width, interval_form, IsLeaf};
-ghost use Rattle.arrow_data.specs.Form.{node_form, number_width, offset_bytes};
+ghost use Rattle.arrow_data.specs.Form.{list_buffers, node_form, number_width, offset_bytes};
 ghost use Rattle.arrow_data.specs.declared.form.Form.TheVariants as forms;
 ghost use Rattle.arrow_data.specs.declared.form.NumberForm.TheVariants as numbers;
 
@@ -93,6 +93,29 @@ impl NumberForm {
     }
 }
 
+/// Where the items of lists lie among the slots of their child.
+#[derive(Clone, Copy, Debug, PartialEq, Eq)]
+pub enum ListForm {
+    /// From an offset up to the next one (Columnar Format, "Variable-size List Layout").
+    Offsets(OffsetWidth),
+    /// So many for each list, one list after the other (Columnar Format, "Fixed-Size List Layout").
+    Fixed(u32),
+}
+
+impl ListForm {
+    /// How many buffers a node of lists has: that of validity, and that of the offsets where these
+    /// are stored.
+    #[inline(always)]
+    pub fn buffers(self) -> usize
+        ensures { result ≡ list_buffers self }
+    {
+        match self {
+            ListForm::Offsets(_) => 2,
+            ListForm::Fixed(_) => 1,
+        }
+    }
+}
+
 /// How the buffers of a node hold its slots (Columnar Format, "Physical Memory Layout").
 #[derive(Clone, Copy, Debug, PartialEq, Eq)]
 pub enum Form {
@@ -108,8 +131,8 @@ pub enum Form {
     Texts(OffsetWidth),
     /// So many bytes for each slot.
     FixedBytes(u32),
-    /// Lists behind offsets, with their items in a child.
-    Lists(OffsetWidth),
+    /// Lists, with their items in a child.
+    Lists(ListForm),
     /// A slot of each child for each slot.
     Structs,
 }
@@ -123,7 +146,8 @@ impl Form {
         match self {
             Form::Nulls => 0,
             Form::Structs => 1,
-            Form::Bits | Form::Numbers(_) | Form::FixedBytes(_) | Form::Lists(_) => 2,
+            Form::Lists(list) => list.buffers(),
+            Form::Bits | Form::Numbers(_) | Form::FixedBytes(_) => 2,
             Form::Bytes(_) | Form::Texts(_) => 3,
         }
     }
@@ -161,8 +185,11 @@ pub fn form_of(data_type: &DataType) -> Form
         DataType::FixedSizeBinary(width) => Form::FixedBytes(*width),
         DataType::Utf8 => Form::Texts(OffsetWidth::Small),
         DataType::LargeUtf8 => Form::Texts(OffsetWidth::Large),
-        DataType::List(_) | DataType::Map(..) => Form::Lists(OffsetWidth::Small),
-        DataType::LargeList(_) => Form::Lists(OffsetWidth::Large),
+        DataType::List(_) | DataType::Map(..) => {
+            Form::Lists(ListForm::Offsets(OffsetWidth::Small))
+        }
+        DataType::LargeList(_) => Form::Lists(ListForm::Offsets(OffsetWidth::Large)),
+        DataType::FixedSizeList(_, size) => Form::Lists(ListForm::Fixed(*size)),
         DataType::Struct(_) => Form::Structs,
     }
 }

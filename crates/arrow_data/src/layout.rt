@@ -12,14 +12,15 @@ ghost use Rattle.arrow_bits.specs.Offsets.{AreOffsetsOf};
 ghost use Rattle.std.specs.List.{AllByRecursion};
 ghost use Rattle.arrow_types.specs.View.{type_view};
 ghost use Rattle.arrow_data.specs.Layout.{HasBools, HasFixed, HasLists, HasStrings, IsLaid, buffer};
-ghost use Rattle.arrow_data.specs.Form.{offset_bytes};
-ghost use Rattle.arrow_data.specs.Layout.{buffer_count};
+ghost use Rattle.arrow_data.specs.Form.{list_buffers, offset_bytes};
+ghost use Rattle.arrow_data.specs.Layout.{buffer_count, list_offsets};
 ghost use Rattle.arrow_data.specs.Node.{bytes_of, IsInside};
-ghost use Rattle.arrow_data.specs.Slots.{HasBits, HasOffsets, AreIndices, AreTexts, IsIndex};
+ghost use Rattle.arrow_data.specs.Slots.{HasBits, HasItemPlaces, HasOffsets};
+ghost use Rattle.arrow_data.specs.Slots.{AreIndices, AreTexts, IsIndex};
 
 use crate::byte_range::{ByteRange, bytes_in, hold_bytes};
-use crate::form::{Form, OffsetWidth, node_form};
-use crate::offsets::OffsetBuffer;
+use crate::form::{Form, ListForm, OffsetWidth, node_form};
+use crate::offsets::{ItemPlaces, OffsetBuffer};
 use crate::parts::NodeBuffers;
 use crate::texts::are_slots_utf8;
 use crate::view::{NumberBuffers, StringBuffers};
@@ -63,13 +64,28 @@ pub fn has_strings(len: usize, strings: StringBuffers<'_>) -> bool
     has_bits(len, strings.validity) && has_offsets(strings.ranges(len))
 }
 
-/// Whether there is a range of the child's slots, behind the offsets, for each of theirs.
+/// Whether there is a range of the child's slots for each list.
 #[inline(always)]
-pub fn has_lists(validity: &[u8], offsets: OffsetBuffer<'_>) -> bool
-    ensures { IsTrue result ↔ HasLists offsets.entry.width offsets.entry.len validity.now
-        offsets.entry.bytes.now offsets.entry.top }
+pub fn has_lists(validity: &[u8], places: ItemPlaces<'_>) -> bool
+    ensures { IsTrue result ↔ HasLists places.entry.form places.entry.len validity.now
+        places.entry.offsets.now places.entry.top }
 {
-    has_bits(offsets.len, validity) && has_offsets(offsets)
+    has_bits(places.len, validity) && has_item_places(places)
+}
+
+// Whether the items of all lists lie inside the child.
+#[inline(always)]
+fn has_item_places(places: ItemPlaces<'_>) -> bool
+    ensures { IsTrue result ↔ HasItemPlaces places.entry.form places.entry.len places.entry.top
+        places.entry.offsets.now }
+{
+    match places.form {
+        ListForm::Offsets(width) => has_offsets(places.of_width(width)),
+        ListForm::Fixed(size) => match (size as usize).checked_mul(places.len) {
+            Some(items) => items <= places.top,
+            None => false,
+        },
+    }
 }
 
 /// Whether there are offsets for each of the slots, none of which passes the top.
@@ -214,13 +230,13 @@ pub fn is_laid(
                 bytes: buffer(body, buffers, 2),
             },
         ),
-        Form::Lists(width) => has_lists(
+        Form::Lists(form) => has_lists(
             buffer(body, buffers, 0),
-            OffsetBuffer {
-                width,
+            ItemPlaces {
+                form,
                 len,
                 top: counts.first().copied().unwrap_or(0),
-                bytes: buffer(body, buffers, 1),
+                offsets: offsets_of(form, body, buffers),
             },
         ),
         Form::Structs => has_bits(len, buffer(body, buffers, 0)) && are_longer(len, counts),
@@ -247,4 +263,17 @@ fn buffer<'a>(body: &'a [u8], buffers: &[ByteRange], k: usize) -> &'a [u8]
     ensures { result.now ≡ buffer (map (bytes_of body.now) buffers.now) k }
 {
     bytes_in(body, buffers[k])
+}
+
+// The offsets of a node of lists, none where none are stored.
+#[inline(always)]
+fn offsets_of<'a>(form: ListForm, body: &'a [u8], buffers: &[ByteRange]) -> &'a [u8]
+    requires there { list_buffers form ≤ length buffers.now }
+    requires inside { AllByRecursion (IsInside body.now) buffers.now }
+    ensures { result.now ≡ list_offsets form (map (bytes_of body.now) buffers.now) }
+{
+    match form {
+        ListForm::Offsets(_) => buffer(body, buffers, 1),
+        ListForm::Fixed(_) => &[],
+    }
 }

@@ -70,7 +70,7 @@ pub use decimals::Decimal;
 pub use dictionary::Dictionary;
 pub use intervals::Interval;
 pub use listed::Listed;
-pub use offsets::OffsetBuffer;
+pub use offsets::{ItemPlaces, OffsetBuffer};
 pub use parts::{ChildData, NodeBuffers};
 pub use shared_body::SharedBody;
 pub use shared_type::{SharedType, shared_types};

@@ -1,12 +1,13 @@
-//! The offsets of a node, as a buffer has them.
+//! The offsets of a node, as a buffer has them, and where the items of lists lie.
 
-ghost use Rattle.std.specs.Prelude.{◌≡◌, ◌+◌, ◌<◌, ◌≤◌, MatchOption, true, false};
+ghost use Rattle.std.specs.Prelude.{◌≡◌, ◌+◌, ◌*◌, ◌<◌, ◌≤◌, MatchOption, true, false};
 ghost use Rattle.std.specs.List.Sorted.{IsNonDecreasing};
 ghost use Rattle.arrow_bits.specs.Offsets.{plain_list};
 ghost use Rattle.arrow_data.specs.Form.{offset_bytes};
-ghost use Rattle.arrow_data.specs.Slots.{is_valid_at, place_of, HasBits, HasOffsets};
+ghost use Rattle.arrow_data.specs.Slots.{is_valid_at, item_place, place_of, HasBits};
+ghost use Rattle.arrow_data.specs.Slots.{HasItemPlaces, HasOffsets};
 
-use crate::form::OffsetWidth;
+use crate::form::{ListForm, OffsetWidth};
 use crate::slot::is_valid;
 use arrow_bits::{LargeOffsets, Offsets};
 
@@ -71,4 +72,71 @@ impl OffsetBuffer<'_> {
             None
         }
     }
+}
+
+/// Where the items of lists lie among the slots of their child (Columnar Format, "Variable-size List
+/// Layout", "Fixed-Size List Layout").
+#[derive(Clone, Copy)]
+pub struct ItemPlaces<'a> {
+    /// Whether offsets tell it, or each list has as many items.
+    pub form: ListForm,
+    /// How many lists there are.
+    pub len: usize,
+    /// How many slots the child has.
+    pub top: usize,
+    /// The offsets; of fixed-size lists they are not looked at.
+    pub offsets: &'a [u8],
+}
+
+impl<'a> ItemPlaces<'a> {
+    // The offsets, where they have this width.
+    #[inline(always)]
+    pub(crate) fn of_width(self, width: OffsetWidth) -> OffsetBuffer<'a>
+        ensures width { result.width ≡ width }
+        ensures len { result.len ≡ self.entry.len }
+        ensures top { result.top ≡ self.entry.top }
+        ensures bytes { result.bytes.now ≡ self.entry.offsets.now }
+    {
+        OffsetBuffer {
+            width,
+            len: self.len,
+            top: self.top,
+            bytes: self.offsets,
+        }
+    }
+
+    // Where the items of list `i` begin and end, where the slot is valid.
+    #[inline(always)]
+    pub(crate) fn range_at(self, validity: &[u8], i: usize) -> Option<(usize, usize)>
+        requires slot { i < self.len }
+        requires bits { HasBits self.len validity.now }
+        requires places { HasItemPlaces self.form self.len self.top self.offsets.now }
+        ensures { MatchOption result (is_valid_at validity.now i ≡ false)
+            (λ r. (is_valid_at validity.now i ≡ true)
+            × (r.0 ≡ item_place self.entry.form self.entry.offsets.now i)
+            × (r.1 ≡ item_place self.entry.form self.entry.offsets.now (i + 1)) × (r.0 ≤ r.1)
+            × (r.1 ≤ self.entry.top)) }
+    {
+        match self.form {
+            ListForm::Offsets(width) => self.of_width(width).range_at(validity, i),
+            ListForm::Fixed(size) if is_valid(validity, i) => {
+                Some(fixed_range(size as usize, i, self.len, self.top))
+            }
+            ListForm::Fixed(_) => None,
+        }
+    }
+}
+
+// Where the items of list `i` of `len` begin and end, each of which has `size`.
+#[inline(always)]
+#[tactic(auto, using(crate::proofs::Shown::items_inside))]
+fn fixed_range(size: usize, i: usize, len: usize, top: usize) -> (usize, usize)
+    requires slot { i < len }
+    requires inside { size * len ≤ top }
+    ensures start { result.0 ≡ size * i }
+    ensures stop { result.1 ≡ size * (i + 1) }
+    ensures ordered { result.0 ≤ result.1 }
+    ensures within { result.1 ≤ top }
+{
+    (size * i, size * (i + 1))
 }

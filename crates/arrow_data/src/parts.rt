@@ -6,10 +6,10 @@ ghost use Rattle.std.specs.List.{AllByRecursion};
 ghost use Rattle.arrow_types.specs.Schema.{has_encoding};
 ghost use Rattle.arrow_types.specs.View.{type_view};
 ghost use Rattle.arrow_data.specs.Column.{AreOf, Column, IsColumn, IsValueList, counts_of};
-ghost use Rattle.arrow_data.specs.Form.{IsLeaf, form_of};
+ghost use Rattle.arrow_data.specs.Form.{IsLeaf, form_of, list_buffers};
 ghost use Rattle.arrow_data.specs.Layout.{buffer_count, IsLaid, IsText, IsIndexed};
 ghost use Rattle.arrow_data.specs.Node.{bytes_of, column_by, AreRanges, IsFormat};
-ghost use Rattle.arrow_data.specs.Node.{IsInside};
+ghost use Rattle.arrow_data.specs.Node.{IsInside, list_range};
 ghost use Rattle.arrow_data.specs.declared.form.Form.TheVariants as forms;
 ghost use Rattle.arrow_data.specs.Parts.{node_column, values_in, AreChildren, IsOfType};
 
@@ -17,7 +17,7 @@ use crate::array::{Array, Ranges};
 use crate::buffers::{Bools, Fixed, Ints, Strings};
 use crate::byte_range::{ByteRange, hold_bytes};
 use crate::dictionary::Dictionary;
-use crate::form::{Form, NumberForm, OffsetWidth, form_of};
+use crate::form::{Form, ListForm, NumberForm, OffsetWidth, form_of};
 use crate::shared_body::SharedBody;
 use crate::shared_type::SharedType;
 use arrow_types::{DataType, Encoding, Field};
@@ -258,6 +258,18 @@ fn strings(width: OffsetWidth, buffers: &[ByteRange]) -> Strings
     }
 }
 
+// Where the offsets of lists lie: nowhere where no offsets are stored.
+#[inline(always)]
+fn list_range(form: ListForm, buffers: &[ByteRange]) -> ByteRange
+    requires { list_buffers form ≤ length buffers.now }
+    ensures { result ≡ list_range form buffers.now }
+{
+    match form {
+        ListForm::Offsets(_) => buffers[1],
+        ListForm::Fixed(_) => ByteRange { start: 0, end: 0 },
+    }
+}
+
 // The one array there is.
 fn only(mut arrays: Vec<Array>) -> Array
     requires { length arrays.items ≡ 1 }
@@ -291,10 +303,10 @@ fn value_ranges(
 {
     opened(&children);
     match form_of(data_type) {
-        Form::Lists(width) => Ok(Ranges::Lists {
-            width,
+        Form::Lists(form) => Ok(Ranges::Lists {
+            form,
             validity: node.ranges[0],
-            offsets: node.ranges[1],
+            offsets: list_range(form, node.ranges),
             child: Box::new(alloc, only(children))?,
         }),
         Form::Structs => Ok(Ranges::Structs {

@@ -9,7 +9,7 @@ use crate::array::{Array, Ranges};
 use crate::buffers::{Ints, Strings};
 use crate::byte_range::bytes_in;
 use crate::dictionary::Dictionary;
-use crate::form::OffsetWidth;
+use crate::form::{ListForm, OffsetWidth};
 
 /// The buffers of a column, by its layout, with its children or its dictionary. They are slices of
 /// the message body: nothing is copied.
@@ -40,10 +40,11 @@ pub enum Buffers<'a> {
         validity: &'a [u8],
         values: &'a [u8],
     },
-    /// Lists: the items of slot i stand in the slots of `child` from offset i up to offset i + 1.
-    /// Where there is no slot, `offsets` may be empty.
+    /// Lists: the items of slot i are the slots of `child` from offset i up to offset i + 1, or, of a
+    /// fixed size, from `size * i` on. Where there is no slot `offsets` may be empty, and it is of
+    /// lists of a fixed size.
     Lists {
-        width: OffsetWidth,
+        form: ListForm,
         validity: &'a [u8],
         offsets: &'a [u8],
         child: &'a Array,
@@ -146,12 +147,12 @@ impl Array {
                 values: bytes_in(body, fixed.values),
             },
             Ranges::Lists {
-                width,
+                form,
                 validity,
                 offsets,
                 child,
             } => Buffers::Lists {
-                width: *width,
+                form: *form,
                 validity: bytes_in(body, *validity),
                 offsets: bytes_in(body, *offsets),
                 child,

@@ -17,7 +17,7 @@ use Rattle.arrow_meta_reader.specs.SchemaMeaning.{tag_by, fields_in, fields_from
 use Rattle.arrow_meta_reader.specs.Trees.{Tree, leaf, table, tables, Trees, none, more}
 use Rattle.arrow_meta_reader.proofs.Decimals.{of_table}
 
--- a number of bytes is either no width or within the limit
+-- a number of bytes, or of values, is either none that a type has or within the limit
 kept : (n : ℕ) (b : Bool) → nat_lt 2147483647 n ≡ b → nat_lt 2147483647 (unwrap_or (if b then None else Some n) 0) ≡ false
 kept n true h = refl
 kept n false h = h
@@ -25,6 +25,7 @@ kept n false h = h
 narrow_tag : (code : Option TypeCode) (xs : Trees) → is_wide (tag_by code xs) ≡ false
 narrow_tag None xs = refl
 narrow_tag (Some codes.FixedSizeBinary) xs = kept (number_at 0 0 xs) (nat_lt 2147483647 (number_at 0 0 xs)) refl
+narrow_tag (Some codes.FixedSizeList) xs = kept (number_at 0 0 xs) (nat_lt 2147483647 (number_at 0 0 xs)) refl
 narrow_tag (Some codes.Decimal) xs = of_table (λ tag. is_wide tag ≡ false) (λ width precision scale h. refl) xs
 narrow_tag (Some code) xs = refl
 

@@ -65,8 +65,9 @@ bit_width n =
     (if n == 32 then Some widths.ThirtyTwo else
     (if n == 64 then Some widths.SixtyFour else None)))
 
--- The width of a FixedSizeBinary (Schema.fbs, table "FixedSizeBinary", field "byteWidth"): a signed number of 32 bits,
--- of which those above the greatest stand for negative ones, which are no width.
+-- The width of a FixedSizeBinary (Schema.fbs, table "FixedSizeBinary", field "byteWidth") and the size of a FixedSizeList
+-- (table "FixedSizeList", field "listSize"): a signed number of 32 bits, of which those above the greatest are the negative
+-- ones, which are no width and no size.
 abbrev pub byte_width : ℕ → Option ℕ
 byte_width n = if nat_lt 2147483647 n then None else Some n
 

@@ -50,8 +50,8 @@ is_unsupported kinds.DictionaryBatch xs = false
 is_unsupported (kinds.Type code) xs = false
 is_unsupported kinds.KeyValue xs = false
 
--- A list and a map have one child, a struct any number, each other type none (Columnar Format, "Physical memory layout"), and a
--- type outside the profile none that is looked at.
+-- A list of each kind and a map have one child, a struct any number, each other type none (Columnar Format, "Physical memory
+-- layout"), and a type outside the profile none that is looked at.
 abbrev pub children_fit : Option TypeCode → ℕ → Bool
 children_fit None n = n == 0
 children_fit (Some code) n = has_children (type_row code).children n
@@ -62,8 +62,9 @@ abbrev pub entries_fit : Option TypeCode → Fields → Bool
 entries_fit (Some codes.Map) children = are_entries children
 entries_fit code children = true
 
--- Schema: a width or a unit outside its list, a time's width that is not its unit's, a decimal's precision or scale that its
--- width does not allow, a number of children that the type does not have, a map's child that cannot be its entries.
+-- Schema: a width or a unit outside its list, a fixed size that is negative, a time's width that is not its unit's, a decimal's
+-- precision or scale that its width does not allow, a number of children that the type does not have, a map's child that
+-- cannot be its entries.
 abbrev pub is_misfit : TableKind → Trees → Bool
 is_misfit (kinds.Message types) xs = false
 is_misfit (kinds.Schema types) xs = false

@@ -100,6 +100,14 @@ type_row codes.Struct = bare 13 None tags.struct
 -- byteWidth
 type_row codes.FixedSizeBinary =
     tabled 15 (forms.Int ∷ []) (λ xs. is_none (byte_width (number_at 0 0 xs))) (λ xs. tags.fixed_size_binary (unwrap_or (byte_width (number_at 0 0 xs)) 0))
+-- listSize
+type_row codes.FixedSizeList = record {
+  code = 16;
+  fields = forms.Int ∷ [];
+  children = Some 1;
+  is_misfit = λ xs. is_none (byte_width (number_at 0 0 xs));
+  tag = λ xs. tags.fixed_size_list (unwrap_or (byte_width (number_at 0 0 xs)) 0);
+}
 -- keysSorted
 type_row codes.Map = record { code = 17; fields = forms.Byte ∷ []; children = Some 1; is_misfit = λ xs. false; tag = λ xs. tags.map (flag_at 0 xs) }
 -- unit (MILLISECOND)
@@ -112,7 +120,8 @@ type_row codes.LargeList = bare 21 (Some 1) tags.large_list
 abbrev all_types : List TypeCode
 all_types =
     codes.Null ∷ codes.Int ∷ codes.FloatingPoint ∷ codes.Binary ∷ codes.Utf8 ∷ codes.Bool ∷ codes.Decimal ∷ codes.Date ∷ codes.Time ∷ codes.Timestamp ∷
-    codes.Interval ∷ codes.List ∷ codes.Struct ∷ codes.FixedSizeBinary ∷ codes.Map ∷ codes.Duration ∷ codes.LargeBinary ∷ codes.LargeUtf8 ∷ codes.LargeList ∷ []
+    codes.Interval ∷ codes.List ∷ codes.Struct ∷ codes.FixedSizeBinary ∷ codes.FixedSizeList ∷ codes.Map ∷ codes.Duration ∷ codes.LargeBinary ∷ codes.LargeUtf8 ∷
+    codes.LargeList ∷ []
 
 -- the first of these types that has this number
 abbrev numbered : ℕ → List TypeCode → Option TypeCode
@@ -147,6 +156,7 @@ code_of (tags.duration unit) = codes.Duration
 code_of (tags.interval unit) = codes.Interval
 code_of tags.list = codes.List
 code_of tags.large_list = codes.LargeList
+code_of (tags.fixed_size_list size) = codes.FixedSizeList
 code_of tags.struct = codes.Struct
 code_of (tags.map sorted) = codes.Map
 

@@ -58,6 +58,7 @@ pub(crate) enum TypeCode {
     List,
     Struct,
     FixedSizeBinary,
+    FixedSizeList,
     Map,
     Duration,
     LargeBinary,
@@ -92,8 +93,8 @@ pub(crate) fn bit_width(bits: u64) -> Option<BitWidth>
     }
 }
 
-/// The width of this many bytes, None for a negative number: one over the greatest signed number
-/// of 32 bits.
+/// The width of this many bytes, and the size of this many values, None for a negative number: one
+/// over the greatest signed number of 32 bits.
 pub(crate) fn byte_width(bytes: u64) -> Option<u32>
     ensures width { result ≡ byte_width bytes }
 {

@@ -28,7 +28,7 @@ pub(crate) enum Test {
     LacksTable,
     /// It holds something outside the profile.
     Unsupported,
-    /// It holds a width, a unit, a number of children or the entries of a map that no type has.
+    /// It holds a width, a size, a unit, a number of children or the entries of a map that no type has.
     Misfit,
 }
 
@@ -104,8 +104,8 @@ fn is_unsupported(kind: TableKind, parts: &[Tree]) -> bool
     }
 }
 
-/// Whether a table holds a width, a unit, a number of children or the entries of a map that no type
-/// has.
+/// Whether a table holds a width, a size, a unit, a number of children or the entries of a map that
+/// no type has.
 fn is_misfit(kind: TableKind, parts: &[Tree]) -> bool
     ensures misfit { result ≡ is_misfit kind (plain_all parts.now) }
 {

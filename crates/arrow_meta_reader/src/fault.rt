@@ -40,7 +40,7 @@ pub enum MetaFault {
     /// kind, or a dictionary below a dictionary.
     #[error("the schema has something that is not supported")]
     Unsupported { body_len: u64 },
-    /// A schema has a width, a precision or a unit outside its list, a negative number of bytes for a width, a
+    /// A schema has a width, a precision or a unit outside its list, a negative number for a fixed size, a
     /// time of another unit's width, a type with another number of children, or one dictionary id
     /// with unequal value types.
     #[error("the schema contradicts itself")]

@@ -34,8 +34,8 @@ use arrow_types::{
 };
 use std::alloc::Global;
 
-/// The first field of a type's table: `bitWidth` of an Int, `precision`, `unit`, `byteWidth` or
-/// `keysSorted`.
+/// The first field of a type's table: `bitWidth` of an Int, `precision`, `unit`, `byteWidth`,
+/// `listSize` or `keysSorted`.
 const FIRST: u16 = 0;
 
 /// The second one: `is_signed` of an Int, `scale`, `bitWidth` of a Time, `timezone`.
@@ -63,6 +63,7 @@ pub(crate) fn type_code(number: u64) -> Option<TypeCode>
         12 => TypeCode::List,
         13 => TypeCode::Struct,
         15 => TypeCode::FixedSizeBinary,
+        16 => TypeCode::FixedSizeList,
         17 => TypeCode::Map,
         18 => TypeCode::Duration,
         19 => TypeCode::LargeBinary,
@@ -79,7 +80,13 @@ pub(crate) fn taken(types: TypeSet, code: Option<TypeCode>) -> Option<TypeCode>
 {
     match (code, types) {
         (
-            Some(TypeCode::FloatingPoint | TypeCode::Decimal | TypeCode::Interval | TypeCode::Map),
+            Some(
+                TypeCode::FloatingPoint
+                | TypeCode::Decimal
+                | TypeCode::Interval
+                | TypeCode::FixedSizeList
+                | TypeCode::Map,
+            ),
             TypeSet::Core,
         ) => None,
         (code, _) => code,
@@ -102,6 +109,7 @@ pub(crate) fn type_fields(code: TypeCode) -> &'static [FieldForm]
         TypeCode::Timestamp => &[Short, Text],
         TypeCode::Interval => &[Short],
         TypeCode::FixedSizeBinary => &[Int],
+        TypeCode::FixedSizeList => &[Int],
         TypeCode::Map => &[Byte],
         TypeCode::Duration => &[Short],
         _ => &[],
@@ -113,14 +121,15 @@ pub(crate) fn children_fit(code: Option<TypeCode>, count: usize) -> bool
     ensures fit { result ≡ children_fit code count }
 {
     match code {
-        Some(TypeCode::List | TypeCode::LargeList | TypeCode::Map) => count == 1,
+        Some(TypeCode::List | TypeCode::LargeList | TypeCode::FixedSizeList | TypeCode::Map) =>
+            count == 1,
         Some(TypeCode::Struct) => true,
         _ => count == 0,
     }
 }
 
-/// Whether a type's table with these fields holds a width or a unit that no type has, or a precision
-/// or a scale that no decimals of its width have.
+/// Whether a type's table with these fields holds a width, a size or a unit that no type has, or a
+/// precision or a scale that no decimals of its width have.
 pub(crate) fn is_type_misfit(code: TypeCode, parts: &[Tree]) -> bool
     ensures misfit { result ≡ (type_row code).is_misfit (plain_all parts.now) }
 {
@@ -136,6 +145,7 @@ pub(crate) fn is_type_misfit(code: TypeCode, parts: &[Tree]) -> bool
         TypeCode::Timestamp => time_unit(number_at(parts, FIRST, 0)).is_none(),
         TypeCode::Interval => interval_unit(number_at(parts, FIRST, 0)).is_none(),
         TypeCode::FixedSizeBinary => byte_width(number_at(parts, FIRST, 0)).is_none(),
+        TypeCode::FixedSizeList => byte_width(number_at(parts, FIRST, 0)).is_none(),
         TypeCode::Duration => time_unit(number_at(parts, FIRST, 1)).is_none(),
         _ => false,
     }
@@ -173,6 +183,7 @@ pub(crate) fn data_type(
         Some(TypeCode::LargeBinary) => childless(DataType::LargeBinary, children),
         Some(TypeCode::LargeUtf8) => childless(DataType::LargeUtf8, children),
         Some(TypeCode::LargeList) => large_list_type(alloc, children),
+        Some(TypeCode::FixedSizeList) => fixed_size_list_type(alloc, &parts, children),
         Some(TypeCode::Map) => map_type(alloc, &parts, children),
     }
 }
@@ -192,7 +203,9 @@ pub(crate) fn same_part(code: TypeCode, one: &[Tree], other: &[Tree]) -> bool
             time_in(one, 0) == time_in(other, 0)
                 && same_zone(some_text_at(one, SECOND), some_text_at(other, SECOND))
         }
-        TypeCode::FixedSizeBinary => fixed_size_in(one) == fixed_size_in(other),
+        TypeCode::FixedSizeBinary | TypeCode::FixedSizeList => {
+            fixed_size_in(one) == fixed_size_in(other)
+        }
         TypeCode::Interval => interval_in(one) == interval_in(other),
         TypeCode::Map => sorted_in(one) == sorted_in(other),
         _ => true,
@@ -248,6 +261,18 @@ fn large_list_type(alloc: Global, children: Vec<Field>) -> Result<DataType, Fiel
     ensures built { BuildsType result (Some TypeCode.LargeList) none children.items }
 {
     Ok(DataType::LargeList(only(alloc, children)?))
+}
+
+/// Lists of just so many values each, of the one child.
+fn fixed_size_list_type(
+    alloc: Global,
+    parts: &[Tree],
+    children: Vec<Field>,
+) -> Result<DataType, FieldFault>
+    ensures built { BuildsType result (Some TypeCode.FixedSizeList) (plain_all parts.now) children.items }
+{
+    let size = fixed_size_in(parts);
+    Ok(DataType::FixedSizeList(only(alloc, children)?, size))
 }
 
 /// A map of the one child, its entries.
@@ -402,9 +427,10 @@ fn sorted_in(parts: &[Tree]) -> bool
     flag_at(parts, FIRST)
 }
 
-/// The number of bytes that a FixedSizeBinary table with these fields says.
+/// The number of bytes that a FixedSizeBinary table with these fields says, and of values that a
+/// FixedSizeList table does. It is the same field of both.
 fn fixed_size_in(parts: &[Tree]) -> u32
-    ensures bytes { result ≡ unwrap_or (byte_width (number_at 0 0 (plain_all parts.now))) 0 }
+    ensures size { result ≡ unwrap_or (byte_width (number_at 0 0 (plain_all parts.now))) 0 }
 {
     byte_width(number_at(parts, FIRST, 0)).unwrap_or(0)
 }

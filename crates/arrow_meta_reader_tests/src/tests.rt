@@ -6,6 +6,7 @@
 
 mod counts;
 mod decimals;
+mod fixed_size_lists;
 mod hostile;
 mod messages;
 mod reading;

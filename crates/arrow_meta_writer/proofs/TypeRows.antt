@@ -114,6 +114,7 @@ tag_of_all (tags.time unit) children flawless = ap (λ u. tags.time (unwrap_or u
 tag_of_all (tags.timestamp unit None) children flawless = ap (λ u. tags.timestamp (unwrap_or u times.Second) None) (time_again unit)
 tag_of_all (tags.timestamp unit (Some zone)) children flawless = ap (λ u. tags.timestamp (unwrap_or u times.Second) (Some zone)) (time_again unit)
 tag_of_all (tags.fixed_size_binary width) children flawless = ap (λ b. tags.fixed_size_binary (unwrap_or (if b then None else Some width) 0)) (flawless ByteWidth)
+tag_of_all (tags.fixed_size_list size) children flawless = ap (λ b. tags.fixed_size_list (unwrap_or (if b then None else Some size) 0)) (flawless ByteWidth)
 tag_of_all (tags.duration unit) children flawless = ap (λ u. tags.duration (unwrap_or u times.Second)) (time_again unit)
 tag_of_all (tags.map sorted) children flawless = ap tags.map (flag_again sorted)
 tag_of_all (tags.interval unit) children flawless = ap (λ u. tags.interval (unwrap_or u intervals.YearMonth)) (interval_again unit)
@@ -130,6 +131,7 @@ fitting_all (tags.time unit) children flawless = rw (width_of_time unit) refl
 fitting_all (tags.timestamp unit None) children flawless = rw (time_again unit) refl
 fitting_all (tags.timestamp unit (Some zone)) children flawless = rw (time_again unit) refl
 fitting_all (tags.fixed_size_binary width) children flawless = let narrow = flawless ByteWidth in rw narrow refl
+fitting_all (tags.fixed_size_list size) children flawless = let narrow = flawless ByteWidth in rw narrow refl
 fitting_all (tags.duration unit) children flawless = rw (time_again unit) refl
 fitting_all (tags.interval unit) children flawless = rw (interval_again unit) refl
 fitting_all tag children flawless = refl
@@ -149,6 +151,7 @@ type_fits (tags.time unit) children h flawless = (omega arith, (omega (arith, ti
 type_fits (tags.timestamp unit None) children h flawless = (omega arith, (omega (arith, time_fits unit), tt))
 type_fits (tags.timestamp unit (Some zone)) children h flawless = (omega arith, (omega (arith, time_fits unit), (h, tt)))
 type_fits (tags.fixed_size_binary width) children h flawless = (omega arith, (omega (arith, ltb-false 2147483647 width (flawless ByteWidth)), tt))
+type_fits (tags.fixed_size_list size) children h flawless = (omega arith, (omega (arith, ltb-false 2147483647 size (flawless ByteWidth)), tt))
 type_fits (tags.duration unit) children h flawless = (omega arith, (omega (arith, time_fits unit), tt))
 type_fits (tags.map sorted) children h flawless = (omega arith, (flag_fits sorted, tt))
 type_fits (tags.interval unit) children h flawless = (omega arith, (omega (arith, interval_fits unit), tt))

@@ -75,7 +75,7 @@ zone_in _ = None
 
 -- a type's table: of FloatingPoint the precision, of Decimal the precision, the scale and bitWidth, of Date, Duration and
 -- Interval the unit, of Time the unit and bitWidth, of Timestamp the unit and the time zone, of FixedSizeBinary the
--- byteWidth, of Map keysSorted. The types that no reader opens have a table without fields.
+-- byteWidth, of FixedSizeList the listSize, of Map keysSorted. The types that no reader opens have a table without fields.
 abbrev pub type_cells : Tag → Cells
 type_cells (tags.int bits signed) = int_cells bits signed
 type_cells (tags.floating_point precision) = scalar Two (precision_number precision) last
@@ -85,6 +85,7 @@ type_cells (tags.date unit) = scalar Two (date_number unit) last
 type_cells (tags.time unit) = scalar Two (time_number unit) (scalar Four (bits_of (time_width_of unit)) last)
 type_cells (tags.timestamp unit zone) = scalar Two (time_number unit) (zone_cells zone)
 type_cells (tags.fixed_size_binary width) = scalar Four width last
+type_cells (tags.fixed_size_list size) = scalar Four size last
 type_cells (tags.duration unit) = scalar Two (time_number unit) last
 type_cells (tags.interval unit) = scalar Two (interval_number unit) last
 type_cells (tags.map sorted) = scalar One (flag sorted) last

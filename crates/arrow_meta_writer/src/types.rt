@@ -1,10 +1,11 @@
 //! Types as they are written: the code in the field's table, and the type's own table
 //! (`Schema.fbs`, union `Type`, tables `Int`, `FloatingPoint`, `Decimal`, `Date`, `Time`,
-//! `Timestamp`, `FixedSizeBinary`, `Duration`, `Interval`, `Map`).
+//! `Timestamp`, `FixedSizeBinary`, `FixedSizeList`, `Duration`, `Interval`, `Map`).
 //!
 //! `type_slots` has one row for each type: the number of fields, the size and the bytes of a type's
 //! table are computed from that row. A type without parameters has a table without fields. A unit or
-//! a precision is the number of its enum, a width is a number of bits, for `FixedSizeBinary` of bytes.
+//! a precision is the number of its enum, a width is a number of bits, for `FixedSizeBinary` of bytes;
+//! the size of `FixedSizeList` is a number of values.
 //! Places are those of `sizes`: in bytes, and all above the greatest size count as one.
 ghost use Rattle.std.specs.Prelude.{◌≡◌, ◌≤◌, ◌<◌, ℕ, [], ◌∷◌, option_map, length, true};
 ghost use Rattle.std.specs.Prelude.{OnOk};
@@ -51,6 +52,7 @@ pub(crate) fn type_code(data_type: &DataType) -> u64
         DataType::List(_) => 12,
         DataType::Struct(_) => 13,
         DataType::FixedSizeBinary(_) => 15,
+        DataType::FixedSizeList(..) => 16,
         DataType::Map(..) => 17,
         DataType::Duration(_) => 18,
         DataType::LargeBinary => 19,
@@ -122,6 +124,7 @@ fn type_slots(data_type: &DataType, zone: usize) -> TypeSlots
             Slot::Target(zone),
         ]),
         DataType::FixedSizeBinary(width) => scalar(Width::Four, u64::from(*width)),
+        DataType::FixedSizeList(_, size) => scalar(Width::Four, u64::from(*size)),
         DataType::Duration(unit) => scalar(Width::Two, time_number(*unit)),
         DataType::Interval(unit) => scalar(Width::Two, interval_number(*unit)),
         DataType::Map(_, sorted) => scalar(Width::One, bit(*sorted)),

@@ -91,6 +91,7 @@ fn data_type(alloc: Global, word: &str, behind: &mut Vec<Field>) -> Option<DataT
         "interval" => DataType::Interval(interval_unit(unit)?),
         "list" => DataType::List(item(alloc, behind)?),
         "large_list" => DataType::LargeList(item(alloc, behind)?),
+        "fixed_size_list" => DataType::FixedSizeList(item(alloc, behind)?, count(unit)?),
         "struct" => DataType::Struct(parts(alloc, count(unit)?, behind)?),
         _ => {
             let IndexType { bits, signed } = integer(name)?;

@@ -12,8 +12,8 @@ use Rattle.arrow_types.specs.declared.data_type.Precision.TheVariants.{Half, Sin
 use Rattle.arrow_types.specs.declared.data_type.TimeUnit.{TimeUnit}
 use Rattle.arrow_types.specs.declared.data_type.TimeUnit.TheVariants as times
 
--- A type's own part. A zone is given by the bytes of its name, a fixed size by its number of bytes, a decimal by its width,
--- precision and scale, a map by whether its keys are sorted.
+-- A type's own part. A zone is given by the bytes of its name, a fixed size by its number of bytes or of values, a decimal
+-- by its width, precision and scale, a map by whether its keys are sorted.
 pub data Tag : Type 0 where
   null : Tag
   boolean : Tag
@@ -32,6 +32,7 @@ pub data Tag : Type 0 where
   interval : IntervalUnit → Tag
   list : Tag
   large_list : Tag
+  fixed_size_list : ℕ → Tag
   struct : Tag
   map : Bool → Tag
 

@@ -26,9 +26,11 @@ is_nested (more head children rest) = (is_some head.encoding && has_encoding chi
 abbrev pub field_is_nested : FieldShape → Bool
 field_is_nested f = (is_some f.head.encoding && has_encoding f.children) || is_nested f.children
 
--- whether a type has a fixed number of bytes that is no signed 32-bit number (Schema.fbs, table "FixedSizeBinary")
+-- whether a type has a fixed size, in bytes or in values, that is no signed 32-bit number (Schema.fbs, tables
+-- "FixedSizeBinary" and "FixedSizeList")
 abbrev pub is_wide : Tag → Bool
 is_wide (tags.fixed_size_binary width) = nat_lt 2147483647 width
+is_wide (tags.fixed_size_list size) = nat_lt 2147483647 size
 is_wide _ = false
 
 -- whether a type is that of structs
@@ -188,7 +190,7 @@ words_of TooManyFields = codes "more than 65,536 fields"
 words_of NestedDictionary = codes "a dictionary below a dictionary"
 words_of SharedIdTypesDiffer = codes "two value types for one dictionary id"
 words_of Memory = codes "out of memory"
-words_of ByteWidth = codes "byte strings of more than 2,147,483,647 bytes"
+words_of ByteWidth = codes "a fixed size of more than 2,147,483,647"
 words_of TooManyPairs = codes "more than 65,536 pairs of metadata"
 words_of MapEntries = codes "a map whose child is not a struct of two fields"
 words_of DecimalRange = codes "a decimal of a precision or a scale out of range"

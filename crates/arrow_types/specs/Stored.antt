@@ -41,6 +41,7 @@ tag_gv (tags.floating_point precision) = gcons (gnum 6) (precision_row.coded.cod
 tag_gv (tags.interval unit) = gcons (gnum 7) (interval_row.coded.code unit)
 tag_gv (tags.map sorted) = gcons (gnum 8) (coded_bool.code sorted)
 tag_gv (tags.decimal width precision scale) = gcons (gnum 9) (gcons (decimal_row.coded.code width) (gcons (coded_ℕ.code precision) (coded_ℤ.code scale)))
+tag_gv (tags.fixed_size_list size) = gcons (gnum 10) (coded_ℕ.code size)
 
 -- own parts with one tree are equal
 pub tag_inj : (x y : Tag) → tag_gv x ≡ tag_gv y → x ≡ y
@@ -63,6 +64,7 @@ tag_inj (tags.floating_point a) (tags.floating_point b) p = ap tags.floating_poi
 tag_inj (tags.interval u) (tags.interval v) p = ap tags.interval (interval_row.coded.inj u v (cc))
 tag_inj (tags.map a) (tags.map b) p = ap tags.map (coded_bool.inj a b (cc))
 tag_inj (tags.decimal v m x) (tags.decimal w n y) p = λ i. tags.decimal (decimal_row.coded.inj v w (cc) i) (coded_ℕ.inj m n (cc) i) (coded_ℤ.inj x y (cc) i)
+tag_inj (tags.fixed_size_list m) (tags.fixed_size_list n) p = ap tags.fixed_size_list (coded_ℕ.inj m n (cc))
 tag_inj x y p = cc
 
 -- so these trees tell types' own parts apart

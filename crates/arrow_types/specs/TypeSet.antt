@@ -11,6 +11,7 @@ abbrev pub is_late : Tag → Bool
 is_late (tags.floating_point _) = true
 is_late (tags.decimal _ _ _) = true
 is_late (tags.interval _) = true
+is_late (tags.fixed_size_list _) = true
 is_late (tags.map _) = true
 is_late _ = false
 

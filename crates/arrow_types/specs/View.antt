@@ -31,6 +31,7 @@ type_step (DataType-F.Duration unit) = leaf (tags.duration unit)
 type_step (DataType-F.Interval unit) = leaf (tags.interval unit)
 type_step (DataType-F.List item) = record { tag = tags.list; children = fields_of (item.value ∷ []) }
 type_step (DataType-F.LargeList item) = record { tag = tags.large_list; children = fields_of (item.value ∷ []) }
+type_step (DataType-F.FixedSizeList item size) = record { tag = tags.fixed_size_list size; children = fields_of (item.value ∷ []) }
 type_step (DataType-F.Struct fields) = record { tag = tags.struct; children = fields_of fields.items }
 type_step (DataType-F.Map entries sorted) = record { tag = tags.map sorted; children = fields_of (entries.value ∷ []) }
 
@@ -57,6 +58,7 @@ fields_view fs = fields_of (map field_view fs)
 abbrev pub type_notes_step : DataType-F Notes FieldNotes → Notes
 type_notes_step (DataType-F.List item) = notes_of (item.value ∷ [])
 type_notes_step (DataType-F.LargeList item) = notes_of (item.value ∷ [])
+type_notes_step (DataType-F.FixedSizeList item _) = notes_of (item.value ∷ [])
 type_notes_step (DataType-F.Struct fields) = notes_of fields.items
 type_notes_step (DataType-F.Map entries _) = notes_of (entries.value ∷ [])
 type_notes_step _ = unnoted

@@ -224,6 +224,9 @@ pub enum DataType {
     List(Box<Field>),
     /// The same between offsets of 64 bits.
     LargeList(Box<Field>),
+    /// Lists of just so many values each, of the one child field. In a `Schema` the number is at most
+    /// the greatest signed 32-bit number (`Schema.fbs`, table `FixedSizeList`).
+    FixedSizeList(Box<Field>, u32),
     /// A value of each child field.
     Struct(Vec<Field>),
     /// Lists of entries of the one child field, between offsets of 32 bits, and whether the keys of
@@ -242,6 +245,7 @@ impl DataType {
         match self {
             DataType::List(item) => std::slice::from_ref(item),
             DataType::LargeList(item) => std::slice::from_ref(item),
+            DataType::FixedSizeList(item, _) => std::slice::from_ref(item),
             DataType::Struct(fields) => fields,
             DataType::Map(entries, _) => std::slice::from_ref(entries),
             _ => &[],
@@ -287,6 +291,9 @@ impl DataType {
             DataType::List(item) => Ok(DataType::List(Box::new(alloc, item.copy(alloc)?)?)),
             DataType::LargeList(item) => {
                 Ok(DataType::LargeList(Box::new(alloc, item.copy(alloc)?)?))
+            }
+            DataType::FixedSizeList(item, size) => {
+                Ok(DataType::FixedSizeList(Box::new(alloc, item.copy(alloc)?)?, *size))
             }
             DataType::Struct(fields) => Ok(DataType::Struct(copy_fields(alloc, fields)?)),
             DataType::Map(entries, sorted) => {
@@ -342,6 +349,9 @@ pub(crate) fn same_type(one: &DataType, other: &DataType) -> bool
         DataType::List(item) => matches!(other, DataType::List(i) if same_field(item, i)),
         DataType::LargeList(item) => {
             matches!(other, DataType::LargeList(i) if same_field(item, i))
+        }
+        DataType::FixedSizeList(item, size) => {
+            matches!(other, DataType::FixedSizeList(i, s) if s == size && same_field(item, i))
         }
         DataType::Struct(fields) => {
             matches!(other, DataType::Struct(f) if same_fields(fields, f))

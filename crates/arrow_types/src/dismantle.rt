@@ -26,6 +26,7 @@ fn add_children(pending: &mut Vec<Field>, field: Field)
     match data_type {
         DataType::List(item) => add_field(pending, Box::into_inner(item)),
         DataType::LargeList(item) => add_field(pending, Box::into_inner(item)),
+        DataType::FixedSizeList(item, _) => add_field(pending, Box::into_inner(item)),
         DataType::Struct(fields) => add_fields(pending, fields),
         DataType::Map(entries, _) => add_field(pending, Box::into_inner(entries)),
         _ => {}

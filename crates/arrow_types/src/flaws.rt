@@ -45,12 +45,13 @@ fn is_flawed(fault: SchemaFault, data_type: &DataType) -> bool
     }
 }
 
-/// Whether the type has a fixed number of bytes over the limit.
+/// Whether the type has a fixed size over the limit, in bytes or in values.
 fn is_wide(data_type: &DataType) -> bool
     ensures { result ≡ is_wide (type_view data_type.now).tag }
 {
     match data_type {
         DataType::FixedSizeBinary(width) => *width > Schema::MAX_WIDTH,
+        DataType::FixedSizeList(_, size) => *size > Schema::MAX_WIDTH,
         _ => false,
     }
 }

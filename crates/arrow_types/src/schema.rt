@@ -32,7 +32,8 @@ pub enum SchemaFault {
     /// A growth was refused. None of the faults before it applies, and a field, on some level, is
     /// dictionary-encoded.
     Memory,
-    /// Byte strings of a fixed size are to have more than 2,147,483,647 bytes each.
+    /// Byte strings of a fixed size are to have more than 2,147,483,647 bytes each, or fixed-size
+    /// lists more than so many values.
     ByteWidth,
     /// There are more than 65,536 pairs of custom metadata in the whole schema.
     TooManyPairs,
@@ -79,7 +80,7 @@ impl fmt::Display for SchemaFault {
                 "two value types for one dictionary id",
             ),
             SchemaFault::Memory => f.write_str("out of memory"),
-            SchemaFault::ByteWidth => f.write_str("byte strings of more than 2,147,483,647 bytes"),
+            SchemaFault::ByteWidth => f.write_str("a fixed size of more than 2,147,483,647"),
             SchemaFault::TooManyPairs => f.write_str("more than 65,536 pairs of metadata"),
             SchemaFault::MapEntries => f.write_str(
                 "a map whose child is not a struct of two fields",
@@ -96,8 +97,8 @@ impl Error for SchemaFault {}
 /// The columns of a stream's batches (`Schema.fbs`, table `Schema`).
 ///
 /// Its fields keep to the limits of 32 levels and 65,536 fields; none of its dictionaries stands
-/// below another, those of one id have one value type, no width in bytes is over the greatest
-/// signed 32-bit number, the child of each map is a struct of two fields that is not
+/// below another, those of one id have one value type, no fixed size is over the greatest signed
+/// 32-bit number, the child of each map is a struct of two fields that is not
 /// dictionary-encoded, and the width of each decimal allows its precision and scale. It has at most
 /// 65,536 pairs of metadata, those of its fields among them. Nobody who holds a schema has to test
 /// that again.
@@ -134,7 +135,8 @@ impl Schema {
     /// The greatest number of fields on all levels together.
     pub const MAX_FIELDS: u32 = 65_536;
 
-    /// The greatest width of byte strings of a fixed size.
+    /// The greatest width of byte strings of a fixed size, in bytes, and the greatest size of
+    /// fixed-size lists, in values.
     pub const MAX_WIDTH: u32 = 2_147_483_647;
 
     /// The greatest number of pairs of metadata, those of the schema and those of its fields on all

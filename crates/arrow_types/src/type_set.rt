@@ -15,7 +15,7 @@ pub enum TypeSet {
     /// The types that have always been there: Null, Bool, Int, Binary, LargeBinary, FixedSizeBinary,
     /// Utf8, LargeUtf8, Date, Time, Timestamp, Duration, List, LargeList and Struct.
     Core,
-    /// These, FloatingPoint, Decimal, Interval and Map.
+    /// These, FloatingPoint, Decimal, Interval, FixedSizeList and Map.
     All,
 }
 
@@ -68,6 +68,7 @@ fn is_late(data_type: &DataType) -> bool
         DataType::FloatingPoint(_)
             | DataType::Decimal { .. }
             | DataType::Interval(_)
+            | DataType::FixedSizeList(..)
             | DataType::Map(..)
     )
 }

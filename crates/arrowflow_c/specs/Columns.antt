@@ -5,6 +5,8 @@ use Rattle.arrow_data.specs.Column.{Column, HasChild, HasDictionary, HasField, H
 use Rattle.arrow_data.specs.Form.{offset_bytes}
 use Rattle.arrow_data.specs.View.{AreBuffersOf}
 use Rattle.arrow_types.specs.DataType.{Tag, floating_point}
+use Rattle.arrow_data.specs.declared.form.ListForm.{ListForm}
+use Rattle.arrow_data.specs.declared.form.ListForm.TheVariants as lists
 use Rattle.arrow_data.specs.declared.view.Buffers.{Buffers}
 use Rattle.arrow_data.specs.declared.view.Buffers.TheVariants as buffers
 use Rattle.arrow_data.specs.declared.view.NumberBuffers.{NumberBuffers}
@@ -65,6 +67,11 @@ abbrev pub is_float : Tag → Bool
 is_float (floating_point _) = true
 is_float _ = false
 
+-- lists, with their offsets, or fixed-size lists, whose size is the width
+abbrev pub with_lists : PlainColumn → ListForm → PlainColumn
+with_lists c (lists.Offsets width) = record c { layout = 7; width = offset_bytes width; children = 1 }
+with_lists c (lists.Fixed size) = record c { layout = 11; width = size; children = 1 }
+
 -- the plain column of buffers of a type, with so many slots, of which one is meant
 abbrev pub told_of : Tag → ℕ → ℕ → Buffers → PlainColumn
 told_of tag slots place buffers.Nulls = bare_column 1 slots place
@@ -73,7 +80,7 @@ told_of tag slots place (buffers.Numbers of) = with_numbers (bare_column (if is_
 told_of tag slots place (buffers.Binaries of) = with_strings (bare_column 4 slots place) of
 told_of tag slots place (buffers.Texts of) = with_strings (bare_column 5 slots place) of
 told_of tag slots place (buffers.FixedBytes width validity values) = with_values (bare_column 6 slots place) width validity.now values.now
-told_of tag slots place (buffers.Lists width validity offsets child) = record (bare_column 7 slots place) { width = offset_bytes width; children = 1; validity = validity.now; offsets = offsets.now }
+told_of tag slots place (buffers.Lists list validity offsets child) = with_lists (record (bare_column 0 slots place) { validity = validity.now; offsets = offsets.now }) list
 told_of tag slots place (buffers.Structs validity children) = record (bare_column 8 slots place) { children = length children.now; validity = validity.now }
 told_of tag slots place (buffers.Indices of dictionary) = record (with_numbers (bare_column 9 slots place) of) { entries = length dictionary.now.values }
 

@@ -5,8 +5,9 @@ ghost use Rattle.arrow_data.specs.Column.{HasValue};
 ghost use Rattle.arrowflow_c.specs.Columns.{ColumnAt, HasNothing, IsBelow, IsColumnOf, ShowsBelow};
 ghost use Rattle.arrow_types.specs.View.{type_view};
 ghost use Rattle.arrowflow_c.specs.Columns.{bare_column, is_float, no_column, plain_of, told_of};
-ghost use Rattle.arrowflow_c.specs.Columns.{with_numbers, with_strings, with_values};
+ghost use Rattle.arrowflow_c.specs.Columns.{with_lists, with_numbers, with_strings, with_values};
 
+use arrow_data::form::ListForm;
 use arrow_data::{Array, Batch, Buffers, Dictionary, NumberBuffers, StringBuffers};
 use arrow_types::DataType;
 
@@ -15,12 +16,13 @@ use arrow_types::DataType;
 #[derive(Clone, Copy)]
 pub struct ColumnC<'a> {
     /// 0 no such column, 1 nulls, 2 truth values, 3 numbers, 4 byte strings, 5 texts, 6 byte strings
-    /// of one length, 7 lists, 8 structs, 9 indices, 10 floating-point numbers. Intervals in months
-    /// are numbers, all others byte strings of one length.
+    /// of one length, 7 lists, 8 structs, 9 indices, 10 floating-point numbers, 11 fixed-size lists.
+    /// Intervals in months are numbers, all others byte strings of one length.
     pub layout: u32,
     /// Whether the numbers or the indices have a sign.
     pub has_sign: bool,
-    /// How many bytes a number, an index, a byte string of one length or an offset takes.
+    /// How many bytes a number, an index, a byte string of one length or an offset takes; of fixed-size
+    /// lists how many items each has.
     pub width: u64,
     /// How many slots there are.
     pub slots: u64,
@@ -102,6 +104,22 @@ impl<'a> ColumnC<'a> {
         }
     }
 
+    /// Lists, with their offsets, or fixed-size lists.
+    fn of_lists(self, form: ListForm) -> ColumnC<'a>
+        ensures { plain_of result ≡ with_lists (plain_of self.entry) form }
+    {
+        let (layout, width) = match form {
+            ListForm::Offsets(width) => (7, width.bytes() as u64),
+            ListForm::Fixed(size) => (11, u64::from(size)),
+        };
+        ColumnC {
+            layout,
+            width,
+            children: 1,
+            ..self
+        }
+    }
+
     /// A column of this type and so many slots with these buffers.
     fn told(data_type: &DataType, slots: usize, place: usize, buffers: Buffers<'a>) -> ColumnC<'a>
         ensures { plain_of result
@@ -124,17 +142,16 @@ impl<'a> ColumnC<'a> {
                 values,
             } => ColumnC::bare(6, slots, place).of_values(width, validity, values),
             Buffers::Lists {
-                width,
+                form,
                 validity,
                 offsets,
                 child: _,
             } => ColumnC {
-                width: width.bytes() as u64,
-                children: 1,
                 validity,
                 offsets,
-                ..ColumnC::bare(7, slots, place)
-            },
+                ..ColumnC::bare(0, slots, place)
+            }
+            .of_lists(form),
             Buffers::Structs { validity, children } => ColumnC {
                 children: children.len() as u64,
                 validity,

@@ -23,6 +23,7 @@ pub(crate) fn put_type(room: &mut [u8], pen: Pen, data_type: &DataType) -> Pen
             scale,
         } => put_digits(room, pen, *precision, *scale).put(room, format_width(*width).as_bytes()),
         DataType::FixedSizeBinary(width) => pen.put(room, Buffer::new().format(*width).as_bytes()),
+        DataType::FixedSizeList(_, size) => pen.put(room, Buffer::new().format(*size).as_bytes()),
         DataType::Timestamp(_, Some(zone)) => pen.put(room, zone.as_bytes()),
         _ => pen,
     }

@@ -210,7 +210,7 @@ fn with_types<'a>(alloc: Global, command: Command<'a>) -> Result<Command<'a>, Al
             parser: ValueParser::from(TYPES.as_slice()),
             default: "core",
         },
-        "Which types a stream may have: the core of them, or all, floating point, decimals, intervals and maps too",
+        "Which types a stream may have: the core of them, or all, floating point, decimals, intervals, fixed-size lists and maps too",
     );
     command.arg(types)
 }

@@ -3,7 +3,7 @@
 use Rattle.std.specs.Prelude.{ℕ, true, false, List, [], ◌++◌, Some, None, codes}
 use Rattle.std.specs.Fmt.{decimal, signed_decimal}
 use Rattle.arrow_types.specs.DataType as tags
-use Rattle.arrow_types.specs.DataType.{Tag, null, boolean, int, floating_point, binary, large_binary, fixed_size_binary, utf8, large_utf8, date, time, timestamp, duration, interval, list, large_list, map, struct}
+use Rattle.arrow_types.specs.DataType.{Tag, null, boolean, int, floating_point, binary, large_binary, fixed_size_binary, utf8, large_utf8, date, time, timestamp, duration, interval, list, large_list, fixed_size_list, map, struct}
 use Rattle.arrow_types.specs.declared.data_type.BitWidth.TheVariants.{Eight, Sixteen, ThirtyTwo, SixtyFour}
 use Rattle.arrow_types.specs.declared.data_type.DateUnit.TheVariants as dates
 use Rattle.arrow_types.specs.declared.data_type.DecimalWidth.{DecimalWidth}
@@ -65,13 +65,15 @@ words_of (interval DayTime) = words (codes "day_time_interval") (codes "tiD")
 words_of (interval MonthDayNano) = words (codes "month_day_nano_interval") (codes "tin")
 words_of list = words (codes "list") (codes "+l")
 words_of large_list = words (codes "large_list") (codes "+L")
+words_of (fixed_size_list _) = words (codes "fixed_size_list[") (codes "+w:")
 words_of (map false) = words (codes "map") (codes "+m")
 words_of (map true) = words (codes "map[sorted]") (codes "+m")
 words_of struct = words (codes "struct") (codes "+s")
 
--- what follows the name: the width, the time zone if there is one, which may be empty, or the precision and the scale
+-- what follows the name: the width or the size, the time zone if there is one, which may be empty, or the precision and the scale
 abbrev pub name_end : Tag → List ℕ
 name_end (fixed_size_binary width) = decimal width ++ codes "]"
+name_end (fixed_size_list size) = decimal size ++ codes "]"
 name_end (tags.decimal _ precision scale) = decimal precision ++ codes ", " ++ signed_decimal scale ++ codes ")"
 name_end (timestamp _ None) = codes "]"
 name_end (timestamp _ (Some zone)) = codes ", " ++ escaped zone ++ codes "]"
@@ -84,9 +86,10 @@ format_width decimals.SixtyFour = codes ",64"
 format_width decimals.OneHundredTwentyEight = []
 format_width decimals.TwoHundredFiftySix = codes ",256"
 
--- what follows the format string: the width, the time zone if there is one, or the precision and the scale
+-- what follows the format string: the width or the size, the time zone if there is one, or the precision and the scale
 abbrev pub format_end : Tag → List ℕ
 format_end (fixed_size_binary width) = decimal width
+format_end (fixed_size_list size) = decimal size
 format_end (tags.decimal width precision scale) = decimal precision ++ codes "," ++ signed_decimal scale ++ format_width width
 format_end (timestamp _ (Some zone)) = zone
 format_end _ = []

@@ -64,6 +64,7 @@ fn push_type(line: &mut String, data_type: &DataType) -> Result<(), AllocError>
             ..
         } => write!(line, "{}, {})", *precision, *scale),
         DataType::FixedSizeBinary(width) => write!(line, "{}]", *width),
+        DataType::FixedSizeList(_, size) => write!(line, "{}]", *size),
         DataType::Timestamp(_, None) => line.push_str("]"),
         DataType::Timestamp(_, Some(zone)) => {
             line.push_str(", ")?;

@@ -7,8 +7,8 @@ ghost use Rattle.arrowflow_report.specs.TypeWords.{format_width, words_of};
 
 use arrow_types::{BitWidth, DataType, DateUnit, DecimalWidth, IntervalUnit, Precision, TimeUnit};
 
-/// The fixed texts of a type: whole, or up to the width of a FixedSizeBinary, the time zone of a
-/// Timestamp or the precision of a Decimal.
+/// The fixed texts of a type: whole, or up to the width of a FixedSizeBinary, the size of a
+/// FixedSizeList, the time zone of a Timestamp or the precision of a Decimal.
 #[derive(Clone, Copy, Debug)]
 pub struct TypeWords {
     /// The name in the text of a schema.
@@ -17,9 +17,9 @@ pub struct TypeWords {
     pub format: &'static str,
 }
 
-/// The words of a type without its children. The width of a FixedSizeBinary follows them, and so
-/// does the time zone of a Timestamp if it has one, in the name after `, `; these names end with
-/// `]`. The precision and the scale of a Decimal follow them, in the name with `, ` between and `)`
+/// The words of a type without its children. The width of a FixedSizeBinary follows them, and so do
+/// the size of a FixedSizeList and the time zone of a Timestamp if it has one, in the name after
+/// `, `; these names end with `]`. The precision and the scale of a Decimal follow them, in the name with `, ` between and `)`
 /// after them, in the format string with `,` between them and its [`format_width`] after them.
 pub fn words_of(data_type: &DataType) -> TypeWords
     ensures name { result.name.now ≡ (words_of (type_view data_type.now).tag).name }
@@ -57,6 +57,7 @@ pub fn words_of(data_type: &DataType) -> TypeWords
         DataType::Interval(IntervalUnit::MonthDayNano) => words("month_day_nano_interval", "tin"),
         DataType::List(_) => words("list", "+l"),
         DataType::LargeList(_) => words("large_list", "+L"),
+        DataType::FixedSizeList(..) => words("fixed_size_list[", "+w:"),
         DataType::Map(_, false) => words("map", "+m"),
         DataType::Map(_, true) => words("map[sorted]", "+m"),
         DataType::Struct(_) => words("struct", "+s"),

@@ -14,11 +14,26 @@ use arrow_types::{Buffer, FieldNode};
 use std::alloc::Global;
 use std::process::Abort;
 
-static COLUMNS: [&str; 6] = [
+static COLUMNS: [&str; 12] = [
     "a number under a null: int32 | 3/1 | #5, 1 9 3 => 8 | 3/1 | #5 @0, 1 0 3 @8 | 24",
     "a validity of no nulls: int32 | 2/0 | #255, 1 2 => 64 | 2/0 | # @0, 1 2 @0 | 64",
     "an item under a null: list int32 | 3/1 4/0 | #5, 0 2 3 4, #, 1 2 7 3 \
     => 8 | 3/1 3/0 | #5 @0, 0 2 2 3 @8, # @24, 1 2 3 @24 | 40",
+    // The null list hides 7 and 3, and no list has 6: two nulls are sent in place of its items.
+    "items under a null fixed-size list: fixed_size_list[2] int32 | 3/1 7/0 | #5, #, 1 2 7 3 4 5 6 \
+    => 8 | 3/1 6/2 | #5 @0, #51 @8, 1 2 0 0 4 5 @16 | 40",
+    "a null beside them: fixed_size_list[2] int32 | 2/1 4/1 | #2, #11, 1 2 7 3 \
+    => 8 | 2/1 4/3 | #2 @0, #8 @8, 0 0 0 3 @16 | 32",
+    "fixed-size lists without nulls: fixed_size_list[2] int32 | 2/0 4/0 | #, #, 1 2 7 3 \
+    => 8 | 2/0 4/0 | # @0, # @0, 1 2 7 3 @0 | 16",
+    "fixed-size lists of no items: fixed_size_list[0] int32 | 3/1 1/0 | #5, #, 9 \
+    => 8 | 3/1 0/0 | #5 @0, # @8, # @8 | 8",
+    // The second list of lists is null: so are both of its lists, and their four items.
+    "lists in lists: fixed_size_list[2] fixed_size_list[2] int32 | 2/1 4/0 8/0 \
+    | #1, #, #, 1 2 3 4 5 6 7 8 \
+    => 8 | 2/1 4/2 8/4 | #1 @0, #3 @8, #15 @16, 1 2 3 4 0 0 0 0 @24 | 56",
+    "texts under a null: fixed_size_list[1] utf8 | 2/1 2/0 | #1, #, 0 1 2, 'ab' \
+    => 8 | 2/1 2/1 | #1 @0, #1 @8, 0 1 1 @16, 'a' @32 | 40",
     "a text under a null: struct[1] utf8 | 2/1 2/0 | #1, #, 0 1 2, 'ab' \
     => 8 | 2/1 2/1 | #1 @0, #1 @8, 0 1 1 @16, 'a' @32 | 40",
     "a number under a null struct: struct[1] int32 | 3/1 4/0 | #5, #, 1 9 3 7 \

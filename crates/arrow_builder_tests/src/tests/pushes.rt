@@ -8,7 +8,7 @@ use arrow_builder::{ArrayBuilder, PushFault};
 use std::process::Abort;
 
 // The type of a column, and the values that are pushed; a `!` stands before one that does not fit.
-static PUSHES: [(&str, &str); 34] = [
+static PUSHES: [(&str, &str); 43] = [
     ("null", "null, !0, !false, !x, !'', ![ ], !{ }"),
     ("int8!", "1, null, !''"),
     ("bool", "true, null, !1, ![ ], false"),
@@ -83,6 +83,43 @@ static PUSHES: [(&str, &str); 34] = [
     (
         "struct[2] int8 list int8",
         "{ 1 [ 2 3 ] }, !{ 1 [ 2 300 ] }, null, { 4 null }, { null [ 5 ] }",
+    ),
+    // Fixed-size lists: of another number of items none fits, and a null takes its slots below.
+    (
+        "fixed_size_list[2] int8",
+        "[ 1 2 ], null, ![ 3 ], ![ 3 4 5 ], ![ ], ![ 3 300 ], [ null 5 ], !6, !{ 6 7 }, !''",
+    ),
+    (
+        "fixed_size_list[2] utf8",
+        "null, [ 'a' '' ], ![ 'a' ], null, [ null 'bc' ], ![ 'a' 1 ], ![ 'a' 'b' 'c' ]",
+    ),
+    (
+        "fixed_size_list[1] null",
+        "[ null ], null, ![ ], ![ null null ]",
+    ),
+    (
+        "fixed_size_list[0] int8",
+        "[ ], null, ![ 1 ], ![ null ], [ ]",
+    ),
+    (
+        "struct[2] int8 fixed_size_list[2] utf8",
+        "{ 1 [ 'a' 'b' ] }, null, !{ 2 [ 'a' ] }, { 3 null }, { null [ null 'c' ] }",
+    ),
+    (
+        "fixed_size_list[2] fixed_size_list[3] int8",
+        "[ [ 1 2 3 ] null ], null, ![ [ 1 2 ] [ 3 4 5 ] ], ![ [ 1 2 3 ] ], [ null [ 4 null 6 ] ]",
+    ),
+    (
+        "fixed_size_list[2] struct[2] int8 utf8",
+        "[ { 1 'a' } null ], null, ![ { 1 'a' } { 1 } ], ![ { 1 'a' } ], [ { null 'b' } { 2 '' } ]",
+    ),
+    (
+        "list fixed_size_list[2] int8",
+        "[ [ 1 2 ] null ], null, [ ], ![ [ 1 ] ], [ [ 3 4 ] ]",
+    ),
+    (
+        "fixed_size_list[2] list int8",
+        "[ [ 1 2 3 ] [ ] ], null, [ null [ 4 ] ], ![ [ 4 ] ]",
     ),
     // A field without fields has structs without parts.
     ("struct[0]", "{ }, null, ![ ]"),

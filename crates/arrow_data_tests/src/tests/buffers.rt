@@ -2,14 +2,14 @@
 
 use super::making::{column, dictionary, halves, listed, plain};
 use super::told::is_text;
-use arrow_data::form::OffsetWidth;
+use arrow_data::form::{ListForm, OffsetWidth};
 use arrow_data::{Array, Buffers, NumberBuffers, StringBuffers};
 use std::process::Abort;
 
 const MEMORY: &str = "memory";
 
 // Columns, and their buffers; of children what they are of themselves.
-static COLUMNS: [&str; 23] = [
+static COLUMNS: [&str; 25] = [
     "null; 4 => nulls",
     "bool; 4; 251 / 249 => truths [251] [249]",
     "int32; 2; / i 1 2 => 4 signed bytes [] [1, 0, 0, 0, 2, 0, 0, 0]",
@@ -41,6 +41,10 @@ static COLUMNS: [&str; 23] = [
      large lists [] [0, 0, 0, 0, 0, 0, 0, 0, 1, 0, 0, 0, 0, 0, 0, 0], \
      1 of 4 signed bytes [1] [7, 0, 0, 0]",
     "list int32; 0 1; / / / i 7 => small lists [] [], 1 of 4 signed bytes [] [7, 0, 0, 0]",
+    "fixed_size_list[2] int32; 2 5; 1 / / i 1 2 3 4 5 => \
+     lists of 2 [1] [], 5 of 4 signed bytes [] \
+     [1, 0, 0, 0, 2, 0, 0, 0, 3, 0, 0, 0, 4, 0, 0, 0, 5, 0, 0, 0]",
+    "fixed_size_list[0] bool; 3 0; / / => lists of 0 [] [], 0 of truths [] []",
     "struct[1] int32; 2 2; 1 / 3 / i 5 6 => \
      structs [1], 2 of 4 signed bytes [3] [5, 0, 0, 0, 6, 0, 0, 0]",
 ];
@@ -100,7 +104,7 @@ fn push_own(rt: &impl Abort, text: &mut String, buffers: Buffers<'_>) {
             write!(text, " into {} values", dictionary.len()).expect(rt, MEMORY);
         }
         Buffers::Lists {
-            width,
+            form: ListForm::Offsets(width),
             validity,
             offsets,
             ..
@@ -108,6 +112,12 @@ fn push_own(rt: &impl Abort, text: &mut String, buffers: Buffers<'_>) {
             let word = word_of(width);
             write!(text, "{word} lists {validity:?} {offsets:?}").expect(rt, MEMORY);
         }
+        Buffers::Lists {
+            form: ListForm::Fixed(size),
+            validity,
+            offsets,
+            ..
+        } => write!(text, "lists of {size} {validity:?} {offsets:?}").expect(rt, MEMORY),
         Buffers::Structs { validity, .. } => {
             write!(text, "structs {validity:?}").expect(rt, MEMORY);
         }

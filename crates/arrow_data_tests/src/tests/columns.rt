@@ -5,7 +5,7 @@ use super::told::{has_same, shows};
 
 // Columns, and what they show. A validity of 253 has a null in the second slot, and all spare bits are
 // set.
-static COLUMNS: [&str; 54] = [
+static COLUMNS: [&str; 63] = [
     "int32; 3; 5 / i 1 0 3 => 3: 1, null, 3",
     "utf8; 3; 5 / i 0 1 1 3 / 'abc' => 3: 'a', null, 'bc'",
     "binary; 2; / i 0 1 1 / 255 => 2: [255], []",
@@ -56,6 +56,19 @@ static COLUMNS: [&str; 54] = [
     "large_list int32; 3 5; 253 / l 1 2 4 4 / / i 0 1 2 3 4 => \
      3: 1..2 [1], null, 4..4 [] | items 5: 0, 1, 2, 3, 4",
     "large_list int32; 3 3; 253 / l 1 2 4 4 / / i 0 1 2 => no column",
+    "fixed_size_list[2] int32; 2 4; / / i 1 2 3 4 => \
+     2: 0..2 [1 2], 2..4 [3 4] | items 4: 1, 2, 3, 4",
+    // The null list hides 3 and 4, and no list has the last item.
+    "fixed_size_list[2] int32; 3 7; 253 / 127 / i 1 2 3 4 5 6 7 => \
+     3: 0..2 [1 2], null, 4..6 [5 6] | items 7: 1, 2, 3, 4, 5, 6, 7",
+    "fixed_size_list[1] int32; 2 2; / 1 / i 5 6 => 2: 0..1 [5], 1..2 [null] | items 2: 5, null",
+    "fixed_size_list[0] int32; 3 0; 253 / / => 3: 0..0 [], null, 0..0 [] | items 0:",
+    "fixed_size_list[3] int32; 0 0; / / => 0: | items 0:",
+    // A slot short of two lists, and more slots than can be counted.
+    "fixed_size_list[2] int32; 2 3; / / i 1 2 3 => no column",
+    "fixed_size_list[2147483647] null; 2 2147483647; 3 => no column",
+    "fixed_size_list[2147483647] null; 1 2147483646; 1 => no column",
+    "fixed_size_list[2147483647] null; 0 0; 0 => 0: | items 0:",
     "struct[1] int32; 2 2; 1 / 1 / i 5 0 => 2: {0}, null | 1 fields | field 0 2: 5, null",
     "struct[1] int32; 3 5; 253 / / i 1 2 3 4 5 => \
      3: {0}, null, {2} | 1 fields | field 0 5: 1, 2, 3, 4, 5",

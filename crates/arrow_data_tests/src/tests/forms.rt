@@ -1,6 +1,6 @@
 // The forms of types, and what is said of each form.
 
-use arrow_data::form::{Form, NumberForm, OffsetWidth, form_of, int_width, node_form};
+use arrow_data::form::{Form, ListForm, NumberForm, OffsetWidth, form_of, int_width, node_form};
 use arrow_test_fields::fields_of;
 use arrow_types::BitWidth::{Eight, Sixteen, SixtyFour, ThirtyTwo};
 use arrow_types::{BitWidth, Field, IndexType};
@@ -22,7 +22,7 @@ const UNSIGNED_16: Form = Form::Numbers(NumberForm::Int {
 });
 
 // Types, the form of their values, how many buffers that has, and whether no child is below it.
-static FORMS: [(&str, Form, usize, bool); 12] = [
+static FORMS: [(&str, Form, usize, bool); 14] = [
     ("decimal[32:9:2]", SIGNED_32, 2, true),
     ("decimal[64:18:0]", SIGNED_64, 2, true),
     (
@@ -40,8 +40,20 @@ static FORMS: [(&str, Form, usize, bool); 12] = [
     ("large_utf8", Form::Texts(OffsetWidth::Large), 3, true),
     (
         "list decimal[128:38:2]",
-        Form::Lists(OffsetWidth::Small),
+        Form::Lists(ListForm::Offsets(OffsetWidth::Small)),
         2,
+        false,
+    ),
+    (
+        "large_list utf8",
+        Form::Lists(ListForm::Offsets(OffsetWidth::Large)),
+        2,
+        false,
+    ),
+    (
+        "fixed_size_list[3] utf8",
+        Form::Lists(ListForm::Fixed(3)),
+        1,
         false,
     ),
     ("struct[1] decimal[256:76:2]", Form::Structs, 1, false),

@@ -7,8 +7,9 @@ use std::process::Abort;
 
 const READ: [u8; 15] = [1, 2, 4, 5, 6, 8, 9, 10, 12, 13, 15, 18, 19, 20, 21];
 
-// Those that are in the set of all types alone: FloatingPoint, Decimal, Interval, Map.
-const LATE: [u8; 4] = [3, 7, 11, 17];
+// Those that are in the set of all types alone: FloatingPoint, Decimal, Interval, FixedSizeList and
+// Map.
+const LATE: [u8; 5] = [3, 7, 11, 16, 17];
 
 // A column of two children, and of a type of this code in which all is absent.
 fn column(rt: &(impl Abort + AllocGlobal), code: u8) -> Vec<u8> {

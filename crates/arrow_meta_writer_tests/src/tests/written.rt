@@ -216,3 +216,48 @@ fn decimals_are_written_byte_for_byte(rt: HostRuntime) {
         assert!(rt; bytes.as_slice() == want.as_slice(), "{precision} {scale}");
     }
 }
+
+// The metadata of one column `l` of fixed-size lists of 3 values of the field `c`, which are nulls:
+// the size is at byte 124, in four bytes.
+const LISTS: &[u8; 192] = b"\x10\0\0\0\x0c\0\x18\0\x04\0\x06\0\x08\0\x10\0\x0c\0\0\0\x04\0\x01\0\
+    \x18\0\0\0\0\0\0\0\0\0\0\0\0\0\0\0\x08\0\x0c\0\x04\0\x08\0\x08\0\0\0\0\0\0\0\x04\0\0\0\x01\0\0\
+    \0\x18\0\0\0\x10\0\x14\0\x04\0\x08\0\t\0\x0c\0\0\0\x10\0\0\0\0\0\x14\0\0\0\x10\0\0\0\x01\x10\0\
+    \0\x14\0\0\0\x18\0\0\0\x01\0\0\0l\0\x06\0\x08\0\x04\0\x06\0\0\0\x03\0\0\0\x01\0\0\0\x14\0\0\0\
+    \x10\0\x14\0\x04\0\x08\0\t\0\x0c\0\0\0\x10\0\x10\0\0\0\x10\0\0\0\x01\x01\0\0\x14\0\0\0\x14\0\0\
+    \0\x01\0\0\0c\0\x04\0\x04\0\0\0\x06\0\0\0\0\0\0\0";
+
+// Sizes, and what they are in other bytes of it.
+static SIZES: [(u32, &[Edit]); 4] = [
+    (3, &[]),
+    (0, &[(124, &[0])]),
+    (259, &[(124, &[3, 1])]),
+    (2_147_483_647, &[(124, &[255, 255, 255, 127])]),
+];
+
+// A column of fixed-size lists of so many values of this field.
+fn lists(rt: &(impl Abort + AllocGlobal), child: Field, size: u32) -> Field {
+    let child = Box::new(rt.alloc(), child).expect(rt, MEMORY);
+    field(rt, "l", true, DataType::FixedSizeList(child, size))
+}
+
+#[test]
+fn fixed_size_lists_are_written_byte_for_byte(rt: HostRuntime) {
+    for &(size, edits) in &SIZES {
+        let child = field(&rt, "c", true, DataType::Null);
+        let mut columns = Vec::new(rt.alloc());
+        columns.push(lists(&rt, child, size)).expect(&rt, MEMORY);
+        let bytes = written(&rt, &schema(&rt, columns));
+        let want = bytes_of(&rt, &[(Bytes(LISTS), 0, 192)], edits);
+        assert!(rt; bytes.as_slice() == want.as_slice(), "{size}");
+    }
+}
+
+// Lists of lists of structs of numbers: another program laid them out in 336 bytes.
+#[test]
+fn fixed_size_lists_of_fixed_size_lists_are_written(rt: HostRuntime) {
+    let lowest = field(&rt, "s", false, DataType::Struct(deep(&rt, 1, NONE)));
+    let inner = lists(&rt, lowest, 3);
+    let mut columns = Vec::new(rt.alloc());
+    columns.push(lists(&rt, inner, 2)).expect(&rt, MEMORY);
+    assert_eq!(rt; written(&rt, &schema(&rt, columns)).len(), 336);
+}

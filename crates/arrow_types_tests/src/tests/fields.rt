@@ -79,14 +79,16 @@ fn decimals_of(rt: &impl Abort, numbers: &str) -> DataType {
     }
 }
 
-// The type that a word names. Behind a dot stand the width of byte strings, the unit of times, the
-// zone of timestamps in microseconds, the numbers of decimals, how many fields before it a struct
-// takes, or that the keys of a map are sorted; a list and a map take one field.
+// The type that a word names. After a dot comes the width of byte strings, the unit of times, the
+// zone of timestamps in microseconds, the numbers of decimals, the size of fixed-size lists, how
+// many fields before it a struct takes, or that the keys of a map are sorted; each list and a map
+// take one field.
 fn data_type(rt: &(impl Abort + AllocGlobal), before: &mut Vec<Field>, word: &str) -> DataType {
     let (name, more) = word.split_once('.').unwrap_or((word, ""));
     match name {
         "list" => DataType::List(boxed(rt, before)),
         "large_list" => DataType::LargeList(boxed(rt, before)),
+        "fixed_list" => DataType::FixedSizeList(boxed(rt, before), count_in(rt, more)),
         "struct" => DataType::Struct(last_fields(rt, before, count_in(rt, more))),
         "map" => DataType::Map(boxed(rt, before), more == "sorted"),
         "null" => DataType::Null,

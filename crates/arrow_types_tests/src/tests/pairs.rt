@@ -15,7 +15,7 @@ const NO: Pairs = &[];
 
 const NONE: Levels = [(NO, 0), (NO, 0), (NO, 0), (NO, 0)];
 
-const ABOVE: [&str; 3] = ["list", "large_list", "struct.1"];
+const ABOVE: [&str; 4] = ["list", "large_list", "fixed_list.3", "struct.1"];
 
 // These pairs, in memory of their own.
 fn pairs(

@@ -52,7 +52,7 @@ fn a_set_of_types_changes_no_number(rt: HostRuntime) {
 }
 
 // Columns, and whether the core leaves the type of a field among them out.
-static LATE: [(&str, bool); 20] = [
+static LATE: [(&str, bool); 24] = [
     ("", false),
     ("i:int d:date", false),
     (
@@ -77,6 +77,10 @@ static LATE: [(&str, bool); 20] = [
         "n:null i@1:interval.day_time s:struct.2 l:list n:null",
         true,
     ),
+    ("n:null l:fixed_list.3", true),
+    ("t:utf8 l:fixed_list.0 n:null", true),
+    ("n:null l@1:fixed_list.2147483647", true),
+    ("t:utf8 l:fixed_list.2 s:struct.1 l:large_list n:null", true),
     ("k:utf8 v:bool e:struct.2 m:map", true),
     ("k:utf8 v:bool e:struct.2 m:map.sorted l:list", true),
     ("d:decimal.32,9,2 n:null", true),
@@ -180,6 +184,40 @@ fn the_least_fault_is_given(rt: HostRuntime) {
     are_judged(&rt, &FAULTS);
 }
 
+// The same of fixed-size lists.
+static FIXED_SIZE_LISTS: [(&str, usize, u8); 18] = [
+    // The least and the greatest size, and those after it.
+    ("n:null l:fixed_list.0", 0, 0),
+    ("n:null l:fixed_list.1", 1, 0),
+    ("n:null l:fixed_list.2147483647", 0, 0),
+    ("n:null l:fixed_list.2147483648", 0, 6),
+    ("n:null l:fixed_list.4294967295", 0, 6),
+    // By a dictionary, below other fields, with lists below, and beside sizes that are allowed.
+    ("n:null l@1:fixed_list.2147483647", 0, 0),
+    ("n:null l@1:fixed_list.2147483648", 0, 6),
+    (
+        "n:null l:fixed_list.2147483648 l:large_list t:utf8 s:struct.2",
+        0,
+        6,
+    ),
+    ("n:null l:fixed_list.2147483648 l:fixed_list.2", 0, 6),
+    ("f:fixed.2147483648 l:fixed_list.2", 0, 6),
+    ("n:null l:fixed_list.2 n:null l:fixed_list.2147483648", 0, 6),
+    ("n:null l:fixed_list.2147483647*31", 0, 0),
+    // Before other faults, and after others.
+    ("n:null l:fixed_list.2147483648 n:null m:map", 65_537, 6),
+    ("n:null l:fixed_list.2147483647", 65_537, 7),
+    ("n:null l:fixed_list.2147483648*32", 0, 1),
+    ("k@1:utf8 l@2:fixed_list.2147483648", 0, 3),
+    ("n:null l@1:fixed_list.2 n:null l@1:fixed_list.3", 0, 4),
+    ("n:null l@1:fixed_list.2 n:null l@1:fixed_list.2", 0, 0),
+];
+
+#[test]
+fn fixed_size_lists_keep_to_their_size(rt: HostRuntime) {
+    are_judged(&rt, &FIXED_SIZE_LISTS);
+}
+
 // The same of maps.
 static MAPS: [(&str, usize, u8); 18] = [
     // Maps whose entries are a struct of two fields.
@@ -266,7 +304,7 @@ static WORDS: [(SchemaFault, &str); 9] = [
     (NestedDictionary, "a dictionary below a dictionary"),
     (SharedIdTypesDiffer, "two value types for one dictionary id"),
     (Memory, "out of memory"),
-    (ByteWidth, "byte strings of more than 2,147,483,647 bytes"),
+    (ByteWidth, "a fixed size of more than 2,147,483,647"),
     (TooManyPairs, "more than 65,536 pairs of metadata"),
     (
         MapEntries,
@@ -310,13 +348,16 @@ fn ids_stand_in_pre_order_once(rt: HostRuntime) {
 }
 
 // A column, the names of its children, and whether there is a dictionary below it.
-static CHILDREN: [(&str, &[&str], bool); 7] = [
+static CHILDREN: [(&str, &[&str], bool); 10] = [
     ("item:bool l:list", &["item"], false),
     (":bool :bool k@0:utf8 s:struct.3", &["", "", "k"], true),
     ("t:utf8", &[], false),
     ("t:large_utf8", &[], false),
     ("k@0:duration.s l:large_list", &["k"], true),
     (":bool :bool k@0:utf8 i:struct.3 l:list", &["i"], true),
+    ("item:bool l:fixed_list.3", &["item"], false),
+    ("item:bool l:fixed_list.0", &["item"], false),
+    ("k@0:utf8 l:fixed_list.2", &["k"], true),
     ("k:utf8 v@3:bool e:struct.2 m:map", &["e"], true),
 ];
 
@@ -337,7 +378,7 @@ fn children_of_lists_and_structs(rt: HostRuntime) {
 const COPIED: &str = "k@1:utf8 z:timestamp.UTC i:time.s l:list d:duration.ns f:fixed.16 \
     b:large_binary t:large_utf8 m:large_list n:large_list s:struct.6 d:double f:float \
     m:interval.year_month t:interval.day_time i:interval.month_day_nano s:struct.3 \
-    k:utf8 v:bool e:struct.2 y:map.sorted p:decimal.256,76,-76";
+    k:utf8 v:bool e:struct.2 y:map.sorted p:decimal.256,76,-76 n:null o:fixed_list.2147483647";
 
 fn is_copied(rt: &(impl Abort + AllocGlobal), field: &Field) {
     assert!(rt; field.copy(rt.alloc()).expect(rt, MEMORY) == *field);
@@ -353,7 +394,7 @@ fn copies_are_equal(rt: HostRuntime) {
     }
     let copy = schema.copy(rt.alloc()).expect(&rt, MEMORY);
     assert!(rt; copy == schema);
-    assert!(rt; has_ids(&copy, &[1], 7));
+    assert!(rt; has_ids(&copy, &[1], 8));
 }
 
 // Fields that each differ from `k@0:timestamp.UTC`, and whether their type is the same.
@@ -387,15 +428,18 @@ fn equality_reads_everything(rt: HostRuntime) {
     assert!(rt; plain != other);
 }
 
-// Types of which no two are the same; then lists of each width of offsets, of two items.
+// Types of which no two are the same; then lists of each width of offsets and of two sizes, of two
+// items.
 const APART: &str = "c:binary c:large_binary c:fixed.0 c:fixed.3 c:fixed.4 c:utf8 c:large_utf8 \
     c:time.s c:duration.s c:duration.ms c:duration.us c:duration.ns c:struct.0 c:null \
     c:halffloat c:float c:double c:interval.year_month c:interval.day_time \
     c:interval.month_day_nano e:struct.0 c:map e:struct.0 c:map.sorted k:null c:map \
-    c:decimal.64,9,2 c:decimal.128,9,2 c:decimal.64,8,2 c:decimal.64,9,-2 c:decimal.64,9,1";
+    c:decimal.64,9,2 c:decimal.128,9,2 c:decimal.64,8,2 c:decimal.64,9,-2 c:decimal.64,9,1 \
+    k:null c:fixed_list.0 k:null c:fixed_list.2 k:null c:fixed_list.3 k:bool c:fixed_list.3";
 
 const LISTS: &str =
-    "t:utf8 l:list t:utf8 l:large_list t:large_utf8 l:list t:large_utf8 l:large_list";
+    "t:utf8 l:list t:utf8 l:large_list t:large_utf8 l:list t:large_utf8 l:large_list \
+    t:utf8 l:fixed_list.1 t:large_utf8 l:fixed_list.1 t:utf8 l:fixed_list.4294967295";
 
 // That each type is the same as itself alone, and equal to it.
 fn are_apart(rt: &impl Abort, columns: &[Field]) {

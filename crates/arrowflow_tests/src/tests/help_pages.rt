@@ -36,7 +36,7 @@ Options:
       --limit-metadata <BYTES>  The most bytes of one message's metadata [default: 67108864]
       --limit-body <BYTES>      The most bytes of one message's body [default: 68719476736]
       --limit-rows <ROWS>       The most rows of a batch, slots of a column, and values of a dictionary [default: 2147483647]
-      --types <types>           Which types a stream may have: the core of them, or all, floating point, decimals, intervals and maps too [default: core] [possible values: core, all]
+      --types <types>           Which types a stream may have: the core of them, or all, floating point, decimals, intervals, fixed-size lists and maps too [default: core] [possible values: core, all]
   -h, --help                    Print help
 
 Only the stream's first message is read. The exit status is 0, 1 where the stream is refused, and 2 where
@@ -59,7 +59,7 @@ Options:
       --limit-metadata <BYTES>  The most bytes of one message's metadata [default: 67108864]
       --limit-body <BYTES>      The most bytes of one message's body [default: 68719476736]
       --limit-rows <ROWS>       The most rows of a batch, slots of a column, and values of a dictionary [default: 2147483647]
-      --types <types>           Which types a stream may have: the core of them, or all, floating point, decimals, intervals and maps too [default: core] [possible values: core, all]
+      --types <types>           Which types a stream may have: the core of them, or all, floating point, decimals, intervals, fixed-size lists and maps too [default: core] [possible values: core, all]
   -h, --help                    Print help
 
 A line has the message's place in bytes, what it is, and its columns, values or rows. The exit status is 0, 1
@@ -84,7 +84,7 @@ Options:
       --limit-metadata <BYTES>  The most bytes of one message's metadata [default: 67108864]
       --limit-body <BYTES>      The most bytes of one message's body [default: 68719476736]
       --limit-rows <ROWS>       The most rows of a batch, slots of a column, and values of a dictionary [default: 2147483647]
-      --types <types>           Which types a stream may have: the core of them, or all, floating point, decimals, intervals and maps too [default: core] [possible values: core, all]
+      --types <types>           Which types a stream may have: the core of them, or all, floating point, decimals, intervals, fixed-size lists and maps too [default: core] [possible values: core, all]
   -h, --help                    Print help
 
 The first record has the names of the columns, and each row begins with the number of its batch, counted from
@@ -110,7 +110,7 @@ Options:
       --limit-metadata <BYTES>  The most bytes of one message's metadata [default: 67108864]
       --limit-body <BYTES>      The most bytes of one message's body [default: 68719476736]
       --limit-rows <ROWS>       The most rows of a batch, slots of a column, and values of a dictionary [default: 2147483647]
-      --types <types>           Which types a stream may have: the core of them, or all, floating point, decimals, intervals and maps too [default: core] [possible values: core, all]
+      --types <types>           Which types a stream may have: the core of them, or all, floating point, decimals, intervals, fixed-size lists and maps too [default: core] [possible values: core, all]
   -h, --help                    Print help
 
 The rows stay what they are; the new stream has an end marker. OUT is created, and emptied first where it is
@@ -138,7 +138,7 @@ Options:
       --limit-metadata <BYTES>  The most bytes of one message's metadata [default: 67108864]
       --limit-body <BYTES>      The most bytes of one message's body [default: 68719476736]
       --limit-rows <ROWS>       The most rows of a batch, slots of a column, and values of a dictionary [default: 2147483647]
-      --types <types>           Which types a stream may have: the core of them, or all, floating point, decimals, intervals and maps too [default: core] [possible values: core, all]
+      --types <types>           Which types a stream may have: the core of them, or all, floating point, decimals, intervals, fixed-size lists and maps too [default: core] [possible values: core, all]
   -h, --help                    Print help
 
 Each FILE is one connection, of which the first N bytes are delivered in pieces of M. The exit status is 0

@@ -8,4 +8,4 @@ pub returns : goal.returns
 returns c =
     let held = c.in_ok-offsets.ensures in
     IfSome_then c.between.result c.between.ensures
-    (λ spans are. spans_are c.in_ok-offsets.offsets held.0 items_in_value c.args.slice.array.now.raw c.args.slice.start c.args.slice.stop spans held.1 are c.requires.inside)
+    (λ spans are. spans_are c.in_ok-offsets.offsets held.0 (items_in_value 0) c.args.slice.array.now.raw c.args.slice.start c.args.slice.stop spans held.1 are c.requires.inside)

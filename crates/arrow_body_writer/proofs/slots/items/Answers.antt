@@ -1,4 +1,5 @@
-use Rattle.std.proofs.Common.{◌≡◌, ◌<◌, ◌+◌, ◌-◌, get_or, ap, ◌∙◌, arith}
+use Rattle.std.proofs.Common.{◌≡◌, ◌<◌, ℕ, ◌+◌, ◌-◌, [], get_or, ap, ◌∙◌, arith}
+use Rattle.std.specs.List.{flat_map}
 use Rattle.arrow_data.specs.Column.{values_from}
 use Rattle.arrow_data.specs.Form.{node_form}
 use Rattle.arrow_body_laws.specs.Raws.{items_in_value}
@@ -7,14 +8,20 @@ use Rattle.arrow_body_writer.proofs.slots.items.Goals as goal
 
 -- no slots
 pub returns-then-start-stop : goal.returns-then-start-stop
-returns-then-start-stop c = no_slots items_in_value c.args.slice.array.now.raw c.args.slice.start c.args.slice.stop c.if-start-stop.true
+returns-then-start-stop c =
+    let nothing : (n : ℕ) → flat_map (items_in_value n) (values_from c.args.slice.array.now.raw c.args.slice.start c.args.slice.stop) ≡ [] =
+    λ n. no_slots (items_in_value n) c.args.slice.array.now.raw c.args.slice.start c.args.slice.stop c.if-start-stop.true in
+    record { none = nothing 0; none_of_lists = λ _. nothing }
 
 -- no lists
 pub returns-in_default : goal.returns-in_default
 returns-in_default c =
     let a = c.args.slice.array.now in
     let all = full_of a c.args.slice.start c.args.slice.stop c.len-slots.ensures.known c.requires.slots.inside c.requires.full in
-    no_lists (node_form a.data_type.tag a.encoding) a.data_type.children (values_from a.raw c.args.slice.start c.args.slice.stop) c.in_default.ensures all
+    record {
+      none = no_lists (node_form a.data_type.tag a.encoding) a.data_type.children (values_from a.raw c.args.slice.start c.args.slice.stop) c.in_default.ensures all;
+      none_of_lists = λ lists. absurd (c.in_default.ensures lists);
+    }
 
 -- the items of all lists
 pub returns : goal.returns

@@ -1,8 +1,7 @@
 use Rattle.std.proofs.Common.{length, ap, sym, ◌∙◌}
 use Rattle.std.proofs.lemmas.List.Concat.{length-flat_map}
 use Rattle.arrow_data.specs.Column.{values_from}
-use Rattle.arrow_data.proofs.Sameness.{length-values_from}
-use Rattle.arrow_body_laws.specs.Raws.{bytes_in_value, items_in_value, last_offset}
+use Rattle.arrow_body_laws.specs.Raws.{bytes_in_value, last_offset}
 use Rattle.arrow_body_writer.proofs.tally.stretch.Goals as goal
 
 -- the bytes of byte strings
@@ -18,14 +17,7 @@ returns-in-Texts c =
     ap length c.strings-in-Texts.ensures ∙ length-flat_map bytes_in_value vs ∙ ap (λ f. last_offset f vs) (sym c.in-Texts.is)
 
 -- the items of lists
-pub returns-in-Some : goal.returns-in-Some
-returns-in-Some c =
+pub returns-in-Lists : goal.returns-in-Lists
+returns-in-Lists c =
     let vs = values_from c.args.slice.array.now.raw c.args.slice.start c.args.slice.stop in
-    let run = c.in-Some.ensures in
-    sym (length-values_from c.in-Some.items.array.now.raw c.in-Some.items.start c.in-Some.items.stop run.inside) ∙ ap length (sym run.same)
-    ∙ length-flat_map items_in_value vs ∙ ap (λ f. last_offset f vs) (sym c.in-Lists.is)
-
-pub returns-in-None : goal.returns-in-None
-returns-in-None c =
-    let vs = values_from c.args.slice.array.now.raw c.args.slice.start c.args.slice.stop in
-    ap length (sym c.in-None.ensures) ∙ length-flat_map items_in_value vs ∙ ap (λ f. last_offset f vs) (sym c.in-Lists.is)
+    c.list_stretch.ensures ∙ ap (λ f. last_offset f vs) (sym c.in-Lists.is)

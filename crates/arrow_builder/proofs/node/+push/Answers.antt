@@ -1,4 +1,4 @@
-use Rattle.std.proofs.Common.{◌≡◌, ◌+◌, ◌<◌, ◌≤◌, suc, [], ◌∷◌, length, map, get_or, set, refl, ap, sym, ◌∙◌, subst, arith}
+use Rattle.std.proofs.Common.{rules, ◌≡◌, ◌+◌, ◌*◌, ◌<◌, ◌≤◌, suc, [], ◌∷◌, length, map, get_or, replicate, set, OnOk, refl, ap, sym, ◌∙◌, subst, arith}
 use Rattle.std.specs.Prelude.{not}
 use Rattle.std.specs.List.{AllByRecursion}
 use Rattle.std.specs.Vec.{with_item, with_items}
@@ -7,15 +7,18 @@ use Rattle.std.proofs.lemmas.List.{with_items_is}
 use Rattle.arrow_types.specs.Field.{FieldShape, levels, more, none}
 use Rattle.arrow_types.specs.View.{field_view}
 use Rattle.arrow_data.specs.Fits.{Fits}
-use Rattle.arrow_data.specs.PlainValue.{field_value}
+use Rattle.arrow_data.specs.PlainValue.{field_value, list_value, null_value, values_of}
 use Rattle.arrow_data.specs.Slots.{is_valid_at, place_of}
 use Rattle.arrow_data.specs.Value.{value_view, values_view}
 use Rattle.arrow_data.specs.declared.form.Form.TheVariants as forms
-use Rattle.arrow_builder.specs.Built.{Built, HaveSlots, built_size, cut_to, fields_in, with_parts, with_value, with_values}
+use Rattle.arrow_data.specs.declared.form.ListForm.TheVariants as lists
+use Rattle.arrow_data.specs.declared.value.Value.{the_lemmas}
+use Rattle.arrow_data.proofs.Lists.{list_again}
+use Rattle.arrow_builder.specs.Built.{Built, HaveSlots, built_size, cut_to, fields_in, sized_items, with_parts, with_value, with_values}
 use Rattle.arrow_builder.specs.Fields.{FitsField, field_form}
-use Rattle.arrow_builder.proofs.Listed.{item_has, items_fit, items_more, only_child}
+use Rattle.arrow_builder.proofs.Listed.{given_fit, item_has, items_fit, items_more, nulls_more, only_child}
 use Rattle.arrow_builder.proofs.Nested.{begun, begun_all, begun_broken, begun_length, begun_more, begun_next, cut_more, field_fits, length_by_cut, long_by_cut, long_counts, parts_cut, size_below, slot_below, slots_by_cut}
-use Rattle.arrow_builder.proofs.NodeParts.{children_are, kept_lists, kept_structs, list_grows, list_stays, struct_grows, struct_stays}
+use Rattle.arrow_builder.proofs.NodeParts.{children_are, kept_lists, kept_structs, list_grows, list_stays, sized_grows, sized_stays, struct_grows, struct_stays}
 use Rattle.arrow_builder.specs.Puts.{PutsBit, PutsValid}
 use Rattle.arrow_builder.proofs.NodeSlots.{node_len}
 use Rattle.arrow_builder.proofs.Putting.{after_err}
@@ -202,9 +205,9 @@ pub push_list-push_items-requires : goal.push_list-push_items-requires
 push_list-push_items-requires t c =
     let v = value_view c.args.value.now in
     let a = c.node.inside in
-    let form : field_form (field_view a.field) ≡ forms.Lists c.args.width = ap (λ (b : Built). field_form b.field) c.node.view_is ∙ c.requires.form in
-    let o = only_child (field_view a.field).head.tag (field_view a.field).head.encoding (field_view a.field).children a.children.items c.args.width form c.node.invariant.own c.node.invariant.below in
-    let kept = kept_lists a c.args.width o.child form o.only c.node.invariant in
+    let form : field_form (field_view a.field) ≡ forms.Lists (lists.Offsets c.args.width) = ap (λ (b : Built). field_form b.field) c.node.view_is ∙ c.requires.form in
+    let o = only_child (field_view a.field).head.tag (field_view a.field).head.encoding (field_view a.field).children a.children.items (lists.Offsets c.args.width) form c.node.invariant.own c.node.invariant.below in
+    let kept = kept_lists a (lists.Offsets c.args.width) o.child form o.only c.node.invariant in
     let child : c.index_mut.result.now ≡ o.child = c.index_mut.ensures.value ∙ ap (λ bs. get_or bs 0 c.index_mut.result.now) o.only in
     let start : c.place_at-start.result ≡ place_of c.args.width a.buffers.values.items a.len = grind (arith, common_steps) in
     let fit = subst (λ (b : Built). FitsField b.field v) (sym c.node.view_is) c.requires.fits in
@@ -218,9 +221,9 @@ push_list-push_items-requires t c =
 pub push_list-invariant_of-node : goal.push_list-invariant_of-node
 push_list-invariant_of-node t c =
     let a = c.node.inside in
-    let form : field_form (field_view a.field) ≡ forms.Lists c.args.width = ap (λ (b : Built). field_form b.field) c.node.view_is ∙ c.requires.form in
-    let o = only_child (field_view a.field).head.tag (field_view a.field).head.encoding (field_view a.field).children a.children.items c.args.width form c.node.invariant.own c.node.invariant.below in
-    let kept = kept_lists a c.args.width o.child form o.only c.node.invariant in
+    let form : field_form (field_view a.field) ≡ forms.Lists (lists.Offsets c.args.width) = ap (λ (b : Built). field_form b.field) c.node.view_is ∙ c.requires.form in
+    let o = only_child (field_view a.field).head.tag (field_view a.field).head.encoding (field_view a.field).children a.children.items (lists.Offsets c.args.width) form c.node.invariant.own c.node.invariant.below in
+    let kept = kept_lists a (lists.Offsets c.args.width) o.child form o.only c.node.invariant in
     let child : c.index_mut.result.now ≡ o.child = c.index_mut.ensures.value ∙ ap (λ bs. get_or bs 0 c.index_mut.result.now) o.only in
     let start : c.place_at-start.result ≡ place_of c.args.width a.buffers.values.items a.len = grind (arith, common_steps) in
     let b = record a { children = with_item a.children 0 c.push_items.new.node } in
@@ -232,9 +235,9 @@ push_list-invariant_of-node t c =
 pub push_list-returns-in_err-push_items-clause-err : goal.push_list-returns-in_err-push_items-clause-err
 push_list-returns-in_err-push_items-clause-err t c =
     let a = c.node.inside in
-    let form : field_form (field_view a.field) ≡ forms.Lists c.args.width = ap (λ (b : Built). field_form b.field) c.node.view_is ∙ c.requires.form in
-    let o = only_child (field_view a.field).head.tag (field_view a.field).head.encoding (field_view a.field).children a.children.items c.args.width form c.node.invariant.own c.node.invariant.below in
-    let kept = kept_lists a c.args.width o.child form o.only c.node.invariant in
+    let form : field_form (field_view a.field) ≡ forms.Lists (lists.Offsets c.args.width) = ap (λ (b : Built). field_form b.field) c.node.view_is ∙ c.requires.form in
+    let o = only_child (field_view a.field).head.tag (field_view a.field).head.encoding (field_view a.field).children a.children.items (lists.Offsets c.args.width) form c.node.invariant.own c.node.invariant.below in
+    let kept = kept_lists a (lists.Offsets c.args.width) o.child form o.only c.node.invariant in
     let child : c.index_mut.result.now ≡ o.child = c.index_mut.ensures.value ∙ ap (λ bs. get_or bs 0 c.index_mut.result.now) o.only in
     let start : c.place_at-start.result ≡ place_of c.args.width a.buffers.values.items a.len = grind (arith, common_steps) in
     let b = record a { children = with_item a.children 0 c.push_items.new.node } in
@@ -246,9 +249,9 @@ push_list-returns-in_err-push_items-clause-err t c =
 pub push_list-invariant_of-node-in_err-put_range : goal.push_list-invariant_of-node-in_err-put_range
 push_list-invariant_of-node-in_err-put_range t c =
     let a = c.node.inside in
-    let form : field_form (field_view a.field) ≡ forms.Lists c.args.width = ap (λ (b : Built). field_form b.field) c.node.view_is ∙ c.requires.form in
-    let o = only_child (field_view a.field).head.tag (field_view a.field).head.encoding (field_view a.field).children a.children.items c.args.width form c.node.invariant.own c.node.invariant.below in
-    let kept = kept_lists a c.args.width o.child form o.only c.node.invariant in
+    let form : field_form (field_view a.field) ≡ forms.Lists (lists.Offsets c.args.width) = ap (λ (b : Built). field_form b.field) c.node.view_is ∙ c.requires.form in
+    let o = only_child (field_view a.field).head.tag (field_view a.field).head.encoding (field_view a.field).children a.children.items (lists.Offsets c.args.width) form c.node.invariant.own c.node.invariant.below in
+    let kept = kept_lists a (lists.Offsets c.args.width) o.child form o.only c.node.invariant in
     let child : c.index_mut.result.now ≡ o.child = c.index_mut.ensures.value ∙ ap (λ bs. get_or bs 0 c.index_mut.result.now) o.only in
     let start : c.place_at-start.result ≡ place_of c.args.width a.buffers.values.items a.len = grind (arith, common_steps) in
     let v = value_view c.args.value.now in
@@ -265,9 +268,9 @@ push_list-invariant_of-node-in_err-put_range t c =
 pub push_list-returns-in_err-put_range-clause-err : goal.push_list-returns-in_err-put_range-clause-err
 push_list-returns-in_err-put_range-clause-err t c =
     let a = c.node.inside in
-    let form : field_form (field_view a.field) ≡ forms.Lists c.args.width = ap (λ (b : Built). field_form b.field) c.node.view_is ∙ c.requires.form in
-    let o = only_child (field_view a.field).head.tag (field_view a.field).head.encoding (field_view a.field).children a.children.items c.args.width form c.node.invariant.own c.node.invariant.below in
-    let kept = kept_lists a c.args.width o.child form o.only c.node.invariant in
+    let form : field_form (field_view a.field) ≡ forms.Lists (lists.Offsets c.args.width) = ap (λ (b : Built). field_form b.field) c.node.view_is ∙ c.requires.form in
+    let o = only_child (field_view a.field).head.tag (field_view a.field).head.encoding (field_view a.field).children a.children.items (lists.Offsets c.args.width) form c.node.invariant.own c.node.invariant.below in
+    let kept = kept_lists a (lists.Offsets c.args.width) o.child form o.only c.node.invariant in
     let child : c.index_mut.result.now ≡ o.child = c.index_mut.ensures.value ∙ ap (λ bs. get_or bs 0 c.index_mut.result.now) o.only in
     let start : c.place_at-start.result ≡ place_of c.args.width a.buffers.values.items a.len = grind (arith, common_steps) in
     let v = value_view c.args.value.now in
@@ -284,9 +287,9 @@ push_list-returns-in_err-put_range-clause-err t c =
 pub push_list-invariant_of-node-2 : goal.push_list-invariant_of-node-2
 push_list-invariant_of-node-2 t c =
     let a = c.node.inside in
-    let form : field_form (field_view a.field) ≡ forms.Lists c.args.width = ap (λ (b : Built). field_form b.field) c.node.view_is ∙ c.requires.form in
-    let o = only_child (field_view a.field).head.tag (field_view a.field).head.encoding (field_view a.field).children a.children.items c.args.width form c.node.invariant.own c.node.invariant.below in
-    let kept = kept_lists a c.args.width o.child form o.only c.node.invariant in
+    let form : field_form (field_view a.field) ≡ forms.Lists (lists.Offsets c.args.width) = ap (λ (b : Built). field_form b.field) c.node.view_is ∙ c.requires.form in
+    let o = only_child (field_view a.field).head.tag (field_view a.field).head.encoding (field_view a.field).children a.children.items (lists.Offsets c.args.width) form c.node.invariant.own c.node.invariant.below in
+    let kept = kept_lists a (lists.Offsets c.args.width) o.child form o.only c.node.invariant in
     let child : c.index_mut.result.now ≡ o.child = c.index_mut.ensures.value ∙ ap (λ bs. get_or bs 0 c.index_mut.result.now) o.only in
     let start : c.place_at-start.result ≡ place_of c.args.width a.buffers.values.items a.len = grind (arith, common_steps) in
     let v = value_view c.args.value.now in
@@ -304,9 +307,9 @@ push_list-invariant_of-node-2 t c =
 pub push_list-returns-clause-ok : goal.push_list-returns-clause-ok
 push_list-returns-clause-ok t c =
     let a = c.node.inside in
-    let form : field_form (field_view a.field) ≡ forms.Lists c.args.width = ap (λ (b : Built). field_form b.field) c.node.view_is ∙ c.requires.form in
-    let o = only_child (field_view a.field).head.tag (field_view a.field).head.encoding (field_view a.field).children a.children.items c.args.width form c.node.invariant.own c.node.invariant.below in
-    let kept = kept_lists a c.args.width o.child form o.only c.node.invariant in
+    let form : field_form (field_view a.field) ≡ forms.Lists (lists.Offsets c.args.width) = ap (λ (b : Built). field_form b.field) c.node.view_is ∙ c.requires.form in
+    let o = only_child (field_view a.field).head.tag (field_view a.field).head.encoding (field_view a.field).children a.children.items (lists.Offsets c.args.width) form c.node.invariant.own c.node.invariant.below in
+    let kept = kept_lists a (lists.Offsets c.args.width) o.child form o.only c.node.invariant in
     let child : c.index_mut.result.now ≡ o.child = c.index_mut.ensures.value ∙ ap (λ bs. get_or bs 0 c.index_mut.result.now) o.only in
     let start : c.place_at-start.result ≡ place_of c.args.width a.buffers.values.items a.len = grind (arith, common_steps) in
     let v = value_view c.args.value.now in
@@ -320,3 +323,161 @@ push_list-returns-clause-ok t c =
     let valid = subst (λ x. PutsValid a.len (not x) a.buffers.validity.items c.put_range.new.buffers.validity.items) c.is_null.ensures c.in_ok-put_range.ensures.valid in
     let both = list_grows a b c.args.width o.child c.push_items.new.node v vs form o.only only' few c.node.invariant fit grown c.items_in.ensures c.in_ok-put_range.ensures.kept (c.in_ok-put_range.ensures.end ∙ end) valid c.in_ok-put_range.ensures.places in
     both.1 ∙ ap (λ (b : Built). with_value b v) c.node.view_is
+
+pub push_run-push_slots-requires : goal.push_run-push_slots-requires
+push_run-push_slots-requires t c =
+    let v = value_view c.args.value.now in
+    let a = c.node.inside in
+    let size = c.args.size in
+    let form : field_form (field_view a.field) ≡ forms.Lists (lists.Fixed size) = ap (λ (b : Built). field_form b.field) c.node.view_is ∙ c.requires.form in
+    let o = only_child (field_view a.field).head.tag (field_view a.field).head.encoding (field_view a.field).children a.children.items (lists.Fixed size) form c.node.invariant.own c.node.invariant.below in
+    let kept = kept_lists a (lists.Fixed size) o.child form o.only c.node.invariant in
+    let child : c.index_mut.result.now ≡ o.child = c.index_mut.ensures.value ∙ ap (λ bs. get_or bs 0 c.index_mut.result.now) o.only in
+    let start : c.sized_place-start.result ≡ size * a.len = grind (arith, common_steps) in
+    let fit = subst (λ (b : Built). FitsField b.field v) (sym c.node.view_is) c.requires.fits in
+    let fits = given_fit o.child (field_view a.field).children (lists.Fixed size) v o.field (subst (λ f. Fits f (field_view a.field).children v) form fit) in
+    let room : built_size c.args.node.now ≡ levels (more o.child.field.head o.child.field.children none) = sym (ap built_size c.node.view_is) ∙ ap levels o.field in
+    let small = ap built_size child in (
+      omega (arith, c.decreases, room, small),
+      (
+        omega (arith, start, kept.inside, ap (λ (b : Built). length b.raw) child),
+        (subst (λ (b : Built). AllByRecursion (FitsField b.field) (sized_items size v)) (sym child) fits, c.requires.null),
+      ),
+    )
+
+pub push_run-invariant_of-node : goal.push_run-invariant_of-node
+push_run-invariant_of-node t c =
+    let a = c.node.inside in
+    let size = c.args.size in
+    let form : field_form (field_view a.field) ≡ forms.Lists (lists.Fixed size) = ap (λ (b : Built). field_form b.field) c.node.view_is ∙ c.requires.form in
+    let o = only_child (field_view a.field).head.tag (field_view a.field).head.encoding (field_view a.field).children a.children.items (lists.Fixed size) form c.node.invariant.own c.node.invariant.below in
+    let kept = kept_lists a (lists.Fixed size) o.child form o.only c.node.invariant in
+    let child : c.index_mut.result.now ≡ o.child = c.index_mut.ensures.value ∙ ap (λ bs. get_or bs 0 c.index_mut.result.now) o.only in
+    let start : c.sized_place-start.result ≡ size * a.len = grind (arith, common_steps) in
+    let b = record a { children = with_item a.children 0 c.push_slots.new.node } in
+    let only' : (with_item a.children 0 c.push_slots.new.node).items ≡ c.push_slots.new.node ∷ [] = ap (λ bs. set bs 0 c.push_slots.new.node) o.only in
+    let cut = subst (λ n. cut_to n c.push_slots.new.node ≡ cut_to n c.index_mut.result.now) start c.in_err-push_slots.ensures.err ∙ ap (cut_to (size * a.len)) child in
+    let both = sized_stays a b size o.child c.push_slots.new.node form o.only only' c.node.invariant cut kept.bits (λ j h. refl) (omega (arith, start, c.in_err-push_slots.ensures.long)) in
+    both.0
+
+pub push_run-returns-in_err-push_slots-clause-err : goal.push_run-returns-in_err-push_slots-clause-err
+push_run-returns-in_err-push_slots-clause-err t c =
+    let a = c.node.inside in
+    let size = c.args.size in
+    let form : field_form (field_view a.field) ≡ forms.Lists (lists.Fixed size) = ap (λ (b : Built). field_form b.field) c.node.view_is ∙ c.requires.form in
+    let o = only_child (field_view a.field).head.tag (field_view a.field).head.encoding (field_view a.field).children a.children.items (lists.Fixed size) form c.node.invariant.own c.node.invariant.below in
+    let kept = kept_lists a (lists.Fixed size) o.child form o.only c.node.invariant in
+    let child : c.index_mut.result.now ≡ o.child = c.index_mut.ensures.value ∙ ap (λ bs. get_or bs 0 c.index_mut.result.now) o.only in
+    let start : c.sized_place-start.result ≡ size * a.len = grind (arith, common_steps) in
+    let b = record a { children = with_item a.children 0 c.push_slots.new.node } in
+    let only' : (with_item a.children 0 c.push_slots.new.node).items ≡ c.push_slots.new.node ∷ [] = ap (λ bs. set bs 0 c.push_slots.new.node) o.only in
+    let cut = subst (λ n. cut_to n c.push_slots.new.node ≡ cut_to n c.index_mut.result.now) start c.in_err-push_slots.ensures.err ∙ ap (cut_to (size * a.len)) child in
+    let both = sized_stays a b size o.child c.push_slots.new.node form o.only only' c.node.invariant cut kept.bits (λ j h. refl) (omega (arith, start, c.in_err-push_slots.ensures.long)) in
+    after_err c.from_residual.result (both.1 ∙ c.node.view_is)
+
+pub push_run-invariant_of-node-in_err-put_bit : goal.push_run-invariant_of-node-in_err-put_bit
+push_run-invariant_of-node-in_err-put_bit t c =
+    let a = c.node.inside in
+    let size = c.args.size in
+    let form : field_form (field_view a.field) ≡ forms.Lists (lists.Fixed size) = ap (λ (b : Built). field_form b.field) c.node.view_is ∙ c.requires.form in
+    let o = only_child (field_view a.field).head.tag (field_view a.field).head.encoding (field_view a.field).children a.children.items (lists.Fixed size) form c.node.invariant.own c.node.invariant.below in
+    let kept = kept_lists a (lists.Fixed size) o.child form o.only c.node.invariant in
+    let child : c.index_mut.result.now ≡ o.child = c.index_mut.ensures.value ∙ ap (λ bs. get_or bs 0 c.index_mut.result.now) o.only in
+    let start : c.sized_place-start.result ≡ size * a.len = grind (arith, common_steps) in
+    let v = value_view c.args.value.now in
+    let b = record a { buffers = record a.buffers { validity = c.put_bit.new.bytes }; children = with_item a.children 0 c.push_slots.new.node } in
+    let only' : (with_item a.children 0 c.push_slots.new.node).items ≡ c.push_slots.new.node ∷ [] = ap (λ bs. set bs 0 c.push_slots.new.node) o.only in
+    let grown : c.push_slots.new.node ≡ with_values (cut_to (size * a.len) o.child) (sized_items size v) = c.in_ok-push_slots.ensures.ok ∙ (λ i. with_values (cut_to (start i) (child i)) (sized_items size v)) in
+    let cut = ap (cut_to (size * a.len)) grown ∙ cut_more (size * a.len) o.child (sized_items size v) kept.inside in
+    let long = long_by_cut (size * a.len) c.push_slots.new.node o.child cut kept.inside in
+    let bits = c.in_err-put_bit.ensures.err in
+    let both = sized_stays a b size o.child c.push_slots.new.node form o.only only' c.node.invariant cut (rw bits kept.bits) (λ j h. ap (λ x. is_valid_at x j) bits) long in
+    both.0
+
+pub push_run-returns-in_err-put_bit-clause-err : goal.push_run-returns-in_err-put_bit-clause-err
+push_run-returns-in_err-put_bit-clause-err t c =
+    let a = c.node.inside in
+    let size = c.args.size in
+    let form : field_form (field_view a.field) ≡ forms.Lists (lists.Fixed size) = ap (λ (b : Built). field_form b.field) c.node.view_is ∙ c.requires.form in
+    let o = only_child (field_view a.field).head.tag (field_view a.field).head.encoding (field_view a.field).children a.children.items (lists.Fixed size) form c.node.invariant.own c.node.invariant.below in
+    let kept = kept_lists a (lists.Fixed size) o.child form o.only c.node.invariant in
+    let child : c.index_mut.result.now ≡ o.child = c.index_mut.ensures.value ∙ ap (λ bs. get_or bs 0 c.index_mut.result.now) o.only in
+    let start : c.sized_place-start.result ≡ size * a.len = grind (arith, common_steps) in
+    let v = value_view c.args.value.now in
+    let b = record a { buffers = record a.buffers { validity = c.put_bit.new.bytes }; children = with_item a.children 0 c.push_slots.new.node } in
+    let only' : (with_item a.children 0 c.push_slots.new.node).items ≡ c.push_slots.new.node ∷ [] = ap (λ bs. set bs 0 c.push_slots.new.node) o.only in
+    let grown : c.push_slots.new.node ≡ with_values (cut_to (size * a.len) o.child) (sized_items size v) = c.in_ok-push_slots.ensures.ok ∙ (λ i. with_values (cut_to (start i) (child i)) (sized_items size v)) in
+    let cut = ap (cut_to (size * a.len)) grown ∙ cut_more (size * a.len) o.child (sized_items size v) kept.inside in
+    let long = long_by_cut (size * a.len) c.push_slots.new.node o.child cut kept.inside in
+    let bits = c.in_err-put_bit.ensures.err in
+    let both = sized_stays a b size o.child c.push_slots.new.node form o.only only' c.node.invariant cut (rw bits kept.bits) (λ j h. ap (λ x. is_valid_at x j) bits) long in
+    after_err c.from_residual-in_err-put_bit.result (both.1 ∙ c.node.view_is)
+
+pub push_run-invariant_of-node-2 : goal.push_run-invariant_of-node-2
+push_run-invariant_of-node-2 t c =
+    let a = c.node.inside in
+    let size = c.args.size in
+    let form : field_form (field_view a.field) ≡ forms.Lists (lists.Fixed size) = ap (λ (b : Built). field_form b.field) c.node.view_is ∙ c.requires.form in
+    let o = only_child (field_view a.field).head.tag (field_view a.field).head.encoding (field_view a.field).children a.children.items (lists.Fixed size) form c.node.invariant.own c.node.invariant.below in
+    let kept = kept_lists a (lists.Fixed size) o.child form o.only c.node.invariant in
+    let child : c.index_mut.result.now ≡ o.child = c.index_mut.ensures.value ∙ ap (λ bs. get_or bs 0 c.index_mut.result.now) o.only in
+    let start : c.sized_place-start.result ≡ size * a.len = grind (arith, common_steps) in
+    let v = value_view c.args.value.now in
+    let b = record a { buffers = record a.buffers { validity = c.put_bit.new.bytes }; children = with_item a.children 0 c.push_slots.new.node } in
+    let only' : (with_item a.children 0 c.push_slots.new.node).items ≡ c.push_slots.new.node ∷ [] = ap (λ bs. set bs 0 c.push_slots.new.node) o.only in
+    let grown : c.push_slots.new.node ≡ with_values (cut_to (size * a.len) o.child) (sized_items size v) = c.in_ok-push_slots.ensures.ok ∙ (λ i. with_values (cut_to (start i) (child i)) (sized_items size v)) in
+    let fit = subst (λ (b : Built). FitsField b.field v) (sym c.node.view_is) c.requires.fits in
+    let few : a.len < 2147483647 = omega (arith, c.requires.few, node_len a c.args.node.now c.node.view_is) in
+    let bit = subst (λ x. PutsBit a.len (not x) a.buffers.validity.items c.put_bit.new.bytes.items) c.is_null.ensures c.in_ok-put_bit.ensures.ok in
+    let both = sized_grows a b size o.child c.push_slots.new.node v form o.only only' few c.node.invariant fit grown bit in
+    both.0
+
+pub push_run-returns-clause-ok : goal.push_run-returns-clause-ok
+push_run-returns-clause-ok t c =
+    let a = c.node.inside in
+    let size = c.args.size in
+    let form : field_form (field_view a.field) ≡ forms.Lists (lists.Fixed size) = ap (λ (b : Built). field_form b.field) c.node.view_is ∙ c.requires.form in
+    let o = only_child (field_view a.field).head.tag (field_view a.field).head.encoding (field_view a.field).children a.children.items (lists.Fixed size) form c.node.invariant.own c.node.invariant.below in
+    let kept = kept_lists a (lists.Fixed size) o.child form o.only c.node.invariant in
+    let child : c.index_mut.result.now ≡ o.child = c.index_mut.ensures.value ∙ ap (λ bs. get_or bs 0 c.index_mut.result.now) o.only in
+    let start : c.sized_place-start.result ≡ size * a.len = grind (arith, common_steps) in
+    let v = value_view c.args.value.now in
+    let b = record a { buffers = record a.buffers { validity = c.put_bit.new.bytes }; children = with_item a.children 0 c.push_slots.new.node } in
+    let only' : (with_item a.children 0 c.push_slots.new.node).items ≡ c.push_slots.new.node ∷ [] = ap (λ bs. set bs 0 c.push_slots.new.node) o.only in
+    let grown : c.push_slots.new.node ≡ with_values (cut_to (size * a.len) o.child) (sized_items size v) = c.in_ok-push_slots.ensures.ok ∙ (λ i. with_values (cut_to (start i) (child i)) (sized_items size v)) in
+    let fit = subst (λ (b : Built). FitsField b.field v) (sym c.node.view_is) c.requires.fits in
+    let few : a.len < 2147483647 = omega (arith, c.requires.few, node_len a c.args.node.now c.node.view_is) in
+    let bit = subst (λ x. PutsBit a.len (not x) a.buffers.validity.items c.put_bit.new.bytes.items) c.is_null.ensures c.in_ok-put_bit.ensures.ok in
+    let both = sized_grows a b size o.child c.push_slots.new.node v form o.only only' few c.node.invariant fit grown bit in
+    both.1 ∙ ap (λ (b : Built). with_value b v) c.node.view_is
+
+pub push_slots-push_items-requires : goal.push_slots-push_items-requires
+push_slots-push_items-requires t c =
+    let v = value_view c.args.value.now in
+    let items = values_view c.in-List.items.items in
+    let is : v ≡ list_value (values_of items) = ap value_view c.in-List.is ∙ search (rules, the_lemmas) in
+    let same : values_view c.deref.result.now ≡ sized_items c.args.size v = ap values_view c.deref.ensures.value ∙ sym (list_again items) ∙ sym (ap (sized_items c.args.size) is) in
+    (omega (arith, c.decreases), (c.requires.inside, subst (AllByRecursion (FitsField c.args.node.now.field)) (sym same) c.requires.fits))
+
+pub push_slots-returns-in-List-clause-ok : goal.push_slots-returns-in-List-clause-ok
+push_slots-returns-in-List-clause-ok t c =
+    let v = value_view c.args.value.now in
+    let items = values_view c.in-List.items.items in
+    let is : v ≡ list_value (values_of items) = ap value_view c.in-List.is ∙ search (rules, the_lemmas) in
+    let same : values_view c.deref.result.now ≡ sized_items c.args.size v = ap values_view c.deref.ensures.value ∙ sym (list_again items) ∙ sym (ap (sized_items c.args.size) is) in
+    subst (λ vs. OnOk c.push_items.result (c.push_items.new.node ≡ with_values (cut_to c.args.start c.args.node.now) vs)) same c.push_items.ensures.ok
+
+pub push_nulls-push_value-requires : goal.push_nulls-push_value-requires
+push_nulls-push_value-requires t c =
+    let same : c.loop-i.node.field ≡ c.args.node.now.field = ap (λ (b : Built). b.field) c.loop-i.invariant ∙ ap (λ (b : Built). b.field) c.cut.ensures in
+    let size = ap (λ (f : FieldShape). levels f.children) same in
+    (omega (arith, c.decreases, size), subst (FitsField c.loop-i.node.field) (sym c.requires.null) tt)
+
+pub push_nulls-loop-i-preserved : goal.push_nulls-loop-i-preserved
+push_nulls-loop-i-preserved t c =
+    c.in_ok-push_value.ensures.ok ∙ (λ i. with_value (c.loop-i.invariant i) (c.requires.null i)) ∙ nulls_more c.cut.new.self c.loop-i._i
+
+pub push_nulls-returns-clause-ok : goal.push_nulls-returns-clause-ok
+push_nulls-returns-clause-ok t c =
+    let end : c.loop-i._i ≡ c.args.count = omega (arith, c.loop-i-test.false) in
+    c.loop-i.invariant ∙ (λ i. with_values (c.cut.ensures i) (replicate (end i) null_value))

@@ -13,19 +13,20 @@ only-requires c =
 pub returns-in_ok-new-in-Lists-clause-lies : goal.returns-in_ok-new-in-Lists-clause-lies
 returns-in_ok-new-in-Lists-clause-lies c =
     let t = type_view c.args.data_type.now in
-    let w = c.in-Lists.width in
+    let w = c.in-Lists.form in
     let form : form_of t.tag ≡ forms.Lists w = sym c.form_of.ensures.same ∙ c.in-Lists.is in
-    let two : 2 ≤ length c.args.node.ranges.now = subst (λ x. buffers_of x ≤ length c.args.node.ranges.now) form c.requires.count in
-    let lies = list_lies w t c.args.node.len c.args.node.body.now c.args.node.ranges.now (record { start = 0; end = 0 }) c.args.children.items c.only.result form c.only.ensures c.requires.children (rw c.deref.ensures.value at c.opened.ensures) two c.requires.inside c.requires.layout in
-    (refl, form, rw c.in_ok-new-in-Lists.ensures.ok lies)
+    let many = subst (λ x. buffers_of x ≤ length c.args.node.ranges.now) form c.requires.count in
+    let lies = list_lies w t c.args.node.len c.args.node.body.now c.args.node.ranges.now (record { start = 0; end = 0 }) c.args.children.items c.only.result form c.only.ensures c.requires.children (rw c.deref.ensures.value at c.opened.ensures) many c.requires.inside c.requires.layout in
+    (refl, form, rw (c.in_ok-new-in-Lists.ensures.ok, c.list_range.ensures) lies)
 
 pub returns-in_ok-new-in-Lists-clause-same : goal.returns-in_ok-new-in-Lists-clause-same
 returns-in_ok-new-in-Lists-clause-same c =
     let t = type_view c.args.data_type.now in
-    let w = c.in-Lists.width in
+    let w = c.in-Lists.form in
     let form : form_of t.tag ≡ forms.Lists w = sym c.form_of.ensures.same ∙ c.in-Lists.is in
-    let two : 2 ≤ length c.args.node.ranges.now = subst (λ x. buffers_of x ≤ length c.args.node.ranges.now) form c.requires.count in
-    list_same w t c.args.node.len c.args.node.body.now c.args.node.ranges.now (record { start = 0; end = 0 }) c.args.children.items c.in_ok-new-in-Lists.field-0 form (rw c.in_ok-new-in-Lists.ensures.ok c.only.ensures) two
+    let many = subst (λ x. buffers_of x ≤ length c.args.node.ranges.now) form c.requires.count in
+    let same = list_same w t c.args.node.len c.args.node.body.now c.args.node.ranges.now (record { start = 0; end = 0 }) c.args.children.items c.in_ok-new-in-Lists.field-0 form (rw c.in_ok-new-in-Lists.ensures.ok c.only.ensures) many in
+    rw c.list_range.ensures same
 
 pub returns-in-Structs-clause-lies : goal.returns-in-Structs-clause-lies
 returns-in-Structs-clause-lies c =
@@ -43,9 +44,6 @@ returns-in-Structs-clause-same c =
 
 pub bounds-node-0 : goal.bounds-node-0
 bounds-node-0 c = grind (arith, common_steps)
-
-pub bounds-node-1 : goal.bounds-node-1
-bounds-node-1 c = grind (arith, common_steps)
 
 pub returns-in_err-new-in-Lists-clause-lies : goal.returns-in_err-new-in-Lists-clause-lies
 returns-in_err-new-in-Lists-clause-lies c = grind (arith, common_steps)

@@ -2,7 +2,7 @@ use Rattle.std.proofs.Common.{codes, rules, to_z, of_z, w8, refl, ◌≡◌, ◌
 use Rattle.arrow_types.specs.DataType as tags
 use Rattle.std.specs.Fmt.{decimal, signed_decimal}
 use Rattle.arrowflow_report.specs.TypeWords.{format_width}
-use Rattle.arrow_types.specs.DataType.{Tag, fixed_size_binary, timestamp}
+use Rattle.arrow_types.specs.DataType.{Tag, fixed_size_binary, fixed_size_list, timestamp}
 use Rattle.arrow_types.specs.View.{type_view}
 use Rattle.arrow_types.specs.declared.data_type.DataType.{the_lemmas}
 use Rattle.arrowflow_c.specs.declared.pens.Pen.{Pen}
@@ -11,7 +11,7 @@ use Rattle.arrowflow_c.proofs.Writing.{puts_more}
 use Rattle.arrowflow_c.proofs.formats.put_type.Goals as goal
 use Rattle.arrowflow_report.specs.TypeWords.{format_end, format_of, words_of}
 
--- a width or a time zone was put after the fixed text
+-- a width, a size or a time zone was put after the fixed text
 puts_end : (old between new : List ℕ) (p q s : Pen) (tag : Tag) (front end : List ℕ) → length old ≤ 2 ^ 64 - 1 → front ≡ (words_of tag).format → end ≡ format_end tag
     → Puts old p front q between → Puts between q end s new → Puts old p (format_of tag) s new
 puts_end old between new p q s tag front end fits at_front at_end first then =
@@ -44,6 +44,15 @@ returns-in-FixedSizeBinary c =
     puts_end c.args.room.now c.put-pen.new.room c.put-in-FixedSizeBinary.new.room c.args.pen c.put-pen.result c.put-in-FixedSizeBinary.result tag c.as_bytes.result.now end.result.now
     (omega (arith, c.put-pen.ensures.fits)) (c.as_bytes.ensures.value ∙ c.words_of.ensures.format)
     (end.ensures.value ∙ c.format.ensures.text ∙ sym (ap format_end is)) c.put-pen.ensures.puts c.put-in-FixedSizeBinary.ensures.puts
+
+pub returns-in-FixedSizeList : goal.returns-in-FixedSizeList
+returns-in-FixedSizeList c =
+    let tag : Tag = (type_view c.args.data_type.now).tag in
+    let is : tag ≡ fixed_size_list c.in-FixedSizeList.size = search (rules, the_lemmas) in
+    let end = c.as_bytes-in-FixedSizeList in
+    puts_end c.args.room.now c.put-pen.new.room c.put-in-FixedSizeList.new.room c.args.pen c.put-pen.result c.put-in-FixedSizeList.result tag c.as_bytes.result.now end.result.now
+    (omega (arith, c.put-pen.ensures.fits)) (c.as_bytes.ensures.value ∙ c.words_of.ensures.format)
+    (end.ensures.value ∙ c.format-in-FixedSizeList.ensures.text ∙ sym (ap format_end is)) c.put-pen.ensures.puts c.put-in-FixedSizeList.ensures.puts
 
 pub returns-in-Timestamp-default-Some : goal.returns-in-Timestamp-default-Some
 returns-in-Timestamp-default-Some c =

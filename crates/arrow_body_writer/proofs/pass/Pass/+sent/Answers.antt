@@ -1,8 +1,9 @@
-use Rattle.std.proofs.Common.{rules, ◌≡◌, ◌≤◌, ◌<◌, ◌+◌, min, length, sym, ap, ◌∙◌, subst, arith}
+use Rattle.std.proofs.Common.{rules, ◌≤◌, ◌<◌, [], ◌∷◌, length, sym, ap, ◌∙◌, subst, arith}
 use Rattle.std.specs.List.{AllByRecursion}
 use Rattle.arrow_data.specs.Column.{values_from}
+use Rattle.arrow_data.specs.PlainValue.{null_value}
 use Rattle.arrow_body_writer.proofs.Passing.{as_many, child_typed, column_found, takes_none}
-use Rattle.arrow_body_writer.proofs.RunPasses.{all_of_part, by_field, by_items, field_split, fields_are, items_split, takes_null, takes_part, takes_past, takes_start}
+use Rattle.arrow_body_writer.proofs.RunPasses.{all_of_part, by_field, by_items, field_split, fields_are, items_split, null_list, takes_null, takes_part, takes_start}
 use Rattle.arrow_body_writer.proofs.Sending.{along_none, field_inside, first_typed, lead_on}
 use Rattle.arrow_body_writer.specs.Pass.{HasPlace, Takes, part_in}
 use Rattle.arrow_body_writer.specs.Sent.{sent_along}
@@ -13,7 +14,7 @@ use Rattle.arrow_body_writer.proofs.pass.Pass.+sent.Goals.{take_items-in-Some+in
 pub take_items-loop-i-init : goal.take_items-loop-i-init
 take_items-loop-i-init t c =
     let steps = c.args.steps.now in
-    (omega arith, c.requires.slots.order, takes_start (by_items steps) c.args.self.now c.args.lists.array.now.raw c.args.lists.start (items_split steps))
+    (omega arith, c.requires.slots.order, takes_start (by_items c.args.nulls steps) c.args.self.now c.args.lists.array.now.raw c.args.lists.start (items_split c.args.nulls steps))
 
 -- the items of a range lie inside of the child
 pub take_items-take_along-requires : goal.take_items-take_along-requires
@@ -25,35 +26,56 @@ take_items-take_along-requires t c =
     let i = c.loop-i.i in
     let end = c.first_null-end.result in
     let before = c.first_null-end.ensures in
-    let here = all_of_part (HasPlace (part_in c.args.self.now)) (by_items steps) a.raw c.args.lists.start i end c.args.lists.stop (items_split steps) c.loop-i.invariant.0 before.low before.high c.requires.room in
+    let here = all_of_part (HasPlace (part_in c.args.self.now)) (by_items c.args.nulls steps) a.raw c.args.lists.start i end c.args.lists.stop (items_split c.args.nulls steps) c.loop-i.invariant.0 before.low before.high c.requires.room in
     let room = subst (λ p. AllByRecursion (HasPlace p) (sent_along steps (values_from child.raw c.in-Some.items.start c.in-Some.items.stop))) (sym c.loop-i.invariant.2.kept)
-    (subst (λ vs. AllByRecursion (HasPlace (part_in c.args.self.now)) (sent_along steps vs)) run.same here) in (
+    (subst (λ vs. AllByRecursion (HasPlace (part_in c.args.self.now)) (sent_along steps vs)) (run.same c.args.nulls) here) in (
       omega (arith, c.decreases),
       (record { order = run.ordered; inside = run.inside }, (lead_on _ child.data_type child.encoding steps (first_typed a.data_type.children child run.typed) c.requires.down, room)),
     )
 
--- the lists up to the next null more, and that one
+-- the lists up to the next null more
 pub take_items-loop-i-preserved : goal.take_items-loop-i-preserved
 take_items-loop-i-preserved t c =
     let a = c.args.lists.array.now in
     let steps = c.args.steps.now in
+    let nulls = c.args.nulls in
     let i = c.loop-i.i in
     let end = c.first_null-end.result in
     let before = c.first_null-end.ensures in
-    let sent = by_items steps (values_from a.raw i end) in
+    let sent = by_items nulls steps (values_from a.raw i end) in
     let step : Takes c.loop-i.self c.match-items.self sent = elim c.match-items.branch [
       | take_items-in-Some+in_ok-take_along w ↦ subst (λ p. Takes c.loop-i.self p sent) (sym w.self-is)
-          (subst (λ vs. Takes c.loop-i.self w.take_along.new.self (sent_along steps vs)) (sym w.in-Some.ensures.same) w.in_ok-take_along.ensures.ok)
+          (subst (λ vs. Takes c.loop-i.self w.take_along.new.self (sent_along steps vs)) (sym (w.in-Some.ensures.same nulls)) w.in_ok-take_along.ensures.ok)
       | take_items-in_default w ↦ subst (λ p. Takes c.loop-i.self p sent) (sym w.self-is)
-          (subst (λ vs. Takes c.loop-i.self c.loop-i.self vs) (sym (ap (sent_along steps) w.in_default.ensures ∙ along_none steps)) (takes_none c.loop-i.self))
+          (subst (λ vs. Takes c.loop-i.self c.loop-i.self vs) (sym (ap (sent_along steps) (w.in_default.ensures.none_of_lists c.requires.lists nulls) ∙ along_none steps)) (takes_none c.loop-i.self))
     ] in
-    let taken = takes_part (by_items steps) c.args.self.now c.loop-i.self c.match-items.self a.raw c.args.lists.start i end (items_split steps) c.loop-i.invariant.0 before.low c.loop-i.invariant.2 step in
-    let fits : c.args.lists.stop < 18446744073709551616 = search rules in
-    let next : c.min-i.result ≡ min (end + 1) c.args.lists.stop = omega (arith, c.saturating_add.ensures, c.min-i.ensures, fits) in (
-      omega (arith, c.loop-i.invariant.0, before.low, next, c.loop-i-test.true),
-      omega (arith, next),
-      takes_past steps c.args.self.now c.match-items.self a.raw c.args.lists.start end c.args.lists.stop c.min-i.result (omega (arith, c.loop-i.invariant.0, before.low)) before.high c.requires.slots.inside before.null next taken,
-    )
+    let taken = takes_part (by_items nulls steps) c.args.self.now c.loop-i.self c.match-items.self a.raw c.args.lists.start i end (items_split nulls steps) c.loop-i.invariant.0 before.low c.loop-i.invariant.2 step in
+    let low : c.args.lists.start ≤ end = omega (arith, c.loop-i.invariant.0, before.low) in
+    (low, before.high, taken)
+
+-- and the nulls under that one
+pub take_items-loop-i-preserved-then-i-stop : goal.take_items-loop-i-preserved-then-i-stop
+take_items-loop-i-preserved-then-i-stop t c =
+    let a = c.args.lists.array.now in
+    let steps = c.args.steps.now in
+    let nulls = c.args.nulls in
+    let i = c.loop-i.i in
+    let end = c.first_null-end.result in
+    let before = c.first_null-end.ensures in
+    let sent = by_items nulls steps (values_from a.raw i end) in
+    let step : Takes c.loop-i.self c.match-items.self sent = elim c.match-items.branch [
+      | take_items-in-Some+in_ok-take_along w ↦ subst (λ p. Takes c.loop-i.self p sent) (sym w.self-is)
+          (subst (λ vs. Takes c.loop-i.self w.take_along.new.self (sent_along steps vs)) (sym (w.in-Some.ensures.same nulls)) w.in_ok-take_along.ensures.ok)
+      | take_items-in_default w ↦ subst (λ p. Takes c.loop-i.self p sent) (sym w.self-is)
+          (subst (λ vs. Takes c.loop-i.self c.loop-i.self vs) (sym (ap (sent_along steps) (w.in_default.ensures.none_of_lists c.requires.lists nulls) ∙ along_none steps)) (takes_none c.loop-i.self))
+    ] in
+    let taken = takes_part (by_items nulls steps) c.args.self.now c.loop-i.self c.match-items.self a.raw c.args.lists.start i end (items_split nulls steps) c.loop-i.invariant.0 before.low c.loop-i.invariant.2 step in
+    let low : c.args.lists.start ≤ end = omega (arith, c.loop-i.invariant.0, before.low) in
+    let here : end < length a.raw = omega (arith, c.if-i-stop.true, c.requires.slots.inside) in
+    let one : Takes c.match-items.self c.take_nulls_along.new.self (by_items nulls steps (null_value ∷ [])) =
+    subst (Takes c.match-items.self c.take_nulls_along.new.self) (null_list nulls steps) c.in_ok-take_nulls_along.ensures.ok in
+    let next = takes_null (by_items nulls steps) c.args.self.now c.match-items.self c.take_nulls_along.new.self a.raw c.args.lists.start end (items_split nulls steps) low here (before.null c.if-i-stop.true) taken one in
+    (omega (arith, low), omega (arith, c.if-i-stop.true), next)
 
 -- each field has its child
 pub take_field-bounds-children-k : goal.take_field-bounds-children-k

@@ -9,7 +9,7 @@ use Rattle.arrow_body_writer.proofs.pass.Pass.+sent.Given as goal
 abbrev pub invariant-take_items-loop-i : goal.invariant-take_items-loop-i
 invariant-take_items-loop-i l =
     (l.lists.start ≤ l.i) × (l.i ≤ l.lists.stop)
-    × Takes l.fn.self l.self (by_items l.steps (values_from l.lists.array.now.raw l.lists.start l.i))
+    × Takes l.fn.self l.self (by_items l.nulls l.steps (values_from l.lists.array.now.raw l.lists.start l.i))
 
 abbrev pub invariant-take_field-loop-i : goal.invariant-take_field-loop-i
 invariant-take_field-loop-i l =

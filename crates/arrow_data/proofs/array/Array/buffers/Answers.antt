@@ -56,8 +56,8 @@ returns-in-Lists c =
     let body = λ (r : ByteRange). ap (λ bs. bytes_of bs r) c.as_slice-body.ensures in
     let v = c.in-Lists.validity in
     let o = c.in-Lists.offsets in
-    let held = lists_held c.self.inside c.args.self.now c.in-Lists.width v o c.in-Lists.child c.bytes_in-in-Lists.result.now c.bytes_in-in-Lists-2.result.now c.self.view_is c.self.invariant c.in-Lists.is (c.bytes_in-in-Lists.ensures ∙ body v) (c.bytes_in-in-Lists-2.ensures ∙ body o) in
-    subst (HoldLists c.args.self.now c.in-Lists.width c.bytes_in-in-Lists.result.now c.bytes_in-in-Lists-2.result.now) (sym c.deref.ensures) held
+    let held = lists_held c.self.inside c.args.self.now c.in-Lists.form v o c.in-Lists.child c.bytes_in-in-Lists.result.now c.bytes_in-in-Lists-2.result.now c.self.view_is c.self.invariant c.in-Lists.is (c.bytes_in-in-Lists.ensures ∙ body v) (c.bytes_in-in-Lists-2.ensures ∙ body o) in
+    subst (HoldLists c.args.self.now c.in-Lists.form c.bytes_in-in-Lists.result.now c.bytes_in-in-Lists-2.result.now) (sym c.deref.ensures) held
 
 pub returns-in-Structs : goal.returns-in-Structs
 returns-in-Structs c =

@@ -11,7 +11,7 @@ pub returns-in-Lists : goal.returns-in-Lists
 returns-in-Lists c =
     let a = c.self.inside in
     let t = type_view a.data_type.value in
-    let w = c.in-Lists.width in
+    let w = c.in-Lists.form in
     let v = c.in-Lists.validity in
     let o = c.in-Lists.offsets in
     let ok = subst (AreRanges a.len t a.encoding a.body) c.in-Lists.is c.self.invariant.1 in

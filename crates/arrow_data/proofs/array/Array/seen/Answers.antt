@@ -2,7 +2,7 @@ use Rattle.std.proofs.Common.{◌≡◌, ◌+◌, ◌<◌, ◌≤◌, length, ap
 use Rattle.arrow_types.specs.View.{type_view}
 use Rattle.arrow_data.specs.Column.{Column}
 use Rattle.arrow_data.specs.Node.{AreRanges, column_by, raw_slot, resolved_slot, bytes_of}
-use Rattle.arrow_data.specs.Slots.{slots, list_slot, struct_slot, is_valid_at, place_of}
+use Rattle.arrow_data.specs.Slots.{slots, item_place, list_slot, struct_slot, is_valid_at}
 use Rattle.arrow_data.specs.declared.array.Ranges.TheVariants.{Lists}
 use Rattle.arrow_data.proofs.Children.{items_of_column}
 use Rattle.arrow_data.proofs.Shown.{parts_shown, length_slots, shown}
@@ -27,7 +27,7 @@ pub returns-in-Some-range_at : goal.returns-in-Some-range_at
 returns-in-Some-range_at c =
     let a = c.self.inside in
     let t = type_view a.data_type.value in
-    let w = c.in-Lists.width in
+    let w = c.in-Lists.form in
     let v = bytes_of a.body c.in-Lists.validity in
     let o = bytes_of a.body c.in-Lists.offsets in
     let child = c.in-Lists.child.value in
@@ -36,8 +36,8 @@ returns-in-Some-range_at c =
     ∙ ap (λ e. column_by t e a.len a.body (Lists w c.in-Lists.validity c.in-Lists.offsets c.in-Lists.child)) ok.0 in
     let within : c.args.i < a.len = omega (arith, ap (λ (x : Column). length x.raw) is, length_slots a.len (λ j. list_slot w v o child.raw j), c.requires) in
     let valid : is_valid_at v c.args.i ≡ true = search rules in
-    let low : c.in-Some-range_at.start ≡ place_of w o c.args.i = search rules in
-    let high : c.in-Some-range_at.end ≡ place_of w o (c.args.i + 1) = search rules in
+    let low : c.in-Some-range_at.start ≡ item_place w o c.args.i = search rules in
+    let high : c.in-Some-range_at.end ≡ item_place w o (c.args.i + 1) = search rules in
     let order : c.in-Some-range_at.start ≤ c.in-Some-range_at.end = search rules in
     let top : c.in-Some-range_at.end ≤ length child.raw = search rules in
     let shown = items_of_column c.args.self.now t w a.len v o child c.args.i c.in-Some-range_at.start c.in-Some-range_at.end is ok.2.typed ok.2.known within valid low high order top in
@@ -76,8 +76,8 @@ at-requires-in-FixedBytes-clause-lies c = grind (arith, shown)
 pub bytes_in-marks-requires : goal.bytes_in-marks-requires
 bytes_in-marks-requires c = grind (arith, shown)
 
-pub bytes_in-places-requires : goal.bytes_in-places-requires
-bytes_in-places-requires c = grind (arith, shown)
+pub bytes_in-offsets-requires : goal.bytes_in-offsets-requires
+bytes_in-offsets-requires c = grind (arith, shown)
 
 pub range_at-requires-clause-slot : goal.range_at-requires-clause-slot
 range_at-requires-clause-slot c = grind (arith, shown)
@@ -85,8 +85,8 @@ range_at-requires-clause-slot c = grind (arith, shown)
 pub range_at-requires-clause-bits : goal.range_at-requires-clause-bits
 range_at-requires-clause-bits c = grind (arith, shown)
 
-pub range_at-requires-clause-offsets : goal.range_at-requires-clause-offsets
-range_at-requires-clause-offsets c = grind (arith, shown)
+pub range_at-requires-clause-places : goal.range_at-requires-clause-places
+range_at-requires-clause-places c = grind (arith, shown)
 
 pub bytes_in-requires : goal.bytes_in-requires
 bytes_in-requires c = grind (arith, shown)

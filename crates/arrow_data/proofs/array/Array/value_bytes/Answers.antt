@@ -8,7 +8,7 @@ use Rattle.arrow_data.specs.Form.{node_form, offset_bytes}
 use Rattle.arrow_data.specs.Node.{AreRanges, IsFormat, bytes_of, raw_slot}
 use Rattle.arrow_data.specs.declared.array.Ranges.TheVariants as ranges
 use Rattle.arrow_data.specs.PlainValue.{binary_value, list_value, struct_value, utf8_value, value_at, values_of}
-use Rattle.arrow_data.specs.Slots.{is_valid_at, place_of, range_of, slots}
+use Rattle.arrow_data.specs.Slots.{is_valid_at, items_at, place_of, range_of, slots}
 use Rattle.arrow_data.proofs.FullSlots.{empty_part, entries_of, fixed_part, ints_part, none_by, none_part, strings_part}
 use Rattle.arrow_data.proofs.Shown.{length_slots}
 use Rattle.arrow_data.proofs.array.Array.value_bytes.Goals as goal
@@ -127,8 +127,8 @@ returns-in-Lists c =
     let inside : c.args.stop ≤ a.len = omega (arith, c.requires.inside, long) in
     let form = ap (λ (x : Column). node_form x.data_type.tag x.encoding) c.self.view_is in
     let ok = subst (AreRanges a.len t a.encoding a.body) r c.self.invariant.1 in
-    none_part (node_form me.data_type.tag me.encoding) me a.len c.args.start c.args.stop (raw_slot a.body (ranges.Lists c.in-Lists.width c.in-Lists.validity c.in-Lists.offsets c.in-Lists.child)) raw long inside (λ j. none_by (node_form me.data_type.tag me.encoding) (is_valid_at (bytes_of a.body c.in-Lists.validity) j)
-    (list_value (values_of (range_of c.in-Lists.width (bytes_of a.body c.in-Lists.offsets) c.in-Lists.child.value.raw j))) refl)
+    none_part (node_form me.data_type.tag me.encoding) me a.len c.args.start c.args.stop (raw_slot a.body (ranges.Lists c.in-Lists.form c.in-Lists.validity c.in-Lists.offsets c.in-Lists.child)) raw long inside (λ j. none_by (node_form me.data_type.tag me.encoding) (is_valid_at (bytes_of a.body c.in-Lists.validity) j)
+    (list_value (values_of (items_at c.in-Lists.form (bytes_of a.body c.in-Lists.offsets) c.in-Lists.child.value.raw j))) refl)
 
 -- structs have none
 pub returns-in-Structs : goal.returns-in-Structs
