@@ -12,7 +12,7 @@ import stream
 from model import ALL, CORE
 from type_table import BY_NAME, BYTES, DECIMAL, FIXED, FIXED_LISTS, FLOATING, LISTS, NUMBERS, STRUCTS, TEXTS
 
-# The types of whose values the text that is shown is told, too, beside floating point; and the most bytes of what is told as a number.
+# The types besides floating point whose shown text a vector gives after the value; and the most bytes of a value that it gives as a number.
 WITH_TEXTS = BY_NAME["Interval"].code, DECIMAL.code
 WIDEST = 16
 # What the names of the vectors begin with that are read with all types.
