@@ -80,7 +80,7 @@ raws_below (forms.Lists list) children vs = flat_map (items_in_value (nulls_unde
 raws_below forms.Structs children vs = map (λ k. map (field_value k) vs) (range_with_len 0 (width children))
 
 -- A slot of a node of the form, with these fields below it, may hold the value: null in every one. Of a list its length is
--- looked at, and nothing else of what stands below a list or a struct.
+-- looked at, and nothing else of the values below a list or a struct.
 abbrev pub IsOwn : Form → Fields → PlainValue → Type 0
 IsOwn form children null_value = ⊤
 IsOwn form children (bool_value b) = form ≡ forms.Bits

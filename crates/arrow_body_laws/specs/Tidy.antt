@@ -111,7 +111,7 @@ abbrev pub BelowNullLists : ListForm → ℕ → List ℕ → (ℕ → Type 0) �
 BelowNullLists (lists.Offsets width) len validity P = ⊤
 BelowNullLists (lists.Fixed size) len validity P = UnderNulls len validity (λ j. (k : ℕ) → k < size → P (size * j + k))
 
--- a condition on what stands below the null slots of a struct, or of a fixed-size list
+-- a condition on the slots of the children that a null struct, or a null fixed-size list, has
 abbrev pub BelowNulls : Form → ℕ → List ℕ → (ℕ → Type 0) → Type 0
 BelowNulls forms.Nulls len validity P = ⊤
 BelowNulls forms.Bits len validity P = ⊤

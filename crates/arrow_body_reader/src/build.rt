@@ -4,16 +4,14 @@ ghost use Rattle.std.specs.Prelude.{◌≡◌, ◌++◌, IfOk, IfSome, IsTrue, M
 ghost use Rattle.std.specs.Prelude.{slice_get, [], ◌∷◌};
 ghost use Rattle.arrow_data.specs.Listed.{IsNodeFit};
 ghost use Rattle.arrow_data.specs.Shared.{node_type};
-ghost use Rattle.arrow_types.specs.View.{field_view};
 ghost use Rattle.arrow_body_reader.specs.Leaf.{IsLeafNode};
 ghost use Rattle.arrow_body_reader.specs.Place.{AreRangesAt, IsIndexedAt, IsLaidAt, IsTextAt};
 ghost use Rattle.arrow_body_reader.specs.Place.{children_at, column_at, columns_below, head_at, len_at};
 
 use crate::look::Node;
 use crate::place::{Laid, Place};
-use arrow_data::form::form_of;
+use arrow_data::form::has_own_fields;
 use arrow_data::{Array, ChildData, NodeBuffers, SharedBody};
-use arrow_types::Field;
 use std::alloc::Global;
 
 // Makes the arrays of fields out of ranges of a body, which they share.
@@ -84,20 +82,22 @@ pub(crate) fn with_node<'a>(
     if !node.seen.texts || !node.seen.indices {
         return None;
     }
-    if is_leaf(place.field) {
+    if place.is_leaf() {
         with_leaf(builder, place, &node.laid)
     } else {
         with_array(builder, inner, place, &node.laid)
     }
 }
 
-// Whether the field's node has neither children nor a dictionary.
-#[inline(always)]
-fn is_leaf(field: &Field) -> bool
-    ensures { IsTrue result → IsLeafNode (field_view field.now).head
-        (field_view field.now).children }
-{
-    field.dictionary.is_none() && form_of(&field.data_type).is_leaf()
+impl Place<'_> {
+    // Whether the field's node has neither children nor a dictionary.
+    #[inline(always)]
+    fn is_leaf(self) -> bool
+        ensures { IsTrue result → IsLeafNode (head_at self.entry) (children_at self.entry) }
+    {
+        has_own_fields(&self.field.data_type);
+        self.field.dictionary.is_none() && self.form.is_leaf()
+    }
 }
 
 // The same of a node whose texts are as they should be, and which has neither children nor a
@@ -121,7 +121,7 @@ fn with_leaf<'a>(builder: Builder<'a>, place: Place<'_>, laid: &Laid) -> Option<
         body: builder.body,
         ranges: &laid.ranges[..place.own],
     };
-    let Ok(array) = Array::from_leaf_parts(shared, buffers) else {
+    let Ok(array) = Array::from_leaf_parts(shared, place.form, buffers) else {
         return None;
     };
     let mut arrays = builder.arrays;

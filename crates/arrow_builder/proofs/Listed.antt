@@ -116,18 +116,18 @@ pub range_front : (new old : List PlainValue) (n start stop : ℕ) → take n ne
 range_front new old n start stop same order inside =
     sym (in_front new n start stop order inside) ∙ ap (λ xs. take (stop - start) (drop start xs)) same ∙ in_front old n start stop order inside
 
--- what was put behind the first values
+-- what was put after the first values
 pub range_put : (front values : List PlainValue) (start stop : ℕ) → length front ≡ start → stop ≡ start + length values → slice_range (front ++ values) start stop ≡ values
 range_put front values start stop long end =
     let size : stop - start ≡ length values = omega (arith, end) in
-    let behind : drop start (front ++ values) ≡ values = ap (λ n. drop n (front ++ values)) (sym long) ∙ drop-append_seam front values in
-    (λ i. take (size i) (behind i)) ∙ take_all (length values) values (omega arith)
+    let after : drop start (front ++ values) ≡ values = ap (λ n. drop n (front ++ values)) (sym long) ∙ drop-append_seam front values in
+    (λ i. take (size i) (after i)) ∙ take_all (length values) values (omega arith)
 
 -- the items of the first `at` lists begin where they did
 abbrev pub StayItems : ListForm → ℕ → List ℕ → List ℕ → Type 0
 StayItems list at old new = (j : ℕ) → j ≤ at → item_place list new j ≡ item_place list old j
 
--- each list ends behind its begin, and not behind the last one
+-- no list ends before it begins, and none after the last one
 pub items_within : (list : ListForm) (at top : ℕ) (validity offsets : List ℕ) → KeepsLists list at top validity offsets → (j : ℕ) → j < at
     → (item_place list offsets j ≤ item_place list offsets (j + 1)) × (item_place list offsets (j + 1) ≤ item_place list offsets at)
 items_within (lists.Offsets width) at top validity offsets kept j h = (kept.ranges.never j h, place_below width at validity offsets kept.ranges (j + 1) (omega (arith, h)))

@@ -9,7 +9,7 @@ ghost use Rattle.arrow_types.specs.View.{field_view, fields_view};
 
 use crate::node::Node;
 use crate::slots::Buffers;
-use arrow_data::form::{Form, ListForm, OffsetWidth, form_of, node_form};
+use arrow_data::form::{Form, ListForm, OffsetWidth, has_own_fields, node_form};
 use arrow_types::Field;
 use std::alloc::{AllocError, Global};
 
@@ -22,7 +22,7 @@ pub(crate) fn begin(alloc: Global, field: &Field) -> Result<Node, AllocError>
 {
     let children = begin_below(alloc, field)?;
     // Called for what it says of every type.
-    form_of(&field.data_type);
+    has_own_fields(&field.data_type);
     let form = node_form(&field.data_type, field.dictionary);
     Ok(Node {
         field: field.copy(alloc)?,

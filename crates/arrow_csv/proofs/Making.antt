@@ -1,5 +1,5 @@
 -- Fields of a dictionary's values, made one by one.
-use Rattle.std.proofs.Common.{◌≡◌, ◌<◌, ◌≤◌, ◌+◌, ◌-◌, ℕ, List, [], ◌∷◌, ◌++◌, inl, inr, length, take, get_or, slice_range, sym, ap, ◌∙◌, subst, arith}
+use Rattle.std.proofs.Common.{◌≡◌, ◌<◌, ◌≤◌, ◌+◌, ◌-◌, ℕ, List, [], ◌∷◌, ◌++◌, zero, suc, refl, Some, inl, inr, length, take, get_or, slice_range, sym, ap, ◌∙◌, subst, arith}
 use Rattle.std.proofs.Math.Seq.{take-append_seam, drop-append_seam, get_or-append_seam}
 use Rattle.std.proofs.lemmas.Bool.{cases_lt}
 use Rattle.std.proofs.lemmas.List.{get_or_append_left, length-append, take_all}
@@ -7,8 +7,10 @@ use Rattle.bytes.proofs.Ranges.{slice_range_front}
 use Rattle.arrow_types.specs.Schema.{has_encoding}
 use Rattle.arrow_data.specs.Column.{Column, HasValue, IsColumn, IsValueList, ValueList}
 use Rattle.arrow_data.specs.PlainValue.{value_at}
-use Rattle.arrow_csv.specs.Made.{AreFirst, IsEntryField, IsField}
-use Rattle.arrow_csv.specs.Texts.{IsFieldOf}
+use Rattle.arrow_data.specs.View.{RefersTo}
+use Rattle.arrow_csv.specs.Made.{AreFirst, HasFields, IsEntryField, IsField}
+use Rattle.arrow_csv.specs.Texts.{Appends, IsFieldOf, IsSomeField}
+use Rattle.arrow_csv.specs.declared.column_text.EntryFields.{EntryFields}
 
 -- a field that stood there still does behind which more was put
 kept : (d : ValueList) (bytes places field : List ℕ) (place n : ℕ) → n + 1 < length places → IsField d bytes places n → IsField d (bytes ++ field) (places ++ place ∷ []) n
@@ -59,9 +61,30 @@ none_yet d = record { long = omega arith; last = omega arith; each = λ n h. abs
 
 -- a field of the slot where a value stands is one of the value
 pub entry_field : (d : ValueList) (n : ℕ) (values : Column) (place : ℕ) (field : List ℕ) → IsValueList d → IsColumn values → HasValue d n values place
-    → IsFieldOf values.data_type (value_at values.resolved place) field → IsEntryField d n field
+    → IsSomeField values.data_type (value_at values.resolved place) field → IsEntryField d n field
 entry_field d n values place field known column has is =
     let children = ap (λ t. t.children) has.typed in
     let plain = column.plain has.plain (ap has_encoding children ∙ known.flat) in
     let value : value_at values.resolved place ≡ value_at d.values n = ap (λ vs. value_at vs place) plain ∙ sym has.same in
-    subst (λ type. IsFieldOf type (value_at d.values n) field) has.typed (subst (λ v. IsFieldOf values.data_type v field) value is)
+    subst (λ type. IsSomeField type (value_at d.values n) field) has.typed (subst (λ v. IsSomeField values.data_type v field) value is)
+
+-- an element that is there is the same, whatever is given in place of one that is not
+at_place : (xs : List ℕ) (n a b : ℕ) → n < length xs → get_or xs n a ≡ get_or xs n b
+at_place [] n a b h = absurd (omega arith)
+at_place (x ∷ xs) zero a b h = refl
+at_place (x ∷ xs) (suc n) a b h = at_place xs n a b (omega (arith, h))
+
+-- the field that was made of the value to which a slot refers is one of the slot
+pub copied_field : (null : List ℕ) (c : Column) (fields : EntryFields) (i n from to : ℕ) (old bytes new : List ℕ) → HasFields c (Some fields) → RefersTo c i n
+    → from ≡ get_or fields.places.items n from → to ≡ get_or fields.places.items (n + 1) to → bytes ≡ fields.bytes.items → new ≡ old ++ slice_range bytes from to → Appends (IsFieldOf null c.data_type (value_at c.resolved i)) old new
+copied_field null c fields i n from to old bytes new has refers first last same all =
+    let d = has.0 in
+    let places = fields.places.items in
+    let value = refers.2 d has.1 in
+    let field = (has.2.each n value.0).same null in
+    let start : get_or places n 0 ≡ from = at_place places n 0 from (omega (arith, has.2.long, value.0)) ∙ sym first in
+    let end : get_or places (n + 1) 0 ≡ to = at_place places (n + 1) 0 to (omega (arith, has.2.long, value.0)) ∙ sym last in
+    let text = slice_range bytes from to in
+    let is : slice_range fields.bytes.items (get_or places n 0) (get_or places (n + 1) 0) ≡ text = ap (λ k. slice_range fields.bytes.items k (get_or places (n + 1) 0)) start ∙ ap (λ k. slice_range fields.bytes.items from k) end ∙ ap (λ b. slice_range b from to) (sym same) in
+    let typed = subst (λ type. IsFieldOf null type (value_at d.values n) text) has.1.typed (subst (IsFieldOf null d.data_type (value_at d.values n)) is field) in
+    (text, subst (λ v. IsFieldOf null c.data_type v text) (sym value.1) typed, all)

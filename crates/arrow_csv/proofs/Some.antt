@@ -18,6 +18,7 @@ use Rattle.arrow_csv.specs.Floats.{IsFloatText, IsNumberText, text_format}
 use Rattle.arrow_csv.proofs.FloatTexts.{bits_fit, float_text, half_fits}
 use Rattle.arrow_csv.specs.Decimals.{decimal_text}
 use Rattle.arrow_csv.specs.Intervals.{bytes_text, months_text}
+use Rattle.arrow_csv.specs.Layouts.{Form, first_field}
 use Rattle.arrow_csv.specs.Records.{AreBatchRows, AreColumnTexts, AreRows, record_of, rows_text}
 use Rattle.arrow_csv.specs.Texts.{AreItemTexts, ArePartTexts, Each, IsText, joined}
 
@@ -39,20 +40,21 @@ range_joined a (suc n) m =
     ap (range_with_len a) count ∙ ap (λ ks. a ∷ ks) (range_joined (a + 1) n m ∙ ap (λ k. range_with_len (a + 1) n ++ range_with_len k m) place)
 
 -- records of two ranges of rows, one after the other
-pub rows_join : (number : ℕ) (batch : Table) (start mid end : ℕ) (first second : List ℕ) → start ≤ mid → mid ≤ end → AreBatchRows number batch start mid first → AreBatchRows number batch mid end second
-    → AreBatchRows number batch start end (first ++ second)
-rows_join number batch start mid end first second low high told later =
+pub rows_join : (form : Form) (number : ℕ) (batch : Table) (start mid end : ℕ) (first second : List ℕ) → start ≤ mid → mid ≤ end → AreBatchRows form number batch start mid first → AreBatchRows form number batch mid end second
+    → AreBatchRows form number batch start end (first ++ second)
+rows_join form number batch start mid end first second low high told later =
+    let head = first_field form.numbered (decimal number) in
     let n = mid - start in
     let m = end - mid in
     let count : n + m ≡ end - start = omega (arith, low, high) in
     let place : start + n ≡ mid = omega (arith, low) in
-    let R : ℕ → List (List ℕ) → Type 0 = λ i texts. AreColumnTexts i batch.columns texts in
+    let R : ℕ → List (List ℕ) → Type 0 = λ i texts. AreColumnTexts form.null i batch.columns texts in
     let behind = subst (λ k. Each R (range_with_len k m) later.0) (sym place) later.1 in
     let each = subst (λ ks. Each R ks (told.0 ++ later.0)) (sym (range_joined start n m)) (each_joined R (range_with_len start n) (range_with_len (start + n) m) told.0 later.0 told.1 behind) in
-    let f : List (List ℕ) → List ℕ = λ texts. record_of (decimal number ∷ texts) in
-    let text : first ++ second ≡ rows_text number (told.0 ++ later.0) = ap₂ (λ a b. a ++ b) told.2 later.2 ∙ sym (flat_map-append f told.0 later.0) in
-    let all : AreRows number batch.columns start (n + m) (first ++ second) = (told.0 ++ later.0, each, text) in
-    subst (λ k. AreRows number batch.columns start k (first ++ second)) count all
+    let f : List (List ℕ) → List ℕ = λ texts. record_of (head ++ texts) in
+    let text : first ++ second ≡ rows_text head (told.0 ++ later.0) = ap₂ (λ a b. a ++ b) told.2 later.2 ∙ sym (flat_map-append f told.0 later.0) in
+    let all : AreRows head form.null batch.columns start (n + m) (first ++ second) = (told.0 ++ later.0, each, text) in
+    subst (λ k. AreRows head form.null batch.columns start k (first ++ second)) count all
 
 -- ---- each value has a text, and each range of rows
 
@@ -107,8 +109,12 @@ some_each R all [] = ([], tt)
 some_each R all (x ∷ xs) = let w = some_each R all xs in ((all x).0 ∷ w.0, ((all x).1, w.1))
 
 -- and the rows of these columns have
-pub some_rows : (number : ℕ) (columns : List Column) (start count : ℕ) → (text : List ℕ) × AreRows number columns start count text
-some_rows number columns start count =
-    let row : (i : ℕ) → (texts : List (List ℕ)) × AreColumnTexts i columns texts = λ i. some_each (λ (c : Column) text. IsText [] c.data_type (value_at c.resolved i) text) (λ c. some_text [] c.data_type (value_at c.resolved i)) columns in
-    let w = some_each (λ i texts. AreColumnTexts i columns texts) row (range_with_len start count) in
-    (rows_text number w.0, (w.0, w.1, refl))
+pub some_rows : (first : List (List ℕ)) (null : List ℕ) (columns : List Column) (start count : ℕ) → (text : List ℕ) × AreRows first null columns start count text
+some_rows first null columns start count =
+    let row : (i : ℕ) → (texts : List (List ℕ)) × AreColumnTexts null i columns texts = λ i. some_each (λ (c : Column) text. IsText null c.data_type (value_at c.resolved i) text) (λ c. some_text null c.data_type (value_at c.resolved i)) columns in
+    let w = some_each (λ i texts. AreColumnTexts null i columns texts) row (range_with_len start count) in
+    (rows_text first w.0, (w.0, w.1, refl))
+
+-- and so have the rows of a batch
+pub some_batch_rows : (form : Form) (number : ℕ) (batch : Table) (start end : ℕ) → (text : List ℕ) × AreBatchRows form number batch start end text
+some_batch_rows form number batch start end = some_rows (first_field form.numbered (decimal number)) form.null batch.columns start (end - start)

@@ -3,6 +3,7 @@ pub mod Wide
 pub mod Intervals
 pub mod Texts
 pub mod Floats
+pub mod Layouts
 pub mod Records
 pub mod Chunks
 pub mod Made

@@ -2,12 +2,12 @@
 use Rattle.std.specs.Prelude.{◌≡◌, ◌≤◌, ◌<◌, ◌+◌, ℕ, List, length, get_or, slice_range, ⊤, Option, None, Some}
 use Rattle.arrow_data.specs.Column.{Column, HasDictionary, ValueList}
 use Rattle.arrow_data.specs.PlainValue.{value_at}
-use Rattle.arrow_csv.specs.Texts.{IsFieldOf}
+use Rattle.arrow_csv.specs.Texts.{IsSomeField}
 use Rattle.arrow_csv.specs.declared.column_text.EntryFields.{EntryFields}
 
--- a field of value n of a dictionary
+-- a field of value n of a dictionary, which is no null
 abbrev pub IsEntryField : ValueList → ℕ → List ℕ → Type 0
-IsEntryField d n field = IsFieldOf d.data_type (value_at d.values n) field
+IsEntryField d n field = IsSomeField d.data_type (value_at d.values n) field
 
 -- field n lies between place n and the next one
 pub record IsField (d : ValueList) (bytes places : List ℕ) (n : ℕ) : Type 0 where

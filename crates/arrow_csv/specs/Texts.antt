@@ -66,11 +66,15 @@ IsListOf type values text = (texts : List (List ℕ)) × Each (IsItemText type) 
 abbrev pub IsStructOf : Fields → List PlainValue → List ℕ → Type 0
 IsStructOf fields values text = (texts : List (List ℕ)) × ArePartTexts fields (values_of values) texts × (text ≡ codes "{" ++ joined texts ++ codes "}")
 
--- a field of a record: a text of the value, between quotes where it calls for them
-abbrev pub IsFieldOf : TypeShape → PlainValue → List ℕ → Type 0
-IsFieldOf type value field = (text : List ℕ) × IsText [] type value text × (field ≡ field_text default_writer text)
+-- a field of a record: a text of the value, between quotes where it calls for them; a null shows as the given text
+abbrev pub IsFieldOf : List ℕ → TypeShape → PlainValue → List ℕ → Type 0
+IsFieldOf null type value field = (text : List ℕ) × IsText null type value text × (field ≡ field_text default_writer text)
 
--- such a text that calls for no quotes
+-- the same whatever text a null has: so the value is none
+abbrev pub IsSomeField : TypeShape → PlainValue → List ℕ → Type 0
+IsSomeField type value field = (null : List ℕ) → IsFieldOf null type value field
+
+-- a text that calls for no quotes
 abbrev pub IsPlain : (List ℕ → Type 0) → List ℕ → Type 0
 IsPlain P text = P text × (needs_quotes default_writer text ≡ false)
 

@@ -2,11 +2,13 @@
 
 ghost use Rattle.std.specs.Prelude.{◌≡◌, ◌<◌, IfOk, IfSome, OnOk, length};
 ghost use Rattle.arrow_data.specs.PlainValue.{value_at};
+ghost use Rattle.arrow_csv.specs.Layouts.{null_by};
 ghost use Rattle.arrow_csv.specs.Made.{AreFieldsOf};
 ghost use Rattle.arrow_csv.specs.Texts.{Appends, IsFieldOf};
 
+use crate::fields::push_null;
 use crate::records::push_field;
-use arrow_data::{Array, Dictionary, Slots};
+use arrow_data::{Array, Dictionary, SlotValue, Slots};
 use std::alloc::{AllocError, Global};
 use std::marker::Model;
 
@@ -22,7 +24,7 @@ pub(crate) struct EntryFields {
 }
 
 impl EntryFields {
-    /// The fields of the values; `None` where they are longer than is kept.
+    /// The fields of the values; `None` where they are longer than is kept, or a value is a null.
     fn of(alloc: Global, dictionary: &Dictionary) -> Result<Option<EntryFields>, AllocError>
         ensures { IfOk result (λ made. IfSome made (λ fields. AreFieldsOf dictionary.now fields)) }
     {
@@ -35,7 +37,10 @@ impl EntryFields {
             let (values, place) = dictionary.value(n);
             // Called for what it says of every array.
             values.len();
-            push_field(&mut bytes, values, place, values.slot(place))?;
+            match values.slot(place) {
+                SlotValue::Null => return Ok(None),
+                value => push_field(&mut bytes, values, place, value)?,
+            }
             if bytes.len() > MOST_BYTES {
                 return Ok(None);
             }
@@ -84,13 +89,17 @@ impl<'a> ColumnText<'a> {
         })
     }
 
-    /// Appends the field of slot `i`.
+    /// Appends the field of slot `i`; where it is a null, the field of this text.
     #[inline(always)]
-    pub(crate) fn push(&self, out: &mut Vec<u8>, i: usize) -> Result<(), AllocError>
+    pub(crate) fn push(
+        &self,
+        out: &mut Vec<u8>,
+        i: usize,
+        null: Option<&str>,
+    ) -> Result<(), AllocError>
         requires { i < length self.now.raw }
-        ensures { OnOk result (Appends
-            (IsFieldOf self.now.data_type (value_at self.now.resolved i))
-            out.old.items out.new.items) }
+        ensures { OnOk result (Appends (IsFieldOf (null_by null.entry) self.now.data_type
+            (value_at self.now.resolved i)) out.old.items out.new.items) }
     {
         match &self.entries {
             Some(fields) => match self.slots.entry(i) {
@@ -98,9 +107,12 @@ impl<'a> ColumnText<'a> {
                     let field = &fields.bytes[fields.places[n]..fields.places[n + 1]];
                     out.extend_from_slice(field)
                 }
-                None => Ok(()),
+                None => push_null(out, null),
             },
-            None => push_field(out, self.slots.array(), i, self.slots.slot(i)),
+            None => match self.slots.slot(i) {
+                SlotValue::Null => push_null(out, null),
+                value => push_field(out, self.slots.array(), i, value),
+            },
         }
     }
 }

@@ -13,19 +13,23 @@ use arrow_data::Decimal;
 use itoa::Buffer;
 use std::alloc::AllocError;
 
-/// Appends the text of the decimal of this scale whose whole number is a number of at most 128
-/// bits.
+/// Appends the text of a decimal: of a whole number of at most 128 bits that is to be divided by 10
+/// to the power of the scale.
+///
+/// It has the digits of the number with a point before the last ones, as many as the scale says
+/// (`-0.50`), and none where the scale is 0; where it is below 0, an exponent (`12e3`). It calls for
+/// no quotes in a record. If an allocation fails, the vector may have a beginning of the text.
 #[inline(never)]
-pub(crate) fn push_decimal(out: &mut Vec<u8>, scale: i8, number: i128) -> Result<(), AllocError>
+pub fn push_decimal(out: &mut Vec<u8>, scale: i8, number: i128) -> Result<(), AllocError>
     ensures { OnOk result (Appends (IsPlain (λ text. text ≡ decimal_text scale number))
         out.old.items out.new.items) }
 {
     push_short(out, scale, number < 0, number.unsigned_abs())
 }
 
-/// Appends the text of a decimal whose whole number is of 256 bits.
+/// Appends the text of a decimal whose whole number has 256 bits, as [`push_decimal`] does.
 #[inline(never)]
-pub(crate) fn push_wide_decimal(out: &mut Vec<u8>, decimal: Decimal) -> Result<(), AllocError>
+pub fn push_wide_decimal(out: &mut Vec<u8>, decimal: Decimal) -> Result<(), AllocError>
     ensures { OnOk result (Appends
         (IsPlain (λ text. text ≡ decimal_text decimal.scale (unscaled_of decimal)))
         out.old.items out.new.items) }

@@ -2,6 +2,7 @@
 
 ghost use Rattle.std.specs.Prelude.{◌≡◌, ◌≤◌, ◌++◌, OnOk, drop, take, length};
 ghost use Rattle.csv.specs.Writing.{default_writer, field_text, quoted};
+ghost use Rattle.arrow_csv.specs.Layouts.{null_by};
 
 use crate::chunks::{calls_for_quotes, quote_place};
 use std::alloc::AllocError;
@@ -34,6 +35,18 @@ pub(crate) fn push_field_text(out: &mut Vec<u8>, field: &[u8]) -> Result<(), All
         push_quoted(out, field)
     } else {
         out.extend_from_slice(field)
+    }
+}
+
+/// Appends the field of a null whose text is given: nothing, where none is.
+#[inline(always)]
+pub(crate) fn push_null(out: &mut Vec<u8>, null: Option<&str>) -> Result<(), AllocError>
+    ensures { OnOk result (out.new.items
+        ≡ out.old.items ++ field_text default_writer (null_by null.entry)) }
+{
+    match null {
+        None => Ok(()),
+        Some(text) => push_field_text(out, text.as_bytes()),
     }
 }
 

@@ -36,9 +36,13 @@ pub(crate) fn push_binary(
     }
 }
 
-/// Appends the text of an interval.
+/// Appends the text of an interval: all its numbers, also those that are 0, each with its unit
+/// (`14M`, `2d500ms`, `1M2d3ns`).
+///
+/// It calls for no quotes in a record. If an allocation fails, the vector may have a beginning of
+/// the text.
 #[inline(never)]
-fn push_interval(out: &mut Vec<u8>, interval: Interval) -> Result<(), AllocError>
+pub fn push_interval(out: &mut Vec<u8>, interval: Interval) -> Result<(), AllocError>
     ensures { OnOk result (Appends (IsPlain (λ text. text ≡ interval_text interval))
         out.old.items out.new.items) }
 {
@@ -60,9 +64,9 @@ fn push_interval(out: &mut Vec<u8>, interval: Interval) -> Result<(), AllocError
     }
 }
 
-/// Appends the text of so many months.
+/// Appends the text of so many months (`14M`), as [`push_interval`] does.
 #[inline(never)]
-pub(crate) fn push_months(out: &mut Vec<u8>, months: i128) -> Result<(), AllocError>
+pub fn push_months(out: &mut Vec<u8>, months: i128) -> Result<(), AllocError>
     ensures { OnOk result (Appends (IsPlain (λ text. text ≡ months_text months))
         out.old.items out.new.items) }
 {

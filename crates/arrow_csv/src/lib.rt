@@ -33,6 +33,7 @@
 //! | texts of a row, the record of a schema | `specs/Records.antt`: `AreColumnTexts`, `header_record` |
 //! | records of a batch, of a stream | `specs/Records.antt`: `AreBatchRows`, `IsStreamText` |
 //! | columns chosen by their names | `specs/Named.antt`: `chosen`, `chosen_shape`, `lacking` |
+//! | the text of a null, records with or without a number | `specs/Layouts.antt`: `Form`, `form_by` |
 //! | fields of a dictionary's values, made before the rows | `specs/Made.antt`: `AreFieldsOf` |
 //! | bytes that call for no quotes, seen by chunks | `specs/Chunks.antt`: `AreAllPlain`, `is_mark` |
 #![tactic(auto)]
@@ -43,10 +44,15 @@ mod decimals;
 mod fields;
 mod floats;
 mod intervals;
+mod layout;
 mod named;
 mod records;
 mod texts;
 mod wide;
 
+pub use decimals::{push_decimal, push_wide_decimal};
+pub use intervals::{push_interval, push_months};
+pub use layout::Layout;
 pub use named::lacking;
 pub use records::{BatchRows, header, header_of, rows};
+pub use texts::{push_bytes, push_number};

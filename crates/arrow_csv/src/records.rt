@@ -1,20 +1,26 @@
 //! The records of a schema and of the rows of batches.
 
-ghost use Rattle.std.specs.Prelude.{◌≡◌, ◌≤◌, ◌<◌, ◌-◌, ◌++◌, [], IfOk, IfSome, OnErr, OnOk, length, map};
+ghost use Rattle.std.specs.Prelude.{◌≡◌, ◌≤◌, ◌<◌, ◌-◌, ◌++◌, [], codes, IfOk, IfSome, OnErr, OnOk, length, map};
+ghost use Rattle.std.specs.Fmt.{decimal};
 ghost use Rattle.arrow_data.specs.PlainValue.{value_at};
 ghost use Rattle.arrow_data.specs.Same.{HaveSlot};
 ghost use Rattle.arrow_data.specs.Shown.{HoldsValue};
-ghost use Rattle.arrow_csv.specs.Texts.{Appends, IsFieldOf};
+ghost use Rattle.arrow_csv.specs.Texts.{Appends, IsSomeField};
 ghost use Rattle.csv.specs.Records.{fields_of, partial_of};
 ghost use Rattle.arrow_types.specs.Field.{none};
 ghost use Rattle.arrow_types.specs.View.{fields_view};
 ghost use Rattle.arrow_csv.specs.Named.{HaveSlots, choice_by, chosen, chosen_shape, fields_named, with_field};
-ghost use Rattle.arrow_csv.specs.Records.{AreBatchRows, AreRows, IsRowBehind, header_record, names};
+ghost use Rattle.arrow_data.specs.declared.array.SlotValue.TheVariants.{Null};
+ghost use Rattle.arrow_csv.specs.Layouts.{first_field, form_by, null_by, usual_form};
+ghost use Rattle.arrow_csv.specs.Records.{AreBatchRows, AreFieldsAfter, AreFieldsJoined, AreRows};
+ghost use Rattle.arrow_csv.specs.Records.{IsBareRow, IsHead, IsRowAfter, IsRowBehind, first_of};
+ghost use Rattle.arrow_csv.specs.Records.{header_record, names};
 
 use crate::column_text::ColumnText;
 use crate::fields::{push_field_text, quote_from};
 use crate::floats::push_int;
 use crate::intervals::push_binary;
+use crate::layout::Layout;
 use crate::named::{columns_named, place_of};
 use crate::texts::{push_items, push_parts};
 use arrow_data::{Array, Batch, SlotValue};
@@ -27,24 +33,20 @@ use std::ops::Range;
 
 /// The first record: the word `batch` and the names of the columns.
 pub fn header(alloc: Global, schema: &Schema) -> Result<Vec<u8>, AllocError>
-    ensures { IfOk result (λ text. text.items ≡ header_record schema.now.fields) }
+    ensures { IfOk result (λ text. text.items ≡ header_record usual_form schema.now.fields) }
 {
-    header_of(alloc, schema, None)
+    header_of(alloc, schema, Layout::usual())
 }
 
-/// The same with the columns of these names alone, in their order: of each name the first, and none
-/// of a name that no column has. `None` stands for all columns.
-pub fn header_of(
-    alloc: Global,
-    schema: &Schema,
-    choice: Option<&[&str]>,
-) -> Result<Vec<u8>, AllocError>
-    ensures { IfOk result (λ text. text.items
-        ≡ header_record (chosen_shape (choice_by choice.entry) schema.now).fields) }
+/// The first record of a layout: the word `batch`, if records have numbers, and the names of the
+/// columns that it has. A record of no field is written as one empty field: `""`.
+pub fn header_of(alloc: Global, schema: &Schema, layout: Layout<'_>) -> Result<Vec<u8>, AllocError>
+    ensures { IfOk result (λ text. text.items ≡ header_record (form_by layout.entry)
+        (chosen_shape (choice_by layout.entry.columns) schema.now).fields) }
 {
     let mut record = ByteRecord::new(alloc);
-    record.push_field(b"batch")?;
-    match choice {
+    push_word(&mut record, layout.numbers)?;
+    match layout.columns {
         None => push_names(&mut record, schema.fields())?,
         Some(names) => push_named(&mut record, schema.fields(), names)?,
     }
@@ -53,6 +55,20 @@ pub fn header_of(
         return Err(AllocError);
     };
     writer.into_inner().map_err(|_| AllocError)
+}
+
+/// Appends the word `batch`, if records have numbers.
+fn push_word(line: &mut ByteRecord, numbers: bool) -> Result<(), AllocError>
+    requires whole { partial_of line.old ≡ [] }
+    requires empty { fields_of line.old ≡ [] }
+    ensures word { OnOk result (fields_of line.new ≡ first_field numbers (codes "batch")) }
+    ensures whole { OnOk result (partial_of line.new ≡ []) }
+{
+    if numbers {
+        line.push_field(b"batch")
+    } else {
+        Ok(())
+    }
 }
 
 /// Appends the names of fields.
@@ -109,14 +125,14 @@ pub fn rows(
     requires order { rows.start ≤ rows.end }
     requires inside { rows.end ≤ batch.now.rows }
     ensures { IfOk result
-        (λ text. AreBatchRows number batch.now rows.start rows.end text.items) }
+        (λ text. AreBatchRows usual_form number batch.now rows.start rows.end text.items) }
 {
     let mut out = Vec::new(alloc);
     BatchRows::new(alloc, number, batch)?.push(&mut out, rows)?;
     Ok(out)
 }
 
-/// The rows of a batch that has a number, or of some of its columns, on their way into text.
+/// The rows of a batch that has a number, as a layout writes them, on their way into text.
 ///
 /// What is the same for all rows is looked up or made with it: where each column's values lie, and
 /// of a dictionary that has few values beside the rows the field of each value.
@@ -124,12 +140,13 @@ pub fn rows(
 pub struct BatchRows<'a> {
     number: u64,
     batch: &'a Batch,
-    choice: Option<&'a [&'a str]>,
+    layout: Layout<'a>,
     columns: Vec<ColumnText<'a>>,
 }
 
 impl<'a> Model for BatchRows<'a> {
     ghost use Rattle.std.specs.Prelude.{◌≡◌};
+    ghost use Rattle.arrow_csv.specs.Layouts.{form_by};
     ghost use Rattle.arrow_csv.specs.Named.{choice_by, chosen};
     ghost use Rattle.arrow_csv.specs.Records.{NumberedBatch, numbered_code};
 
@@ -137,51 +154,59 @@ impl<'a> Model for BatchRows<'a> {
 
     ghost coded = { numbered_code };
 
-    ghost view = { λ r.
-        record { number = r.number; batch = chosen (choice_by r.choice) r.batch.now } };
+    ghost view = { λ r. record {
+      form = form_by r.layout;
+      number = r.number;
+      batch = chosen (choice_by r.layout.columns) r.batch.now;
+    } };
 
     ghost invariant = { λ r.
-        r.columns.items ≡ (chosen (choice_by r.choice) r.batch.now).columns };
+        r.columns.items ≡ (chosen (choice_by r.layout.columns) r.batch.now).columns };
 }
 
 impl<'a> BatchRows<'a> {
     /// The rows of the batch that has this number.
     pub fn new(alloc: Global, number: u64, batch: &'a Batch) -> Result<BatchRows<'a>, AllocError>
-        ensures { IfOk result (λ rows. rows ≡ record { number = number; batch = batch.now }) }
+        ensures { IfOk result (λ rows. rows
+            ≡ record { form = usual_form; number = number; batch = batch.now }) }
     {
-        BatchRows::of(alloc, number, batch, None)
+        BatchRows::of(alloc, number, batch, Layout::usual())
     }
 
-    /// The same with the columns of these names alone, as [`header_of`] has them.
+    /// The same as a layout writes them, after the record of [`header_of`].
     pub fn of(
         alloc: Global,
         number: u64,
         batch: &'a Batch,
-        choice: Option<&'a [&'a str]>,
+        layout: Layout<'a>,
     ) -> Result<BatchRows<'a>, AllocError>
-        ensures { IfOk result (λ rows. rows
-            ≡ record { number = number; batch = chosen (choice_by choice.entry) batch.now }) }
+        ensures { IfOk result (λ rows. rows ≡ record {
+          form = form_by layout.entry;
+          number = number;
+          batch = chosen (choice_by layout.entry.columns) batch.now;
+        }) }
     {
-        let columns = match choice {
+        let columns = match layout.columns {
             None => all_columns(alloc, batch)?,
             Some(names) => columns_named(alloc, batch, names)?,
         };
         Ok(BatchRows {
             number,
             batch,
-            choice,
+            layout,
             columns,
         })
     }
 
-    /// Appends the records of these rows. Where a growth is refused the text is as it was.
+    /// Appends the records of these rows. If an allocation fails, the text is as it was.
     ///
-    /// Behind no text they are made where they are to stand; else beside it, and copied once.
+    /// A record of no field, or of one that is empty, is written as `""`. After no text the records
+    /// are made in place; else apart from it, and copied once.
     pub fn push(&self, out: &mut Vec<u8>, rows: Range<usize>) -> Result<(), AllocError>
         requires order { rows.start ≤ rows.end }
         requires inside { rows.end ≤ self.now.batch.rows }
         ensures ok { OnOk result (Appends
-            (AreBatchRows self.now.number self.now.batch rows.start rows.end)
+            (AreBatchRows self.now.form self.now.number self.now.batch rows.start rows.end)
             out.old.items out.new.items) }
         ensures err { OnErr result (out.new.items ≡ out.old.items) }
     {
@@ -198,13 +223,18 @@ impl<'a> BatchRows<'a> {
         requires order { rows.start ≤ rows.end }
         requires inside { rows.end ≤ self.now.batch.rows }
         requires empty { out.old.items ≡ [] }
-        ensures ok { OnOk result
-            (AreBatchRows self.now.number self.now.batch rows.start rows.end out.new.items) }
+        ensures ok { OnOk result (AreBatchRows self.now.form self.now.number self.now.batch
+            rows.start rows.end out.new.items) }
         ensures err { OnErr result (out.new.items ≡ []) }
     {
         // Called for what it says of every batch.
         self.batch.schema();
-        let Ok(()) = push_records(out, self.number, &self.columns, rows) else {
+        let columns = Columns {
+            texts: &self.columns,
+            null: self.layout.null,
+        };
+        let number = shown(self.layout.numbers, self.number);
+        let Ok(()) = push_records(out, number, columns, rows) else {
             out.clear();
             return Err(AllocError);
         };
@@ -223,50 +253,142 @@ fn all_columns<'a>(alloc: Global, batch: &'a Batch) -> Result<Vec<ColumnText<'a>
     Ok(columns)
 }
 
-/// Appends the records of these rows of these columns of the batch that has this number.
+/// The number that records begin with, if they have one.
+fn shown(numbers: bool, number: u64) -> Option<u64>
+    ensures { first_of result ≡ first_field numbers (decimal number) }
+{
+    if numbers { Some(number) } else { None }
+}
+
+/// The columns of records, and the text of a null among their values.
+#[derive(Clone, Copy)]
+struct Columns<'a> {
+    texts: &'a [ColumnText<'a>],
+    null: Option<&'a str>,
+}
+
+/// Appends the records of these rows of these columns, each after the number of their batch, if it
+/// is shown.
 fn push_records(
     out: &mut Vec<u8>,
-    number: u64,
-    columns: &[ColumnText],
+    number: Option<u64>,
+    columns: Columns<'_>,
     rows: Range<usize>,
 ) -> Result<(), AllocError>
     requires order { rows.start ≤ rows.end }
-    requires inside { HaveSlots rows.end columns.now }
-    ensures { OnOk result (Appends
-        (AreRows number columns.now rows.start (rows.end - rows.start))
+    requires inside { HaveSlots rows.end columns.texts.now }
+    ensures { OnOk result (Appends (AreRows (first_of number) (null_by columns.entry.null)
+        columns.entry.texts.now rows.start (rows.end - rows.start))
         out.old.items out.new.items) }
 {
     let mut buffer = Buffer::new();
-    let head = buffer.format(number);
+    let head = head_of(&mut buffer, number);
     for i in rows.start..rows.end {
-        push_row(out, head.as_bytes(), columns, i)?;
+        push_row(out, head, columns, i)?;
     }
     Ok(())
 }
 
-/// Appends a record: its first field, which has this text, and the values of a row.
-#[tactic(auto, unfolding(csv::specs::Writing::fields_text))]
+/// The text of the number that is shown, if one is.
+fn head_of(buffer: &mut Buffer, number: Option<u64>) -> Option<&[u8]>
+    ensures { IsHead number result }
+{
+    match number {
+        Some(number) => Some(buffer.format(number).as_bytes()),
+        None => None,
+    }
+}
+
+/// Appends a record: its first field, which has this text, if it has one, and the values of a row.
+#[inline(always)]
 fn push_row(
     out: &mut Vec<u8>,
-    head: &[u8],
-    columns: &[ColumnText],
+    head: Option<&[u8]>,
+    columns: Columns<'_>,
     i: usize,
 ) -> Result<(), AllocError>
-    requires { HaveSlot i columns.now }
-    ensures { OnOk result (Appends (IsRowBehind head.now columns.now i)
+    requires { HaveSlot i columns.texts.now }
+    ensures { OnOk result (Appends
+        (IsRowAfter head.entry (null_by columns.entry.null) columns.entry.texts.now i)
+        out.old.items out.new.items) }
+{
+    match head {
+        Some(head) => push_numbered(out, head, columns, i),
+        None => push_bare(out, columns, i),
+    }
+}
+
+/// Appends a record whose first field has this text.
+fn push_numbered(
+    out: &mut Vec<u8>,
+    head: &[u8],
+    columns: Columns<'_>,
+    i: usize,
+) -> Result<(), AllocError>
+    requires { HaveSlot i columns.texts.now }
+    ensures { OnOk result (Appends
+        (IsRowBehind head.now (null_by columns.entry.null) columns.entry.texts.now i)
         out.old.items out.new.items) }
 {
     out.extend_from_slice(head)?;
-    for column in columns {
-        out.push(b',')?;
-        column.push(out, i)?;
+    push_fields(out, columns, i)?;
+    out.push(b'\n')?;
+    Ok(())
+}
+
+/// Appends a record of no other fields than those of the columns: where it would have no byte, two
+/// quotes.
+fn push_bare(out: &mut Vec<u8>, columns: Columns<'_>, i: usize) -> Result<(), AllocError>
+    requires { HaveSlot i columns.texts.now }
+    ensures { OnOk result (Appends
+        (IsBareRow (null_by columns.entry.null) columns.entry.texts.now i)
+        out.old.items out.new.items) }
+{
+    let place = out.len();
+    push_joined(out, columns, i)?;
+    if out.len() == place {
+        return out.extend_from_slice(b"\"\"\n");
     }
     out.push(b'\n')?;
     Ok(())
 }
 
-/// Appends the text of the value in slot `i`, which is at hand, between quotes where it calls for
-/// them, as no truth value does, no number and no byte string.
+/// Appends the fields of a row with commas between them.
+fn push_joined(out: &mut Vec<u8>, columns: Columns<'_>, i: usize) -> Result<(), AllocError>
+    requires { HaveSlot i columns.texts.now }
+    ensures { OnOk result (Appends
+        (AreFieldsJoined (null_by columns.entry.null) columns.entry.texts.now i)
+        out.old.items out.new.items) }
+{
+    let Some((first, others)) = columns.texts.split_first() else {
+        return Ok(());
+    };
+    first.push(out, i, columns.null)?;
+    let rest = Columns {
+        texts: others,
+        null: columns.null,
+    };
+    push_fields(out, rest, i)
+}
+
+/// Appends the fields of a row, each after a comma.
+#[inline(always)]
+#[tactic(auto, unfolding(csv::specs::Writing::fields_text))]
+fn push_fields(out: &mut Vec<u8>, columns: Columns<'_>, i: usize) -> Result<(), AllocError>
+    requires { HaveSlot i columns.texts.now }
+    ensures { OnOk result (Appends
+        (AreFieldsAfter (null_by columns.entry.null) columns.entry.texts.now i)
+        out.old.items out.new.items) }
+{
+    for column in columns.texts {
+        out.push(b',')?;
+        column.push(out, i, columns.null)?;
+    }
+    Ok(())
+}
+
+/// Appends the text of the value in slot `i`, which is at hand and is no null, between quotes where
+/// it calls for them, as no truth value does, no number and no byte string.
 #[inline(always)]
 pub(crate) fn push_field(
     out: &mut Vec<u8>,
@@ -276,8 +398,9 @@ pub(crate) fn push_field(
 ) -> Result<(), AllocError>
     requires inside { i < length column.now.raw }
     requires holds { HoldsValue column.now i value }
+    requires some { value ≡ Null → ⊥ }
     ensures { OnOk result (Appends
-        (IsFieldOf column.now.data_type (value_at column.now.resolved i))
+        (IsSomeField column.now.data_type (value_at column.now.resolved i))
         out.old.items out.new.items) }
 {
     match value {

@@ -48,11 +48,13 @@ fn push_value(
     }
 }
 
-/// Appends a number. One of a single digit is a single byte; those of 64 bits, which all but some
-/// unsigned ones are, are divided as such.
+/// Appends the decimal digits of a whole number, after a sign if it is below 0.
+///
+/// They call for no quotes in a record. If an allocation fails, the vector may have a beginning of
+/// them. A single digit is appended as a byte, and a number of 64 bits is divided as one.
 #[inline(always)]
 #[tactic(auto, using(crate::proofs::Digits::number_plain))]
-pub(crate) fn push_number(out: &mut Vec<u8>, number: i128) -> Result<(), AllocError>
+pub fn push_number(out: &mut Vec<u8>, number: i128) -> Result<(), AllocError>
     ensures text { OnOk result (out.new.items ≡ out.old.items ++ signed_decimal number) }
     ensures plain { needs_quotes default_writer (signed_decimal number) ≡ false }
 {
@@ -75,8 +77,11 @@ fn push_digits<I: Integer>(out: &mut Vec<u8>, number: I) -> Result<(), AllocErro
     out.extend_from_slice(buffer.format(number).as_bytes())
 }
 
-/// Appends the hexadecimal digits of bytes.
-pub(crate) fn push_bytes(out: &mut Vec<u8>, bytes: &[u8]) -> Result<(), AllocError>
+/// Appends the hexadecimal digits of bytes, two for each, in lower case.
+///
+/// They call for no quotes in a record. If an allocation fails, the vector may have more bytes than
+/// before.
+pub fn push_bytes(out: &mut Vec<u8>, bytes: &[u8]) -> Result<(), AllocError>
     ensures text { OnOk result (out.new.items ≡ out.old.items ++ encode_lower bytes.now) }
     ensures plain { needs_quotes default_writer (encode_lower bytes.now) ≡ false }
 {

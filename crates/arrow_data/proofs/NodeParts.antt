@@ -27,7 +27,6 @@ use Rattle.arrow_data.specs.declared.form.Form.{Form}
 use Rattle.arrow_data.specs.declared.form.Form.TheVariants as forms
 use Rattle.arrow_data.specs.declared.form.ListForm.{ListForm}
 use Rattle.arrow_data.specs.declared.form.ListForm.TheVariants.{Offsets, Fixed}
-use Rattle.arrow_data.specs.declared.form.OffsetWidth.{OffsetWidth}
 
 -- the bytes of a buffer that was read
 pub buffer_read : (body : List ℕ) (bs : List ByteRange) (k : ℕ) (d : ByteRange) → k < length bs → buffer (map (bytes_of body) bs) k ≡ bytes_of body (slice_index_or bs k d)

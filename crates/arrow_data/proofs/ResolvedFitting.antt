@@ -1,5 +1,5 @@
 -- Why the resolved values of every array fit its type without any encoding.
-use Rattle.std.proofs.Common.{◌≡◌, ◌||◌, ◌+◌, ◌-◌, ◌*◌, ℕ, ℤ, pos, negsuc, false, List, [], ◌∷◌, length, map, drop, Option, None, Some, is_some, refl, sym, ap, ◌∙◌, subst}
+use Rattle.std.proofs.Common.{◌≡◌, ◌||◌, ◌+◌, ◌-◌, ◌*◌, ℕ, ℤ, pos, negsuc, false, List, [], ◌∷◌, map, drop, Option, None, Some, is_some, refl, sym, ap, ◌∙◌, subst}
 use Rattle.std.proofs.lemmas.Bool.{false≢true, or_parts}
 use Rattle.std.specs.List.{AllByRecursion}
 use Rattle.std.specs.Prelude.{slice_range}

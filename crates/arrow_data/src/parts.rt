@@ -3,6 +3,7 @@
 ghost use Rattle.std.specs.Prelude.{◌≡◌, ◌≤◌, IfOk, List, None, Some, length, map, false, [], ◌∷◌};
 ghost use Rattle.std.specs.Prelude.{slice_index_or};
 ghost use Rattle.std.specs.List.{AllByRecursion};
+ghost use Rattle.arrow_types.specs.Field.{none};
 ghost use Rattle.arrow_types.specs.Schema.{has_encoding};
 ghost use Rattle.arrow_types.specs.View.{type_view};
 ghost use Rattle.arrow_data.specs.Column.{AreOf, Column, IsColumn, IsValueList, counts_of};
@@ -17,7 +18,7 @@ use crate::array::{Array, Ranges};
 use crate::buffers::{Bools, Fixed, Ints, Strings};
 use crate::byte_range::{ByteRange, hold_bytes};
 use crate::dictionary::Dictionary;
-use crate::form::{Form, ListForm, NumberForm, OffsetWidth, form_of};
+use crate::form::{Form, ListForm, NumberForm, OffsetWidth, form_of, has_own_fields};
 use crate::shared_body::SharedBody;
 use crate::shared_type::SharedType;
 use arrow_types::{DataType, Encoding, Field};
@@ -125,13 +126,18 @@ impl Array {
         }
     }
 
-    /// As `from_shared_parts`, of a type that no fields stand below, and whose slots hold the
-    /// values themselves: it has no children and no dictionary.
+    /// As `from_shared_parts`, of a type of this form that has no fields below it, and whose slots
+    /// hold the values themselves: the node has no children and no dictionary.
     #[inline(always)]
-    pub fn from_leaf_parts(shared: &SharedType, node: NodeBuffers<'_>) -> Result<Array, AllocError>
+    pub fn from_leaf_parts(
+        shared: &SharedType,
+        form: Form,
+        node: NodeBuffers<'_>,
+    ) -> Result<Array, AllocError>
         requires few { node.len ≤ 2147483647 }
         requires own { shared.now.encoding ≡ None }
-        requires leaf { IsLeaf (form_of shared.now.data_type.tag) }
+        requires form { form ≡ form_of shared.now.data_type.tag }
+        requires leaf { IsLeaf form }
         requires count { buffer_count shared.now.data_type.tag None ≤ length node.ranges.now }
         requires inside { AllByRecursion (IsInside node.body.now) node.ranges.now }
         requires layout { IsLaid shared.now.data_type.tag None
@@ -144,8 +150,8 @@ impl Array {
         let shared = shared.data_type();
         let data_type: &DataType = shared;
         // Called for what it says of every type.
-        form_of(data_type);
-        let ranges = leaf_ranges(data_type, node);
+        has_own_fields(data_type);
+        let ranges = leaf_ranges(data_type, form, node);
         of_ranges(shared, None, node, ranges)
     }
 }
@@ -166,7 +172,7 @@ fn of_ranges(
 {
     // Called for what they say of every slice of bytes and of every type.
     hold_bytes(node.body.as_slice());
-    form_of(data_type);
+    has_own_fields(data_type);
     Ok(Array {
         data_type: data_type.clone()?,
         encoding,
@@ -302,11 +308,12 @@ fn value_ranges(
         []) }
 {
     opened(&children);
-    match form_of(data_type) {
-        Form::Lists(form) => Ok(Ranges::Lists {
-            form,
+    let form = form_of(data_type);
+    match form {
+        Form::Lists(list) => Ok(Ranges::Lists {
+            form: list,
             validity: node.ranges[0],
-            offsets: list_range(form, node.ranges),
+            offsets: list_range(list, node.ranges),
             child: Box::new(alloc, only(children))?,
         }),
         Form::Structs => Ok(Ranges::Structs {
@@ -318,15 +325,17 @@ fn value_ranges(
         | Form::Numbers(_)
         | Form::Bytes(_)
         | Form::Texts(_)
-        | Form::FixedBytes(_) => Ok(leaf_ranges(data_type, node)),
+        | Form::FixedBytes(_) => Ok(leaf_ranges(data_type, form, node)),
     }
 }
 
-// The ranges of a node of values that has no children. Nothing grows, and no list or struct is
-// made, so that where it is inlined the array is written where it stays.
+// The ranges of a node of values of this form that has no children. Nothing grows, and no list or
+// struct is made, so that where it is inlined the array is written where it stays.
 #[inline(always)]
-fn leaf_ranges(data_type: &DataType, node: NodeBuffers<'_>) -> Ranges
-    requires leaf { IsLeaf (form_of (type_view data_type.now).tag) }
+fn leaf_ranges(data_type: &DataType, form: Form, node: NodeBuffers<'_>) -> Ranges
+    requires form { form ≡ form_of (type_view data_type.now).tag }
+    requires leaf { IsLeaf form }
+    requires bare { (type_view data_type.now).children ≡ none }
     requires count { buffer_count (type_view data_type.now).tag None ≤ length node.ranges.now }
     requires inside { AllByRecursion (IsInside node.body.now) node.ranges.now }
     requires layout { IsLaid (type_view data_type.now).tag None
@@ -340,7 +349,7 @@ fn leaf_ranges(data_type: &DataType, node: NodeBuffers<'_>) -> Ranges
         ≡ node_column (type_view data_type.now) None
         node.entry.len (map (bytes_of node.entry.body.now) node.entry.ranges.now) children [] }
 {
-    match form_of(data_type) {
+    match form {
         Form::Nulls => Ranges::Nulls,
         Form::Bits => Ranges::Bools(bools(node.ranges)),
         Form::Numbers(form) => Ranges::Ints(numbers(form, node.ranges)),

@@ -6,7 +6,7 @@
 //! |---|---|
 //! | `reading` | all that `StreamReader::read` and `end` answer: the whole in one piece, byte by byte, and cut in two at each place |
 //! | `receiving` | the batches, the dictionaries and the ending that `receive` gives, of the same pieces |
-//! | `reports` | what `schema_text`, `check`, `check_quietly`, `show` and `show_first` write, with the status and the line of their fault |
+//! | `reports` | what `schema_text`, `check`, `check_quietly`, `show` and `show_selection` write, with the status and the line of their fault |
 //! | `copying` | what a reader answers to a copy, and that a copy of the copy is the copy |
 //! | `drilling` | what `drill` tells of a connection that breaks, and of three |
 //! | `breaking` | all these calls where the input ends early or fails, or the output fails |

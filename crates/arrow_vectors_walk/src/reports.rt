@@ -5,7 +5,10 @@ use crate::given::{Given, limits_of};
 use crate::records::{push_header, push_record};
 use crate::told::{Form, Message, Told, column_in};
 use arrow_sink::Counted;
-use arrowflow_report::{ToolFault, check, check_quietly, schema_text, show, show_first};
+use arrowflow_report::{
+    ColumnsFault, Layout, Selection, ToolFault, check, check_quietly, schema_text, show,
+    show_selection,
+};
 use std::alloc::{AllocError, Global};
 
 /// One of the calls.
@@ -68,9 +71,26 @@ fn answer_of(alloc: Global, call: Call, given: Given<'_>) -> Result<String, Allo
         Call::Quiet => return written(alloc, &[], &check_quietly(alloc, &mut input, &limits)),
         Call::Check => check(alloc, &mut input, output, &limits),
         Call::Show => show(alloc, &mut input, output, &limits),
-        Call::First(rows) => show_first(alloc, &mut input, output, rows, &limits),
+        Call::First(rows) => return first_answer(alloc, given, rows),
     };
     written(alloc, &output.into_inner(), &answer)
+}
+
+/// What is written of the first rows of an input, so many.
+fn first_answer(alloc: Global, given: Given<'_>, rows: u64) -> Result<String, AllocError> {
+    let selection = Selection {
+        layout: Layout::usual(),
+        batch: None,
+        skip: 0,
+        rows: Some(rows),
+    };
+    let (limits, output) = (limits_of(given.types), Counted::new(Vec::new(alloc)));
+    let (output, answer) = show_selection(alloc, &mut given.input(), output, &selection, &limits);
+    match answer {
+        Ok(()) => written(alloc, &output.into_inner(), &Ok(())),
+        Err(ColumnsFault::Tool(fault)) => written(alloc, &output.into_inner(), &Err(fault)),
+        Err(ColumnsFault::Lacks(_)) => String::from_str(alloc, "a column is lacking"),
+    }
 }
 
 fn schema_answer(alloc: Global, given: Given<'_>) -> Result<String, AllocError> {

@@ -1,2 +1,3 @@
+pub mod Sized
 mod Asked
 mod Named

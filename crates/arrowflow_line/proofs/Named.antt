@@ -10,7 +10,7 @@ use Rattle.clap.specs.Simple.{App, Shape, argument_words, built, entered, names_
 use Rattle.clap.specs.Walk.{Held, Names, Outcome, Row, Rule, Step, Text, Waiting, Walk, after_flag, after_step, arg_by_index, arg_by_long, bundle, long_met, long_or_other, nothing_held, plain_word, short_or_plain, stop_after, subcommand_met, subcommand_or_other, to_positional, walk_from, walked, walked_from, word_met}
 use Rattle.clap.specs.Walk.{done, waits, plain, refused, idle, option, positional, next, trailing, subcommand, value}
 use Rattle.clap.specs.declared.error.kind.ErrorKind.TheVariants as kind
-use Rattle.arrowflow_line.specs.CommandLine.{Choices, IsCommand, check_app, copy_app, drill_app, program_app, reading_app, schema_app, show_app}
+use Rattle.arrowflow_line.specs.CommandLine.{Choices, IsCommand, check_app, copy_app, drill_app, explain_app, program_app, reading_app, schema_app, show_app}
 
 -- whether a word is a command's name
 abbrev is_name : Step → Bool
@@ -116,17 +116,18 @@ walked_on s names w (word ∷ rest) helps other sound =
     let both = both_sound (turn_fault s names w word) (walk_fault s names (walked s.rules names w word) rest) sound in
     walked_on s names (walked s.rules names w word) rest helps (turned s names w word helps other both.0) both.1
 
--- which of six commands is found, where the last is not
-one_of_five : (a b c d e f : Bool) (s t u v w x : Shape) (words : List Text) (name : Text) (rows : List Row) → f ≡ false
-    → option_map (λ x. rows_at x words) (if a then Some s else (if b then Some t else (if c then Some u else (if d then Some v else (if e then Some w else (if f then Some x else None)))))) ≡ Some (name, rows)
-    → (name ≡ s.name) ⊎ ((name ≡ t.name) ⊎ ((name ≡ u.name) ⊎ ((name ≡ v.name) ⊎ (name ≡ w.name))))
-one_of_five true b c d e f s t u v w x words name rows last h = inl (let same : rows_at s words ≡ (name, rows) = cc in sym (ap (λ p. p.0) same))
-one_of_five false true c d e f s t u v w x words name rows last h = inr (inl (let same : rows_at t words ≡ (name, rows) = cc in sym (ap (λ p. p.0) same)))
-one_of_five false false true d e f s t u v w x words name rows last h = inr (inr (inl (let same : rows_at u words ≡ (name, rows) = cc in sym (ap (λ p. p.0) same))))
-one_of_five false false false true e f s t u v w x words name rows last h = inr (inr (inr (inl (let same : rows_at v words ≡ (name, rows) = cc in sym (ap (λ p. p.0) same)))))
-one_of_five false false false false true f s t u v w x words name rows last h = inr (inr (inr (inr (let same : rows_at w words ≡ (name, rows) = cc in sym (ap (λ p. p.0) same)))))
-one_of_five false false false false false true s t u v w x words name rows last h = absurd (true≢false last)
-one_of_five false false false false false false s t u v w x words name rows last h = absurd (cc)
+-- which of seven commands is found, where the last is not
+one_of_six : (a b c d e f g : Bool) (s t u v w x y : Shape) (words : List Text) (name : Text) (rows : List Row) → g ≡ false
+    → option_map (λ x. rows_at x words) (if a then Some s else (if b then Some t else (if c then Some u else (if d then Some v else (if e then Some w else (if f then Some x else (if g then Some y else None))))))) ≡ Some (name, rows)
+    → (name ≡ s.name) ⊎ ((name ≡ t.name) ⊎ ((name ≡ u.name) ⊎ ((name ≡ v.name) ⊎ ((name ≡ w.name) ⊎ (name ≡ x.name)))))
+one_of_six true b c d e f g s t u v w x y words name rows last h = inl (let same : rows_at s words ≡ (name, rows) = cc in sym (ap (λ p. p.0) same))
+one_of_six false true c d e f g s t u v w x y words name rows last h = inr (inl (let same : rows_at t words ≡ (name, rows) = cc in sym (ap (λ p. p.0) same)))
+one_of_six false false true d e f g s t u v w x y words name rows last h = inr (inr (inl (let same : rows_at u words ≡ (name, rows) = cc in sym (ap (λ p. p.0) same))))
+one_of_six false false false true e f g s t u v w x y words name rows last h = inr (inr (inr (inl (let same : rows_at v words ≡ (name, rows) = cc in sym (ap (λ p. p.0) same)))))
+one_of_six false false false false true f g s t u v w x y words name rows last h = inr (inr (inr (inr (inl (let same : rows_at w words ≡ (name, rows) = cc in sym (ap (λ p. p.0) same))))))
+one_of_six false false false false false true g s t u v w x y words name rows last h = inr (inr (inr (inr (inr (let same : rows_at x words ≡ (name, rows) = cc in sym (ap (λ p. p.0) same))))))
+one_of_six false false false false false false true s t u v w x y words name rows last h = absurd (true≢false last)
+one_of_six false false false false false false false s t u v w x y words name rows last h = absurd (cc)
 
 other_than_help : (name : Text) → bytes_eq name (codes "help") ≡ false → bytes_eq (codes "help") name ≡ false
 other_than_help name h = apart (bytes_eq (codes "help") name) refl where
@@ -136,15 +137,15 @@ other_than_help name h = apart (bytes_eq (codes "help") name) refl where
       let same : name ≡ codes "help" = sym ((bytes_eq-Decides (codes "help") name).0 e) in
       absurd (true≢false (sym (ap (λ n. bytes_eq n (codes "help")) same) ∙ h))
 
-module _ (s c r u a t v b z : Choices) where
+module _ (s c r e u a t v b z : Choices) where
   -- the program's command line
   abbrev pub line : App
-  line = program_app (reading_app (schema_app s) (check_app c) (show_app r)) (copy_app u a t) (drill_app v b z)
+  line = program_app (reading_app (schema_app s) (check_app c) (show_app r) (explain_app e)) (copy_app u a t) (drill_app v b z)
 
   entered_so : (stop : Option (Text × List Text)) (name : Text) (rows : List Row) → NotHelp stop → entered (built line) stop ≡ Some (name, rows) → IsCommand name
   entered_so None name rows other h = absurd (cc)
   entered_so (Some p) name rows other h =
-      one_of_five (bytes_eq (codes "schema") p.0 || false) (bytes_eq (codes "check") p.0 || false) (bytes_eq (codes "show") p.0 || false) (bytes_eq (codes "copy") p.0 || false) (bytes_eq (codes "drill") p.0 || false) (bytes_eq (codes "help") p.0 || false) _ _ _ _ _ _ p.1 name rows
+      one_of_six (bytes_eq (codes "schema") p.0 || false) (bytes_eq (codes "check") p.0 || false) (bytes_eq (codes "show") p.0 || false) (bytes_eq (codes "explain") p.0 || false) (bytes_eq (codes "copy") p.0 || false) (bytes_eq (codes "drill") p.0 || false) (bytes_eq (codes "help") p.0 || false) _ _ _ _ _ _ _ p.1 name rows
       (ap (λ b. b || false) (other_than_help p.0 other)) h
 
   -- The command that is found in words without a fault is one of the program's.

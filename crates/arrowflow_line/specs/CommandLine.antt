@@ -1,5 +1,5 @@
 -- What the words of a command line ask for, in the terms of clap: what it reads of a command, and what it finds in words.
-use Rattle.std.specs.Prelude.{◌≡◌, ◌≤◌, ◌-◌, ◌^◌, ◌⊎◌, ℕ, List, [], ◌∷◌, Bool, true, false, codes, ◌==◌, map, option_map, if◌then◌else◌, Option, None, Some, Result, Ok, Err, ⊤, string_bytes, unwrap_or}
+use Rattle.std.specs.Prelude.{◌≡◌, ◌≤◌, ◌-◌, ◌^◌, ◌⊎◌, ℕ, List, [], ◌∷◌, Bool, true, false, codes, ◌==◌, map, option_map, if◌then◌else◌, Option, None, Some, is_some, is_none, Result, Ok, Err, ⊤, string_bytes, unwrap_or}
 use Rattle.std.specs.List.{slice_split}
 use Rattle.std.specs.Str.{bytes_eq}
 use Rattle.std.specs.Str.Parse.{digits_value, without_leading_plus}
@@ -22,11 +22,19 @@ use Rattle.clap.specs.declared.builder.value_parser.ValueParser.TheVariants as p
 use Rattle.clap.specs.Simple.{on_top}
 use Rattle.clap.specs.Walk.{Rule}
 use Rattle.clap.specs.Words.{App, HasKind, Row, Text, all_of, fault_of, first_of, new_app, new_rule, one_of, subcommand_of, with_rule, with_subcommand}
+use Rattle.arrowflow_line.specs.Sizes.{IsSizeIn, LacksSize}
 use Rattle.arrowflow_line.specs.declared.fault.ArgFault.{ArgFault}
-use Rattle.arrowflow_line.specs.declared.fault.ArgFault.TheVariants.{Line, Memory}
+use Rattle.arrowflow_line.specs.declared.fault.ArgFault.TheVariants.{Line, Misused, Memory}
+use Rattle.arrowflow_line.specs.declared.fault.Misuse.{Misuse}
+use Rattle.arrowflow_line.specs.declared.fault.Misuse.TheVariants.{NoOutput, NoSize, TwoOutputs}
+use Rattle.arrowflow_line.specs.declared.fault.SizeOption.{SizeOption}
+use Rattle.arrowflow_line.specs.declared.fault.SizeOption.TheVariants.{Bytes, LimitBody, LimitMetadata, Piece}
 use Rattle.arrowflow_line.specs.declared.plans.Plan.{Plan}
+use Rattle.arrowflow_line.specs.declared.plans.CopyOptions.{CopyOptions}
+use Rattle.arrowflow_line.specs.declared.plans.Files.{Files}
+use Rattle.arrowflow_line.specs.declared.plans.ShowOptions.{ShowOptions}
 use Rattle.arrowflow_line.specs.declared.plans.Task.{Task}
-use Rattle.arrowflow_line.specs.declared.plans.Task.TheVariants.{Schema, Check, Show, Copy, Drill}
+use Rattle.arrowflow_line.specs.declared.plans.Task.TheVariants.{Schema, Check, Show, Explain, Copy, Drill}
 
 -- no argument of the command is one of its subcommands too
 abbrev pub HasNoGlobals : Command → Type 0
@@ -45,6 +53,18 @@ needed id = record (new_rule id) { required = true }
 -- one name or more
 abbrev pub needed_some : Text → Rule
 needed_some id = record (needed id) { range = Some (record { start_inclusive = 1; end_inclusive = usize_max }) }
+
+-- a name that may be left out
+abbrev pub maybe : Text → Rule
+maybe id = new_rule id
+
+-- names, any number of them
+abbrev pub maybe_some : Text → Rule
+maybe_some id = record (maybe id) { range = Some (record { start_inclusive = 1; end_inclusive = usize_max }) }
+
+-- an option with a letter for its name
+abbrev pub lettered : ℕ → Rule → Rule
+lettered letter rule = record rule { short = Some letter }
 
 -- an option of this name
 abbrev pub named : Text → Rule
@@ -72,10 +92,14 @@ number name = record (named name) { parser = Some (parsers.Unsigned 0 (2 ^ 64 - 
 abbrev pub limit : Text → ℕ → Text → Rule
 limit name ceiling default = record (option name (parsers.Unsigned 0 ceiling) default) { value_names = 1 }
 
+-- an option of this name with a size, and the text that counts if it is not given; help has one word for the size
+abbrev pub size : Text → Text → Rule
+size name default = record (option name parsers.String default) { value_names = 1 }
+
 -- a command with the limits that it keeps to
 abbrev pub with_limits : App → App
 with_limits app =
-    with_rule (with_rule (with_rule app (limit (codes "limit-metadata") (2 ^ 30) (codes "67108864"))) (limit (codes "limit-body") (2 ^ 40) (codes "68719476736"))) (limit (codes "limit-rows") 2147483647 (codes "2147483647"))
+    with_rule (with_rule (with_rule app (size (codes "limit-metadata") (codes "67108864"))) (size (codes "limit-body") (codes "68719476736"))) (limit (codes "limit-rows") 2147483647 (codes "2147483647"))
 
 -- words among which a value has to be
 abbrev pub Choices : Type 0
@@ -94,25 +118,53 @@ with_options app updates aligns =
 abbrev pub with_types : App → Choices → App
 with_types app types = with_rule app (option (codes "types") (parsers.Names types) (codes "core"))
 
--- a command of this name that takes one file
+-- a command of this name that takes one file, or none
 abbrev pub file_app : Text → App
-file_app name = with_rule (new_app name) (needed (codes "FILE"))
+file_app name = with_rule (new_app name) (maybe (codes "FILE"))
 
--- the command that prints a schema
+-- a command of this name that takes any number of files, and may name each in its lines, or print JSON
+abbrev pub files_app : Text → App
+files_app name = with_rule (with_rule (with_rule (new_app name) (maybe_some (codes "FILE"))) (lettered 72 (flag (codes "with-filename")))) (flag (codes "json"))
+
+-- the command that prints schemas
 abbrev pub schema_app : Choices → App
-schema_app types = with_types (with_limits (file_app (codes "schema"))) types
+schema_app types = with_types (with_limits (files_app (codes "schema"))) types
 
 -- the command that checks
 abbrev pub check_app : Choices → App
-check_app types = with_types (with_limits (with_rule (file_app (codes "check")) (flag (codes "quiet")))) types
+check_app types = with_types (with_limits (with_rule (files_app (codes "check")) (lettered 113 (flag (codes "quiet"))))) types
+
+-- a command with the options of which columns are shown, and of which batch
+abbrev pub with_choice : App → App
+with_choice app = with_rule (with_rule app (lettered 99 (text (codes "columns")))) (number (codes "batch"))
+
+-- a command with the options of which rows are shown
+abbrev pub with_window : App → App
+with_window app = with_rule (with_rule app (number (codes "skip"))) (lettered 110 (number (codes "rows")))
+
+-- a command with the options of how rows are written
+abbrev pub with_layout : App → App
+with_layout app = with_rule (with_rule (with_rule app (text (codes "null"))) (flag (codes "no-batch"))) (flag (codes "json"))
 
 -- the command that shows rows
 abbrev pub show_app : Choices → App
-show_app types = with_types (with_limits (with_rule (with_rule (file_app (codes "show")) (text (codes "columns"))) (number (codes "rows")))) types
+show_app types = with_types (with_limits (with_layout (with_window (with_choice (file_app (codes "show")))))) types
+
+-- the command that says why a stream is refused
+abbrev pub explain_app : Choices → App
+explain_app types = with_types (with_limits (file_app (codes "explain"))) types
+
+-- a command with the options of what becomes of its output
+abbrev pub with_care : App → App
+with_care app = with_rule (with_rule (with_rule (with_rule app (flag (codes "atomic"))) (flag (codes "in-place"))) (flag (codes "no-clobber"))) (flag (codes "fail-downstream"))
+
+-- the command that copies, with the options of what becomes of its output alone
+abbrev pub careful_copy : App
+careful_copy = with_care (with_rule (with_rule (new_app (codes "copy")) (needed (codes "IN"))) (maybe (codes "OUT")))
 
 -- the command that copies, without the sets of types
 abbrev pub limited_copy : Choices → Choices → App
-limited_copy updates aligns = with_limits (with_options (with_rule (with_rule (new_app (codes "copy")) (needed (codes "IN"))) (needed (codes "OUT"))) updates aligns)
+limited_copy updates aligns = with_limits (with_options careful_copy updates aligns)
 
 -- the command that copies
 abbrev pub copy_app : Choices → Choices → Choices → App
@@ -121,7 +173,7 @@ copy_app updates aligns types = with_types (limited_copy updates aligns) types
 -- a command with the options of what is delivered of a connection
 abbrev pub with_delivery : App → App
 with_delivery app =
-    with_rule (with_rule app (option (codes "bytes") (parsers.Unsigned 0 (2 ^ 62)) (codes "4611686018427387904"))) (option (codes "piece") (parsers.Unsigned 1 (2 ^ 30)) (codes "65536"))
+    with_rule (with_rule app (size (codes "bytes") (codes "4611686018427387904"))) (size (codes "piece") (codes "65536"))
 
 -- the command that drills, without the sets of types
 abbrev pub limited_drill : Choices → Choices → App
@@ -159,9 +211,9 @@ pub record Sends (command : Choices → Choices → Choices → App) (app : App)
 abbrev pub with_command : App → App → App
 with_command app command = with_subcommand app command.top
 
--- the commands of one file
-abbrev pub reading_app : App → App → App → App
-reading_app schema check show = with_command (with_command (with_command (new_app (codes "arrowflow")) schema) check) show
+-- the commands that read alone
+abbrev pub reading_app : App → App → App → App → App
+reading_app schema check show explain = with_command (with_command (with_command (with_command (new_app (codes "arrowflow")) schema) check) show) explain
 
 -- it is the command line with these commands
 pub record IsReading (app : App) : Type 0 where
@@ -171,11 +223,13 @@ pub record IsReading (app : App) : Type 0 where
   pub has_check : Takes check_app check
   pub show : App
   pub has_show : Takes show_app show
-  pub is : app ≡ reading_app schema check show
+  pub explain : App
+  pub has_explain : Takes explain_app explain
+  pub is : app ≡ reading_app schema check show explain
 
--- the program's command line: one of five commands has to stand there
+-- the program's command line: it has a version, and one of six commands has to be there
 abbrev pub program_app : App → App → App → App
-program_app reading copying drilling = on_top (λ s. record s { subcommand_required = true }) (with_command (with_command reading copying) drilling)
+program_app reading copying drilling = on_top (λ s. record s { subcommand_required = true; has_version = true }) (with_command (with_command reading copying) drilling)
 
 -- it is the program's command line
 pub record IsProgram (app : App) : Type 0 where
@@ -192,6 +246,10 @@ pub record IsProgram (app : App) : Type 0 where
 -- the text that clap found for an argument, empty where it found none
 abbrev pub name_in : Text → List Row → Text
 name_in id rows = unwrap_or (first_of id rows) []
+
+-- that text, if it found one
+abbrev pub name_if_any : Text → List Row → Option Text
+name_if_any id rows = first_of id rows
 
 -- all of them
 abbrev pub names_in : Text → List Row → List Text
@@ -240,30 +298,105 @@ is_given id rows = bytes_eq (name_in id rows) (codes "true")
 abbrev pub options_in : List Row → Options
 options_in rows = record { updates = updates_by (name_in (codes "updates") rows); align = align_by (name_in (codes "align") rows) }
 
+-- which files are read, whether lines name them, and whether they are JSON
+pub record AreFiles (rows : List Row) (files : Files) : Type 0 where
+  pub names : map string_bytes files.names.items ≡ names_in (codes "FILE") rows
+  pub with_filename : files.with_filename ≡ is_given (codes "with-filename") rows
+  pub json : files.json ≡ is_given (codes "json") rows
+
+-- which rows are shown, and how
+pub record AreShown (rows : List Row) (options : ShowOptions) : Type 0 where
+  pub columns : option_map (λ names. map string_bytes names.items) options.columns ≡ names_if_any (codes "columns") rows
+  pub batch : IsNumberIfAny (number_text (codes "batch") rows) options.batch
+  pub skip : IsNumberIfAny (number_text (codes "skip") rows) options.skip
+  pub first : IsNumberIfAny (number_text (codes "rows") rows) options.rows
+  pub null : option_map string_bytes options.null ≡ name_if_any (codes "null") rows
+  pub no_batch : options.no_batch ≡ is_given (codes "no-batch") rows
+  pub json : options.json ≡ is_given (codes "json") rows
+
+-- how a stream is copied
+abbrev pub copy_options_in : List Row → CopyOptions
+copy_options_in rows = record {
+  stream = options_in rows;
+  atomic = is_given (codes "atomic") rows;
+  no_clobber = is_given (codes "no-clobber") rows;
+  fail_downstream = is_given (codes "fail-downstream") rows;
+}
+
 -- a command that the program has
 abbrev pub IsCommand : Text → Type 0
-IsCommand name = (name ≡ codes "schema") ⊎ ((name ≡ codes "check") ⊎ ((name ≡ codes "show") ⊎ ((name ≡ codes "copy") ⊎ (name ≡ codes "drill"))))
+IsCommand name = (name ≡ codes "schema") ⊎ ((name ≡ codes "check") ⊎ ((name ≡ codes "show") ⊎ ((name ≡ codes "explain") ⊎ ((name ≡ codes "copy") ⊎ (name ≡ codes "drill")))))
+
+-- the name of an option with a size, and the bounds of the size
+abbrev pub size_name : SizeOption → Text
+size_name LimitMetadata = codes "limit-metadata"
+size_name LimitBody = codes "limit-body"
+size_name Bytes = codes "bytes"
+size_name Piece = codes "piece"
+
+abbrev pub least_size : SizeOption → ℕ
+least_size LimitMetadata = 0
+least_size LimitBody = 0
+least_size Bytes = 0
+least_size Piece = 1
+
+abbrev pub most_size : SizeOption → ℕ
+most_size LimitMetadata = 2 ^ 30
+most_size LimitBody = 2 ^ 40
+most_size Bytes = 2 ^ 62
+most_size Piece = 2 ^ 30
+
+-- the size that was asked for with this option
+abbrev pub IsSizeOf : SizeOption → List Row → ℕ → Type 0
+IsSizeOf option rows n = IsSizeIn (least_size option) (most_size option) (name_in (size_name option) rows) n
+
+-- the command of this name has this option
+abbrev pub HasSize : Text → SizeOption → Type 0
+HasSize name LimitMetadata = ⊤
+HasSize name LimitBody = ⊤
+HasSize name Bytes = name ≡ codes "drill"
+HasSize name Piece = name ≡ codes "drill"
+
+-- What is wrong with a line in which clap finds no fault: an option has no size within its bounds; a copy has no output, or
+-- one beside its input.
+abbrev pub IsMisuse : Text → List Row → Misuse → Type 0
+IsMisuse name rows (NoSize option) = HasSize name option × LacksSize (least_size option) (most_size option) (name_in (size_name option) rows)
+IsMisuse name rows NoOutput = (name ≡ codes "copy") × (name_if_any (codes "OUT") rows ≡ None) × (is_given (codes "in-place") rows ≡ false)
+IsMisuse name rows TwoOutputs = (name ≡ codes "copy") × (is_some (name_if_any (codes "OUT") rows) ≡ true) × (is_given (codes "in-place") rows ≡ true)
+
+-- the fault of a command in whose words clap finds none
+abbrev pub IsFaultIn : Text → List Row → ArgFault → Type 0
+IsFaultIn name rows (Line error) = ⊥
+IsFaultIn name rows (Misused misuse) = IsMisuse name rows misuse
+IsFaultIn name rows Memory = ⊤
+
+-- it is said of this option that its value is no size within its bounds, and so it is
+abbrev pub LacksSizeOf : SizeOption → List Row → Misuse → Type 0
+LacksSizeOf option rows misuse = (misuse ≡ NoSize option) × LacksSize (least_size option) (most_size option) (name_in (size_name option) rows)
+
+-- the same of a limit
+abbrev pub LacksLimit : List Row → Misuse → Type 0
+LacksLimit rows misuse = LacksSizeOf LimitMetadata rows misuse ⊎ LacksSizeOf LimitBody rows misuse
 
 -- the limits that were asked for
 pub record AreLimitsIn (rows : List Row) (limits : LimitNumbers) : Type 0 where
-  pub metadata : IsNumberOf 0 (2 ^ 30) (number_text (codes "limit-metadata") rows) limits.max_metadata
-  pub body : IsNumberOf 0 (2 ^ 40) (number_text (codes "limit-body") rows) limits.max_body
+  pub metadata : IsSizeOf LimitMetadata rows limits.max_metadata
+  pub body : IsSizeOf LimitBody rows limits.max_body
   pub most_rows : IsNumberOf 0 2147483647 (number_text (codes "limit-rows") rows) limits.max_rows
   pub types : limits.types ≡ types_by (name_in (codes "types") rows)
 
 -- the task of the command of this name, with what clap found behind it
 abbrev pub IsTask : Text → List Row → Task → Type 0
-IsTask name rows (Schema file) = (name ≡ codes "schema") × (string_bytes file ≡ name_in (codes "FILE") rows)
-IsTask name rows (Check file quiet) = (name ≡ codes "check") × (string_bytes file ≡ name_in (codes "FILE") rows) × (quiet ≡ is_given (codes "quiet") rows)
-IsTask name rows (Show file columns first) =
-    (name ≡ codes "show") × (string_bytes file ≡ name_in (codes "FILE") rows)
-    × (option_map (λ names. map string_bytes names.items) columns ≡ names_if_any (codes "columns") rows)
-    × IsNumberIfAny (number_text (codes "rows") rows) first
+IsTask name rows (Schema files) = (name ≡ codes "schema") × AreFiles rows files
+IsTask name rows (Check files quiet) = (name ≡ codes "check") × AreFiles rows files × (quiet ≡ is_given (codes "quiet") rows)
+IsTask name rows (Show file options) = (name ≡ codes "show") × (option_map string_bytes file ≡ name_if_any (codes "FILE") rows) × AreShown rows options
+IsTask name rows (Explain file) = (name ≡ codes "explain") × (option_map string_bytes file ≡ name_if_any (codes "FILE") rows)
 IsTask name rows (Copy input output options) =
-    (name ≡ codes "copy") × (string_bytes input ≡ name_in (codes "IN") rows) × (string_bytes output ≡ name_in (codes "OUT") rows) × (options ≡ options_in rows)
+    (name ≡ codes "copy") × (string_bytes input ≡ name_in (codes "IN") rows) × (option_map string_bytes output ≡ name_if_any (codes "OUT") rows)
+    × (is_given (codes "in-place") rows ≡ is_none output) × (options ≡ copy_options_in rows)
 IsTask name rows (Drill files options bytes piece) =
     (name ≡ codes "drill") × (map string_bytes files.items ≡ names_in (codes "FILE") rows) × (options ≡ options_in rows)
-    × IsNumberOf 0 (2 ^ 62) (number_text (codes "bytes") rows) bytes × IsNumberOf 1 (2 ^ 30) (number_text (codes "piece") rows) piece
+    × IsSizeOf Bytes rows bytes × IsSizeOf Piece rows piece
 
 -- the plan of that task, within the limits that were asked for
 abbrev pub IsPlan : Text → List Row → Plan → Type 0
@@ -276,9 +409,17 @@ pub record IsAskedFor (app : App) (words : List Text) (plan : Plan) : Type 0 whe
   pub found : subcommand_of app words ≡ Some (name, rows)
   pub is : IsPlan name rows plan
 
--- What is answered of the words of a line: a plan where clap has no fault for them, else an error of a kind that it has.
--- Want of memory may come at any time.
+-- this is wrong with the command that clap finds in the words
+pub record IsMisusedBy (app : App) (words : List Text) (misuse : Misuse) : Type 0 where
+  pub name : Text
+  pub rows : List Row
+  pub found : subcommand_of app words ≡ Some (name, rows)
+  pub is : IsMisuse name rows misuse
+
+-- What is answered of the words of a line: a plan if clap has no fault for them and nothing else is wrong with them; else
+-- an error of a kind that clap has, or what else is wrong. An allocation may fail at any time.
 abbrev pub AnswersLine : List Text → Result Plan ArgFault → Type 0
 AnswersLine words (Ok plan) = (app : App) × IsProgram app × IsAskedFor app words plan × (fault_of app words ≡ [])
 AnswersLine words (Err (Line error)) = (app : App) × IsProgram app × HasKind (fault_of app words) error
+AnswersLine words (Err (Misused misuse)) = (app : App) × IsProgram app × IsMisusedBy app words misuse × (fault_of app words ≡ [])
 AnswersLine words (Err Memory) = ⊤

@@ -5,63 +5,23 @@ ghost use Rattle.clap.specs.Walk.{rule_of};
 ghost use Rattle.clap.specs.Words.{app_of};
 ghost use Rattle.arrowflow_line.specs.CommandLine.{AnswersLine, HasNoGlobals, IsProgram, IsReading};
 ghost use Rattle.arrowflow_line.specs.CommandLine.{Sends, Takes, limited_copy, limited_drill, with_types};
-ghost use Rattle.arrowflow_line.specs.CommandLine.{NeedsSubcommand, Offers, check_app, copy_app};
-ghost use Rattle.arrowflow_line.specs.CommandLine.{drill_app, file_app, flag, limit, needed};
-ghost use Rattle.arrowflow_line.specs.CommandLine.{named, needed_some, number, option};
-ghost use Rattle.arrowflow_line.specs.CommandLine.{schema_app, show_app};
-ghost use Rattle.arrowflow_line.specs.CommandLine.{with_delivery, text, with_limits, with_options};
+ghost use Rattle.arrowflow_line.specs.CommandLine.{NeedsSubcommand, Offers, careful_copy, check_app};
+ghost use Rattle.arrowflow_line.specs.CommandLine.{copy_app};
+ghost use Rattle.arrowflow_line.specs.CommandLine.{drill_app, explain_app, file_app, files_app};
+ghost use Rattle.arrowflow_line.specs.CommandLine.{flag, lettered, limit, maybe, maybe_some, named};
+ghost use Rattle.arrowflow_line.specs.CommandLine.{needed, needed_some, number, option, schema_app};
+ghost use Rattle.arrowflow_line.specs.CommandLine.{show_app, size, text, with_care, with_delivery};
+ghost use Rattle.arrowflow_line.specs.CommandLine.{with_choice, with_layout, with_limits};
+ghost use Rattle.arrowflow_line.specs.CommandLine.{with_options, with_window};
 
 use crate::fault::ArgFault;
+use crate::help::{self, Help};
 use crate::plans::Plan;
-use crate::reading::{MOST_BYTES, MOST_PIECE, plan_of};
+use crate::reading::plan_of;
 use arrow_types::Limits;
 use clap::builder::ValueParser;
 use clap::{Arg, ArgAction, Command};
 use std::alloc::{AllocError, Global};
-
-/// What the help of the whole program says before the commands.
-const ABOUT: &str = "Reads, checks and writes Apache Arrow IPC streams";
-
-/// What it says behind them.
-const EXAMPLE: &str = "Example:\n  arrowflow show examples/growing_dictionary.arrows";
-
-/// What the help of `schema` says before its argument.
-const SCHEMA_ABOUT: &str =
-    "Prints the columns of a stream, one line a field, children below their parent";
-
-/// What it says behind it.
-const SCHEMA_EXAMPLE: &str =
-    "Only the stream's first message is read. The exit status is 0, 1 where the stream is refused, and 2 where\nthe file cannot be read or memory is wanting.\n\nExample:\n  arrowflow schema - < examples/one_column.arrows";
-
-/// What the help of `check` says before its argument.
-const CHECK_ABOUT: &str = "Reads a whole stream and prints one line for each of its messages";
-
-/// What it says behind it.
-const CHECK_EXAMPLE: &str =
-    "A line has the message's place in bytes, what it is, and its columns, values or rows. The exit status is 0, 1\nwhere the stream is refused or ends too early, and 2 where the file cannot be read, the output cannot be\nwritten or memory is wanting.\n\nExample:\n  arrowflow check examples/growing_dictionary.arrows";
-
-/// What the help of `show` says before its argument.
-const SHOW_ABOUT: &str = "Prints the rows of a stream as comma-separated values";
-
-/// What it says behind it.
-const SHOW_EXAMPLE: &str =
-    "The first record has the names of the columns, and each row begins with the number of its batch, counted from\n0. The exit status is 0, 1 where the stream is refused or ends too early, and 2 where the file cannot be\nread, the output cannot be written, memory is wanting or a column is not there.\n\nExample:\n  arrowflow show examples/growing_dictionary.arrows";
-
-/// What the help of `copy` says before its arguments.
-const COPY_ABOUT: &str =
-    "Writes a stream again, with its dictionaries and buffers sent as the options say";
-
-/// What it says behind them.
-const COPY_EXAMPLE: &str =
-    "The rows stay what they are; the new stream has an end marker. OUT is created, and emptied first where it is\nthere: a stream is never copied into its own file, whatever name that has. The exit status is 0, 1 where the\nstream is refused, ends too early or cannot be written again within the limits, and 2 where IN cannot be read,\nOUT cannot be written or memory is wanting.\n\nExample:\n  arrowflow copy examples/growing_dictionary.arrows - --updates resend | arrowflow check -";
-
-/// What the help of `drill` says before its arguments.
-const DRILL_ABOUT: &str =
-    "Writes streams again over connections that break, and tells what both ends then have";
-
-/// What it says behind them.
-const DRILL_EXAMPLE: &str =
-    "Each FILE is one connection, of which the first N bytes are delivered in pieces of M. The exit status is 0\nhowever the connections end, 1 where a FILE is refused or ends too early, and 2 where one cannot be read, the\noutput cannot be written or memory is wanting.\n\nExample:\n  arrowflow drill examples/growing_dictionary.arrows --align 8 --bytes 975 --piece 1";
 
 /// The words for what is sent of dictionaries that grew.
 static UPDATES: [&str; 2] = ["delta", "resend"];
@@ -72,24 +32,28 @@ static ALIGNS: [&str; 2] = ["8", "64"];
 /// The words for the sets of types.
 static TYPES: [&str; 2] = ["core", "all"];
 
-/// What help calls the number of `--limit-metadata`, and what it says of it.
-const METADATA_HELP: (&str, &str) = ("BYTES", "The most bytes of one message's metadata");
-
-/// The same of `--limit-body`.
-const BODY_HELP: (&str, &str) = ("BYTES", "The most bytes of one message's body");
-
-/// The same of `--limit-rows`.
-const ROWS_HELP: (&str, &str) = (
-    "ROWS",
-    "The most rows of a batch, slots of a column, and values of a dictionary",
-);
-
 /// A name that has to stand in the line.
 fn needed<'a>(alloc: Global, id: &'a str, help: &'a str) -> Arg<'a>
     ensures rule { rule_of result ≡ needed id.now }
     ensures local { result.global ≡ false }
 {
     Arg::new(alloc, id).required(true).help(help)
+}
+
+/// A name that may be left out.
+fn maybe<'a>(alloc: Global, id: &'a str, help: &'a str) -> Arg<'a>
+    ensures rule { rule_of result ≡ maybe id.now }
+    ensures local { result.global ≡ false }
+{
+    Arg::new(alloc, id).help(help)
+}
+
+/// Names, any number of them.
+fn maybe_some<'a>(alloc: Global, id: &'a str, help: &'a str) -> Arg<'a>
+    ensures rule { rule_of result ≡ maybe_some id.now }
+    ensures local { result.global ≡ false }
+{
+    maybe(alloc, id, help).num_args(1..)
 }
 
 /// Names of which one at least has to stand in the line.
@@ -133,6 +97,14 @@ fn flag<'a>(alloc: Global, name: &'a str, help: &'a str) -> Arg<'a>
     named(alloc, name, help).action(ArgAction::SetTrue)
 }
 
+/// The option with a letter for its name.
+fn lettered<'a>(option: Arg<'a>, letter: char) -> Arg<'a>
+    ensures rule { rule_of result ≡ lettered letter (rule_of option.entry) }
+    ensures local { result.global ≡ option.entry.global }
+{
+    option.short(letter)
+}
+
 /// An option with a text, for which nothing stands where it is not given.
 fn text<'a>(alloc: Global, name: &'a str, word: &'a str, help: &'a str) -> Arg<'a>
     ensures rule { rule_of result ≡ text name.now }
@@ -167,31 +139,30 @@ fn limit<'a>(
     option(alloc, name, Value { parser, default }, words.1).value_name(words.0)
 }
 
+/// An option of this name with a size, and the text that counts if it is not given.
+fn size<'a>(alloc: Global, name: &'a str, default: &'a str, help: &'a str) -> Arg<'a>
+    ensures rule { rule_of result ≡ size name.now default.now }
+    ensures local { result.global ≡ false }
+{
+    let parser = ValueParser::String;
+    option(alloc, name, Value { parser, default }, help).value_name("N")
+}
+
 /// The command with the limits that it keeps to.
 fn with_limits<'a>(alloc: Global, command: Command<'a>) -> Result<Command<'a>, AllocError>
     requires { HasNoGlobals command }
     ensures globals { IfOk result HasNoGlobals }
     ensures app { IfOk result (λ c. app_of c ≡ with_limits (app_of command.entry)) }
 {
-    let metadata = limit(
-        alloc,
-        "limit-metadata",
-        (Limits::METADATA_CEILING, "67108864"),
-        METADATA_HELP,
-    );
+    let metadata = size(alloc, "limit-metadata", "67108864", help::LIMIT_METADATA);
     let some = command.arg(metadata)?;
-    let body = limit(
-        alloc,
-        "limit-body",
-        (Limits::BODY_CEILING, "68719476736"),
-        BODY_HELP,
-    );
+    let body = size(alloc, "limit-body", "68719476736", help::LIMIT_BODY);
     let more = some.arg(body)?;
     let rows = limit(
         alloc,
         "limit-rows",
         (Limits::ROWS_CEILING, "2147483647"),
-        ROWS_HELP,
+        ("N", help::LIMIT_ROWS),
     );
     let whole = more.arg(rows)?;
     Ok(whole)
@@ -210,38 +181,46 @@ fn with_types<'a>(alloc: Global, command: Command<'a>) -> Result<Command<'a>, Al
             parser: ValueParser::from(TYPES.as_slice()),
             default: "core",
         },
-        "Which types a stream may have: the core of them, or all, floating point, decimals, intervals, fixed-size lists and maps too",
+        help::TYPES,
     );
     command.arg(types)
 }
 
-/// A command of one file, with what its help says before and behind the argument.
-fn file_command<'a>(
-    alloc: Global,
-    name: &'a str,
-    about: &'a str,
-    example: &'a str,
-) -> Result<Command<'a>, AllocError>
+/// A command of one file, with what its help says.
+fn file_command<'a>(alloc: Global, name: &'a str, words: Help) -> Result<Command<'a>, AllocError>
     ensures globals { IfOk result HasNoGlobals }
     ensures app { IfOk result (λ c. app_of c ≡ file_app name.now) }
 {
-    let file = needed(
-        alloc,
-        "FILE",
-        "A file with an Arrow IPC stream; - is standard input",
-    );
+    let file = maybe(alloc, "FILE", help::FILE);
     Command::new(alloc, name)
-        .about(about)
-        .after_help(example)
+        .about(words.about)
+        .after_help(words.after)
         .arg(file)
 }
 
-/// The command that prints a schema.
+/// The same of a command of any number of files.
+fn files_command<'a>(alloc: Global, name: &'a str, words: Help) -> Result<Command<'a>, AllocError>
+    ensures globals { IfOk result HasNoGlobals }
+    ensures app { IfOk result (λ c. app_of c ≡ files_app name.now) }
+{
+    let files = maybe_some(alloc, "FILE", help::FILES);
+    let some = Command::new(alloc, name)
+        .about(words.about)
+        .after_help(words.after)
+        .arg(files)?;
+    let named = flag(alloc, "with-filename", help::WITH_FILENAME);
+    let more = some.arg(lettered(named, 'H'))?;
+    let json = flag(alloc, "json", help::LINES_OF_JSON);
+    let whole = more.arg(json)?;
+    Ok(whole)
+}
+
+/// The command that prints schemas.
 fn schema_command<'a>(alloc: Global) -> Result<Command<'a>, AllocError>
     ensures globals { IfOk result HasNoGlobals }
     ensures app { IfOk result (λ c. Takes schema_app (app_of c)) }
 {
-    let command = file_command(alloc, "schema", SCHEMA_ABOUT, SCHEMA_EXAMPLE)?;
+    let command = files_command(alloc, "schema", help::SCHEMA)?;
     with_types(alloc, with_limits(alloc, command)?)
 }
 
@@ -250,13 +229,46 @@ fn check_command<'a>(alloc: Global) -> Result<Command<'a>, AllocError>
     ensures globals { IfOk result HasNoGlobals }
     ensures app { IfOk result (λ c. Takes check_app (app_of c)) }
 {
-    let quiet = flag(
-        alloc,
-        "quiet",
-        "Print no lines: the exit status tells, and the line of a fault",
-    );
-    let command = file_command(alloc, "check", CHECK_ABOUT, CHECK_EXAMPLE)?.arg(quiet)?;
+    let quiet = flag(alloc, "quiet", help::QUIET);
+    let quiet = lettered(quiet, 'q');
+    let command = files_command(alloc, "check", help::CHECK)?.arg(quiet)?;
     with_types(alloc, with_limits(alloc, command)?)
+}
+
+/// The command with the options of which columns are shown, and of which batch.
+fn with_choice<'a>(alloc: Global, command: Command<'a>) -> Result<Command<'a>, AllocError>
+    requires { HasNoGlobals command }
+    ensures globals { IfOk result HasNoGlobals }
+    ensures app { IfOk result (λ c. app_of c ≡ with_choice (app_of command.entry)) }
+{
+    let columns = text(alloc, "columns", "NAMES", help::COLUMNS);
+    let some = command.arg(lettered(columns, 'c'))?;
+    let whole = some.arg(number(alloc, "batch", "N", help::BATCH))?;
+    Ok(whole)
+}
+
+/// The command with the options of which rows are shown.
+fn with_window<'a>(alloc: Global, command: Command<'a>) -> Result<Command<'a>, AllocError>
+    requires { HasNoGlobals command }
+    ensures globals { IfOk result HasNoGlobals }
+    ensures app { IfOk result (λ c. app_of c ≡ with_window (app_of command.entry)) }
+{
+    let some = command.arg(number(alloc, "skip", "N", help::SKIP))?;
+    let rows = number(alloc, "rows", "N", help::ROWS);
+    let whole = some.arg(lettered(rows, 'n'))?;
+    Ok(whole)
+}
+
+/// The command with the options of how rows are written.
+fn with_layout<'a>(alloc: Global, command: Command<'a>) -> Result<Command<'a>, AllocError>
+    requires { HasNoGlobals command }
+    ensures globals { IfOk result HasNoGlobals }
+    ensures app { IfOk result (λ c. app_of c ≡ with_layout (app_of command.entry)) }
+{
+    let some = command.arg(text(alloc, "null", "TEXT", help::NULL))?;
+    let more = some.arg(flag(alloc, "no-batch", help::NO_BATCH))?;
+    let whole = more.arg(flag(alloc, "json", help::JSON))?;
+    Ok(whole)
 }
 
 /// The command that shows rows.
@@ -264,16 +276,17 @@ fn show_command<'a>(alloc: Global) -> Result<Command<'a>, AllocError>
     ensures globals { IfOk result HasNoGlobals }
     ensures app { IfOk result (λ c. Takes show_app (app_of c)) }
 {
-    let columns = text(
-        alloc,
-        "columns",
-        "NAMES",
-        "Print the columns of these names alone, with commas between them, in this order",
-    );
-    let rows = number(alloc, "rows", "N", "Print the first N rows alone");
-    let command = file_command(alloc, "show", SHOW_ABOUT, SHOW_EXAMPLE)?
-        .arg(columns)?
-        .arg(rows)?;
+    let command = with_choice(alloc, file_command(alloc, "show", help::SHOW)?)?;
+    let command = with_layout(alloc, with_window(alloc, command)?)?;
+    with_types(alloc, with_limits(alloc, command)?)
+}
+
+/// The command that says why a stream is refused.
+fn explain_command<'a>(alloc: Global) -> Result<Command<'a>, AllocError>
+    ensures globals { IfOk result HasNoGlobals }
+    ensures app { IfOk result (λ c. Takes explain_app (app_of c)) }
+{
+    let command = file_command(alloc, "explain", help::EXPLAIN)?;
     with_types(alloc, with_limits(alloc, command)?)
 }
 
@@ -290,7 +303,7 @@ fn with_options<'a>(alloc: Global, command: Command<'a>) -> Result<Command<'a>, 
             parser: ValueParser::from(UPDATES.as_slice()),
             default: "delta",
         },
-        "What is sent of a dictionary that grew: the new values, or all",
+        help::UPDATES,
     );
     let align = option(
         alloc,
@@ -299,7 +312,7 @@ fn with_options<'a>(alloc: Global, command: Command<'a>) -> Result<Command<'a>, 
             parser: ValueParser::from(ALIGNS.as_slice()),
             default: "64",
         },
-        "To how many bytes each buffer is padded",
+        help::ALIGN,
     );
     command.arg(updates)?.arg(align)
 }
@@ -319,22 +332,39 @@ fn limited_copy<'a>(alloc: Global) -> Result<Command<'a>, AllocError>
     ensures globals { IfOk result HasNoGlobals }
     ensures app { IfOk result (λ c. Offers limited_copy (app_of c)) }
 {
-    let input = needed(
-        alloc,
-        "IN",
-        "A file with an Arrow IPC stream; - is standard input",
-    );
-    let output = needed(
-        alloc,
-        "OUT",
-        "Where the new stream goes; - is standard output",
-    );
+    with_limits(alloc, with_options(alloc, careful_copy(alloc)?)?)
+}
+
+/// The same without the limits, and without the options of how a stream is written.
+fn careful_copy<'a>(alloc: Global) -> Result<Command<'a>, AllocError>
+    ensures globals { IfOk result HasNoGlobals }
+    ensures app { IfOk result (λ c. app_of c ≡ careful_copy) }
+{
+    let input = needed(alloc, "IN", help::INPUT);
+    let output = maybe(alloc, "OUT", help::OUTPUT);
     let command = Command::new(alloc, "copy")
-        .about(COPY_ABOUT)
-        .after_help(COPY_EXAMPLE)
+        .about(help::COPY.about)
+        .after_help(help::COPY.after)
         .arg(input)?
         .arg(output)?;
-    with_limits(alloc, with_options(alloc, command)?)
+    with_care(alloc, command)
+}
+
+/// The command with the options of what becomes of its output.
+fn with_care<'a>(alloc: Global, command: Command<'a>) -> Result<Command<'a>, AllocError>
+    requires { HasNoGlobals command }
+    ensures globals { IfOk result HasNoGlobals }
+    ensures app { IfOk result (λ c. app_of c ≡ with_care (app_of command.entry)) }
+{
+    let atomic = flag(alloc, "atomic", help::ATOMIC);
+    let some = command.arg(atomic)?;
+    let in_place = flag(alloc, "in-place", help::IN_PLACE);
+    let more = some.arg(in_place)?;
+    let no_clobber = flag(alloc, "no-clobber", help::NO_CLOBBER);
+    let most = more.arg(no_clobber)?;
+    let fail_downstream = flag(alloc, "fail-downstream", help::FAIL_DOWNSTREAM);
+    let whole = most.arg(fail_downstream)?;
+    Ok(whole)
 }
 
 /// The command with the options of what is delivered of a connection.
@@ -343,25 +373,9 @@ fn with_delivery<'a>(alloc: Global, command: Command<'a>) -> Result<Command<'a>,
     ensures globals { IfOk result HasNoGlobals }
     ensures app { IfOk result (λ c. app_of c ≡ with_delivery (app_of command.entry)) }
 {
-    let bytes = option(
-        alloc,
-        "bytes",
-        Value {
-            parser: ValueParser::unsigned(0, MOST_BYTES),
-            default: "4611686018427387904",
-        },
-        "How many bytes of each connection are delivered",
-    );
+    let bytes = size(alloc, "bytes", "4611686018427387904", help::BYTES);
     let some = command.arg(bytes)?;
-    let piece = option(
-        alloc,
-        "piece",
-        Value {
-            parser: ValueParser::unsigned(1, MOST_PIECE),
-            default: "65536",
-        },
-        "How many bytes are delivered at once",
-    );
+    let piece = size(alloc, "piece", "65536", help::PIECE);
     let whole = some.arg(piece)?;
     Ok(whole)
 }
@@ -381,30 +395,27 @@ fn limited_drill<'a>(alloc: Global) -> Result<Command<'a>, AllocError>
     ensures globals { IfOk result HasNoGlobals }
     ensures app { IfOk result (λ c. Offers limited_drill (app_of c)) }
 {
-    let files = needed_some(
-        alloc,
-        "FILE",
-        "Files with an Arrow IPC stream each; - is standard input",
-    );
+    let files = needed_some(alloc, "FILE", help::CONNECTIONS);
     let command = Command::new(alloc, "drill")
-        .about(DRILL_ABOUT)
-        .after_help(DRILL_EXAMPLE)
+        .about(help::DRILL.about)
+        .after_help(help::DRILL.after)
         .arg(files)?;
     with_limits(alloc, with_options(alloc, with_delivery(alloc, command)?)?)
 }
 
-/// The program's command line with the commands of one file.
+/// The program's command line with the commands that read alone.
 fn reading_command<'a>(alloc: Global) -> Result<Command<'a>, AllocError>
     ensures globals { IfOk result HasNoGlobals }
     ensures app { IfOk result (λ c. IsReading (app_of c)) }
 {
     let top = Command::new(alloc, "arrowflow")
         .bin_name("arrowflow")?
-        .about(ABOUT)
-        .after_help(EXAMPLE);
+        .about(help::PROGRAM.about)
+        .after_help(help::PROGRAM.after);
     let some = top.subcommand(schema_command(alloc)?)?;
     let more = some.subcommand(check_command(alloc)?)?;
-    let whole = more.subcommand(show_command(alloc)?)?;
+    let most = more.subcommand(show_command(alloc)?)?;
+    let whole = most.subcommand(explain_command(alloc)?)?;
     Ok(whole)
 }
 
@@ -417,13 +428,14 @@ fn command<'a>(alloc: Global) -> Result<Command<'a>, AllocError>
     let reading = reading_command(alloc)?;
     let more = reading.subcommand(copy_command(alloc)?)?;
     let whole = more.subcommand(drill_command(alloc)?)?;
-    Ok(whole.subcommand_required(true))
+    Ok(whole.subcommand_required(true).version(help::VERSION))
 }
 
 /// What the words of a command line ask for. The first word is the program's own name.
 ///
-/// `ArgFault::Line` where the words are not a command with its names and options, or ask for help;
-/// `ArgFault::Memory` where a growth was refused.
+/// `ArgFault::Line` if the words are not a command with its names and options, or ask for help;
+/// `ArgFault::Misused` if an option has no size within its bounds, or a copy no output or two;
+/// `ArgFault::Memory` if an allocation failed.
 pub fn plan(alloc: Global, words: &[&str]) -> Result<Plan, ArgFault>
     ensures { AnswersLine (map (λ w. w.now) words.now) result }
 {

@@ -2,19 +2,23 @@
 //!
 //! [`plan`] takes the words of a line and gives a [`Plan`]: the [`Task`], which is the command with
 //! the names that it was given and its options, and the limits; or an [`ArgFault`], which prints
-//! itself. What the words of a line ask for is said by `AnswersLine` (`specs/CommandLine.antt`), in
+//! itself. Sizes may have units, as `64K` or `1GiB`. What the words of a line ask for is said by `AnswersLine` (`specs/CommandLine.antt`), in
 //! the words of clap.
 //!
 //! | Notion | Definition |
 //! |---|---|
 //! | what the words of a line ask for | `specs/CommandLine.antt`: `AnswersLine`, `IsAskedFor`, `program_app` |
+//! | what is wrong with words that clap takes | `specs/CommandLine.antt`: `IsMisuse` |
+//! | sizes with units | `specs/Sizes.antt`: `IsSize`, `units` |
 #![tactic(auto)]
 
 mod command_line;
 mod fault;
+mod help;
 mod plans;
 mod reading;
+mod sizes;
 
 pub use command_line::plan;
-pub use fault::ArgFault;
-pub use plans::{Plan, Task};
+pub use fault::{ArgFault, Misuse, SizeOption};
+pub use plans::{CopyOptions, Files, Plan, ShowOptions, Task};

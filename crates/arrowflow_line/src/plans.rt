@@ -13,20 +13,64 @@ pub struct Plan {
 }
 
 /// One command of the program, with the names that it was given, `-` being standard input or
-/// output.
+/// output. A command that reads may have been given no name.
 #[derive(Debug, Drop, PartialEq, Eq)]
 pub enum Task {
-    /// Print the schema of the stream in the file of this name.
-    Schema(String),
-    /// Print a line for each message of the stream in the file of this name; none where it is to be
-    /// quiet.
-    Check(String, bool),
-    /// Print the rows of the stream in the file of this name, with the columns of these names or
-    /// with all: the first so many, or all.
-    Show(String, Option<Vec<String>>, Option<u64>),
-    /// Write the stream in the file of the first name again, into that of the second.
-    Copy(String, String, Options),
+    /// Print the schemas of the streams in these files.
+    Schema(Files),
+    /// Print a line for each message of the streams in these files; none if it is to be quiet.
+    Check(Files, bool),
+    /// Print the rows of the stream in the file of this name.
+    Show(Option<String>, ShowOptions),
+    /// Say why the stream in the file of this name is refused, or what it has.
+    Explain(Option<String>),
+    /// Write the stream in the file of the first name again, into that of the second; in the place
+    /// of the first if there is no second.
+    Copy(String, Option<String>, CopyOptions),
     /// Write the streams in these files again, each over a connection of its own that breaks after
     /// so many bytes, at most 2^62, and read what came in pieces of so many, from 1 to 2^30.
     Drill(Vec<String>, Options, u64, u64),
+}
+
+/// Which files are read, one after the other.
+#[derive(Debug, Drop, PartialEq, Eq)]
+pub struct Files {
+    /// Their names, of which there may be none.
+    pub names: Vec<String>,
+    /// Each line begins with the name of its file, even if there is one file alone.
+    pub with_filename: bool,
+    /// Each line is a JSON object in place of words.
+    pub json: bool,
+}
+
+/// Which rows are printed, and how.
+#[derive(Debug, Drop, PartialEq, Eq)]
+pub struct ShowOptions {
+    /// The columns of these names, or all.
+    pub columns: Option<Vec<String>>,
+    /// The rows of the batch of this number, counted from 0, or of all batches.
+    pub batch: Option<u64>,
+    /// All of these but the first so many, or but none.
+    pub skip: Option<u64>,
+    /// The first so many of those that are left, or all.
+    pub rows: Option<u64>,
+    /// The text of a null, which is else empty.
+    pub null: Option<String>,
+    /// The number of its batch is left out of each record.
+    pub no_batch: bool,
+    /// A JSON object a row in place of comma-separated values.
+    pub json: bool,
+}
+
+/// How a stream is written again, and what becomes of a file that exists.
+#[derive(Clone, Copy, Debug, PartialEq, Eq)]
+pub struct CopyOptions {
+    /// How dictionaries and buffers are sent.
+    pub stream: Options,
+    /// The output's file stays as it was until the stream was read whole.
+    pub atomic: bool,
+    /// A file that exists is not written.
+    pub no_clobber: bool,
+    /// A stream that is refused ends so that whoever reads the output fails too.
+    pub fail_downstream: bool,
 }

@@ -1,26 +1,25 @@
 //! What clap found behind a command's name, as the parts of a plan.
 
-ghost use Rattle.std.specs.Prelude.{◌≡◌, ◌≤◌, IfOk, MatchOption, codes, map, option_map};
-ghost use Rattle.std.specs.Prelude.{string_bytes};
+ghost use Rattle.std.specs.Prelude.{◌≡◌, ◌≤◌, IfErr, IfOk, MatchOption, MatchResult, codes, map};
+ghost use Rattle.std.specs.Prelude.{option_map, string_bytes};
 ghost use Rattle.clap.specs.Words.{found_of, rows_of};
-ghost use Rattle.arrowflow_line.specs.CommandLine.{AreLimitsIn, IsCommand, IsNumberIfAny, IsNumberOf};
+ghost use Rattle.arrowflow_line.specs.CommandLine.{AreFiles, AreLimitsIn, IsCommand, IsNumberIfAny};
+ghost use Rattle.arrowflow_line.specs.CommandLine.{IsFaultIn, IsNumberOf, IsSizeOf, LacksLimit};
+ghost use Rattle.arrowflow_line.specs.CommandLine.{LacksSizeOf};
 ghost use Rattle.arrowflow_line.specs.CommandLine.{IsPlan, IsTask, align_by, is_given, name_in, names_in};
-ghost use Rattle.arrowflow_line.specs.CommandLine.{names_by, names_if_any, number_text};
-ghost use Rattle.arrowflow_line.specs.CommandLine.{options_in, types_by, updates_by};
+ghost use Rattle.arrowflow_line.specs.CommandLine.{copy_options_in, name_if_any, names_by};
+ghost use Rattle.arrowflow_line.specs.CommandLine.{names_if_any, number_text, options_in, types_by};
+ghost use Rattle.arrowflow_line.specs.CommandLine.{updates_by};
 
-use crate::plans::{Plan, Task};
+use crate::fault::{ArgFault, Misuse, SizeOption};
+use crate::plans::{CopyOptions, Files, Plan, ShowOptions, Task};
+use crate::sizes::size_in;
 use arrow_body_writer::Align;
 use arrow_dict::Updates;
 use arrow_stream_writer::Options;
 use arrow_types::{Limits, TypeSet};
 use clap::ArgMatches;
 use std::alloc::{AllocError, Global};
-
-/// The most bytes of a connection that a drill may be told to deliver: no stream has more.
-pub(crate) const MOST_BYTES: u64 = 4_611_686_018_427_387_904;
-
-/// The most bytes of a piece.
-pub(crate) const MOST_PIECE: u64 = 1_073_741_824;
 
 /// The text that an argument was given, empty where it was given none.
 #[tactic(auto, using(crate::proofs::Asked::name_found))]
@@ -36,6 +35,21 @@ fn name_of(alloc: Global, matches: &ArgMatches<'_>, argument: &str) -> Result<St
         ≡ name_in argument.now (rows_of (found_of matches.now))) }
 {
     String::from_str(alloc, text_of(matches, argument))
+}
+
+/// The name that an argument was given, None if it was given none.
+fn name_if_any(
+    alloc: Global,
+    matches: &ArgMatches<'_>,
+    argument: &str,
+) -> Result<Option<String>, AllocError>
+    ensures { IfOk result (λ name. option_map string_bytes name
+        ≡ name_if_any argument.now (rows_of (found_of matches.now))) }
+{
+    match matches.get_str(argument) {
+        Some(name) => Ok(Some(String::from_str(alloc, name)?)),
+        None => Ok(None),
+    }
 }
 
 /// All names that an argument was given, in their order.
@@ -114,15 +128,28 @@ fn is_given(matches: &ArgMatches<'_>, argument: &str) -> bool
     text_of(matches, argument) == "true"
 }
 
-/// The limits that a command was given.
-fn limits_of(matches: &ArgMatches<'_>) -> Limits
-    ensures { AreLimitsIn (rows_of (found_of matches.now)) result }
+/// The size that an option was given.
+fn size_of(matches: &ArgMatches<'_>, option: SizeOption) -> Result<u64, Misuse>
+    ensures { MatchResult result (IsSizeOf option (rows_of (found_of matches.now)))
+        (LacksSizeOf option (rows_of (found_of matches.now))) }
 {
-    let metadata = number_of(matches, "limit-metadata", 0, Limits::METADATA_CEILING);
-    let body = number_of(matches, "limit-body", 0, Limits::BODY_CEILING);
+    let text = text_of(matches, option.name());
+    match size_in(text, option.least(), option.most()) {
+        Some(size) => Ok(size),
+        None => Err(Misuse::NoSize(option)),
+    }
+}
+
+/// The limits that a command was given.
+fn limits_of(matches: &ArgMatches<'_>) -> Result<Limits, Misuse>
+    ensures { MatchResult result (AreLimitsIn (rows_of (found_of matches.now)))
+        (LacksLimit (rows_of (found_of matches.now))) }
+{
+    let metadata = size_of(matches, SizeOption::LimitMetadata)?;
+    let body = size_of(matches, SizeOption::LimitBody)?;
     let rows = number_of(matches, "limit-rows", 0, Limits::ROWS_CEILING);
     let types = types_by(text_of(matches, "types"));
-    Limits::new(metadata, body, rows).unwrap().with_types(types)
+    Ok(Limits::new(metadata, body, rows).unwrap().with_types(types))
 }
 
 /// The set of types, by the word for it.
@@ -174,28 +201,31 @@ pub(crate) fn plan_of(
     alloc: Global,
     command: &str,
     given: &ArgMatches<'_>,
-) -> Result<Option<Plan>, AllocError>
-    ensures { IfOk result (λ plan. MatchOption plan (IsCommand command.now → ⊥)
+) -> Result<Option<Plan>, ArgFault>
+    ensures plan { IfOk result (λ plan. MatchOption plan (IsCommand command.now → ⊥)
         (λ p. IsPlan command.now (rows_of (found_of given.now)) p)) }
+    ensures fault { IfErr result (IsFaultIn command.now (rows_of (found_of given.now))) }
 {
     match task_of(alloc, command, given)? {
         Some(task) => Ok(Some(Plan {
             task,
-            limits: limits_of(given),
+            limits: limits_of(given)?,
         })),
         None => Ok(None),
     }
 }
 
 /// What the command of this name is to do; None where there is no such command.
-fn task_of(alloc: Global, command: &str, given: &ArgMatches<'_>) -> Result<Option<Task>, AllocError>
-    ensures { IfOk result (λ task. MatchOption task (IsCommand command.now → ⊥)
+fn task_of(alloc: Global, command: &str, given: &ArgMatches<'_>) -> Result<Option<Task>, ArgFault>
+    ensures task { IfOk result (λ task. MatchOption task (IsCommand command.now → ⊥)
         (λ t. IsTask command.now (rows_of (found_of given.now)) t)) }
+    ensures fault { IfErr result (IsFaultIn command.now (rows_of (found_of given.now))) }
 {
     Ok(Some(match command {
-        "schema" => Task::Schema(name_of(alloc, given, "FILE")?),
-        "check" => Task::Check(name_of(alloc, given, "FILE")?, is_given(given, "quiet")),
+        "schema" => Task::Schema(files_of(alloc, given)?),
+        "check" => Task::Check(files_of(alloc, given)?, is_given(given, "quiet")),
         "show" => show_of(alloc, given)?,
+        "explain" => Task::Explain(name_if_any(alloc, given, "FILE")?),
         "copy" => copy_of(alloc, given)?,
         "drill" => drill_of(alloc, given)?,
         // a text that names no command
@@ -203,30 +233,68 @@ fn task_of(alloc: Global, command: &str, given: &ArgMatches<'_>) -> Result<Optio
     }))
 }
 
+/// Which files are read.
+fn files_of(alloc: Global, given: &ArgMatches<'_>) -> Result<Files, AllocError>
+    ensures { IfOk result (AreFiles (rows_of (found_of given.now))) }
+{
+    let json = is_given(given, "json");
+    Ok(Files {
+        names: names_of(alloc, given, "FILE")?,
+        with_filename: is_given(given, "with-filename"),
+        json,
+    })
+}
+
 /// What is shown.
 fn show_of(alloc: Global, given: &ArgMatches<'_>) -> Result<Task, AllocError>
     ensures { IfOk result (λ t. IsTask (codes "show") (rows_of (found_of given.now)) t) }
 {
-    let file = name_of(alloc, given, "FILE")?;
-    let columns = names_if_any(alloc, given, "columns")?;
-    Ok(Task::Show(file, columns, number_if_any(given, "rows")))
+    let file = name_if_any(alloc, given, "FILE")?;
+    let options = ShowOptions {
+        columns: names_if_any(alloc, given, "columns")?,
+        batch: number_if_any(given, "batch"),
+        skip: number_if_any(given, "skip"),
+        rows: number_if_any(given, "rows"),
+        null: name_if_any(alloc, given, "null")?,
+        no_batch: is_given(given, "no-batch"),
+        json: is_given(given, "json"),
+    };
+    Ok(Task::Show(file, options))
 }
 
 /// What is copied, and how.
-fn copy_of(alloc: Global, given: &ArgMatches<'_>) -> Result<Task, AllocError>
-    ensures { IfOk result (λ t. IsTask (codes "copy") (rows_of (found_of given.now)) t) }
+fn copy_of(alloc: Global, given: &ArgMatches<'_>) -> Result<Task, ArgFault>
+    ensures task { IfOk result (λ t. IsTask (codes "copy") (rows_of (found_of given.now)) t) }
+    ensures fault { IfErr result (IsFaultIn (codes "copy") (rows_of (found_of given.now))) }
 {
     let input = name_of(alloc, given, "IN")?;
-    let output = name_of(alloc, given, "OUT")?;
-    Ok(Task::Copy(input, output, options_of(given)))
+    let output = name_if_any(alloc, given, "OUT")?;
+    match (is_given(given, "in-place"), output.is_some()) {
+        (true, true) => Err(ArgFault::Misused(Misuse::TwoOutputs)),
+        (false, false) => Err(ArgFault::Misused(Misuse::NoOutput)),
+        (true, false) | (false, true) => { Ok(Task::Copy(input, output, copy_options_of(given))) }
+    }
+}
+
+/// How a stream is copied.
+fn copy_options_of(given: &ArgMatches<'_>) -> CopyOptions
+    ensures { result ≡ copy_options_in (rows_of (found_of given.now)) }
+{
+    CopyOptions {
+        stream: options_of(given),
+        atomic: is_given(given, "atomic"),
+        no_clobber: is_given(given, "no-clobber"),
+        fail_downstream: is_given(given, "fail-downstream"),
+    }
 }
 
 /// What is drilled, and how.
-fn drill_of(alloc: Global, given: &ArgMatches<'_>) -> Result<Task, AllocError>
-    ensures { IfOk result (λ t. IsTask (codes "drill") (rows_of (found_of given.now)) t) }
+fn drill_of(alloc: Global, given: &ArgMatches<'_>) -> Result<Task, ArgFault>
+    ensures task { IfOk result (λ t. IsTask (codes "drill") (rows_of (found_of given.now)) t) }
+    ensures fault { IfErr result (IsFaultIn (codes "drill") (rows_of (found_of given.now))) }
 {
     let inputs = names_of(alloc, given, "FILE")?;
-    let bytes = number_of(given, "bytes", 0, MOST_BYTES);
-    let piece = number_of(given, "piece", 1, MOST_PIECE);
+    let bytes = size_of(given, SizeOption::Bytes)?;
+    let piece = size_of(given, SizeOption::Piece)?;
     Ok(Task::Drill(inputs, options_of(given), bytes, piece))
 }

@@ -2,8 +2,8 @@
 
 use crate::held::{Held, Intake, Pausing};
 use arrowflow::{
-    ColumnsFault, Counted, Limits, Options, Selection, ToolFault, check, copy, show, show_columns,
-    show_first,
+    ColumnsFault, CopyOptions, Counted, Limits, Selection, ToolFault, check, check_json, copy,
+    schema_json, show_json, show_selection,
 };
 use std::alloc::Global;
 use std::io::{Read, Write};
@@ -49,43 +49,69 @@ impl<I: Read + Drop, W: Write + Drop> Ends<I, W> {
         })
     }
 
-    /// Writes a line for each message.
-    pub(crate) fn check(self, alloc: Global, limits: &Limits) -> Ended {
+    /// Writes a line for each message, and gives the input back.
+    pub(crate) fn check(self, alloc: Global, limits: &Limits) -> (I, Ended) {
         let (mut input, output) = (self.input, Counted::new(self.output));
         let (_, answer) = check(alloc, &mut input, output, limits);
-        Ended::of(answer, &self.held)
+        (input.into_inner(), Ended::of(answer, &self.held))
     }
 
-    /// Writes the first so many rows, or all.
-    pub(crate) fn show(self, alloc: Global, rows: Option<u64>, limits: &Limits) -> Ended {
+    /// Writes a JSON object for each message, and gives the input back.
+    pub(crate) fn check_json(
+        self,
+        alloc: Global,
+        limits: &Limits,
+        file: Option<&str>,
+    ) -> (I, Ended) {
         let (mut input, output) = (self.input, Counted::new(self.output));
-        let (_, answer) = match rows {
-            Some(rows) => show_first(alloc, &mut input, output, rows, limits),
-            None => show(alloc, &mut input, output, limits),
-        };
-        Ended::of(answer, &self.held)
+        let (_, answer) = check_json(alloc, &mut input, output, limits, file);
+        (input.into_inner(), Ended::of(answer, &self.held))
     }
 
-    /// Writes some columns. An error is the place of the first of them that the schema lacks.
-    pub(crate) fn show_columns(
+    /// Writes a JSON object for each column, and gives the input back.
+    pub(crate) fn schema_json(
+        self,
+        alloc: Global,
+        limits: &Limits,
+        file: Option<&str>,
+    ) -> (I, Ended) {
+        let (mut input, output) = (self.input, Counted::new(self.output));
+        let (_, answer) = schema_json(alloc, &mut input, output, limits, file);
+        (input.into_inner(), Ended::of(answer, &self.held))
+    }
+
+    /// Writes a JSON object a row, and gives the input back.
+    pub(crate) fn show_json(self, alloc: Global, limits: &Limits) -> (I, Ended) {
+        let (mut input, output) = (self.input, Counted::new(self.output));
+        let (_, answer) = show_json(alloc, &mut input, output, limits);
+        (input.into_inner(), Ended::of(answer, &self.held))
+    }
+
+    /// Writes the selected rows, and gives the input back. An error is the place of the first column
+    /// asked for that the schema lacks.
+    pub(crate) fn show(
         self,
         alloc: Global,
         selection: &Selection<'_>,
         limits: &Limits,
-    ) -> Result<Ended, usize> {
+    ) -> (I, Result<Ended, usize>) {
         let (mut input, output) = (self.input, Counted::new(self.output));
-        let (_, answer) = show_columns(alloc, &mut input, output, selection, limits);
-        match answer {
+        let (_, answer) = show_selection(alloc, &mut input, output, selection, limits);
+        let ended = match answer {
             Ok(()) => Ok(Ended::of(Ok(()), &self.held)),
             Err(ColumnsFault::Tool(fault)) => Ok(Ended::of(Err(fault), &self.held)),
             Err(ColumnsFault::Lacks(place)) => Err(place),
-        }
+        };
+        (input.into_inner(), ended)
     }
 
     /// Writes the stream again, and gives the input back.
-    pub(crate) fn copy(self, alloc: Global, options: Options, limits: &Limits) -> (I, Ended) {
+    pub(crate) fn copy(self, alloc: Global, options: CopyOptions, limits: &Limits) -> (I, Ended) {
         let (mut input, output) = (self.input, Counted::new(self.output));
-        let (_, answer) = copy(alloc, &mut input, output, options, limits);
+        let (_, answer) = copy(alloc, &mut input, output, options.stream, limits);
+        if options.fail_downstream && answer.is_err() {
+            self.held.cut();
+        }
         (input.into_inner(), Ended::of(answer, &self.held))
     }
 }

@@ -88,18 +88,24 @@ impl<F: Write + Drop, O: Write + Drop> Write for Destination<F, O> {
     }
 }
 
-/// Opens the output of this name: a file is created, and emptied where it is there.
+/// Opens the output of this name: a file is created, and one that exists is emptied, or with
+/// `no_clobber` an error.
 pub(crate) fn create<'a, R: Files + Print>(
     rt: &'a R,
     name: &str,
-) -> Result<Destination<R::File, io::Printer<'a, R>>, ToolFault>
+    no_clobber: bool,
+) -> io::Result<Destination<R::File, io::Printer<'a, R>>>
 where
     R::File: Drop,
 {
     if is_standard(name) {
         return Ok(Destination::Standard(io::writer(rt)));
     }
-    let file = File::create(rt, name).map_err(|_| ToolFault::Output)?;
+    let file = if no_clobber {
+        File::create_new(rt, name)?
+    } else {
+        File::create(rt, name)?
+    };
     Ok(Destination::File(file))
 }
 

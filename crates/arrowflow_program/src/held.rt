@@ -14,6 +14,9 @@ use std::rc::Rc;
 /// How many bytes may wait: as many as an input is asked for at once.
 const ROOM: usize = 65_536;
 
+/// The continuation word of a message and the size of its metadata, of which no byte follows.
+const BEGINNING: [u8; 8] = [0xff, 0xff, 0xff, 0xff, 8, 0, 0, 0];
+
 /// An output whose bytes wait until there are enough of them, or until its command reads on: what
 /// comes of one piece of an input is written together, and nothing waits for an input that is slow.
 #[derive(Drop)]
@@ -60,6 +63,16 @@ impl<W: Write + Drop> Held<W> {
             Err(_) => Err(io::Error::from(ErrorKind::ResourceBusy)),
         };
         self.watched(written)
+    }
+
+    /// Takes the beginning of a message that has no end, for whoever reads on. What cannot be written
+    /// is remembered as failed.
+    pub(crate) fn cut(&self) {
+        let written = match self.writer.try_borrow_mut() {
+            Ok(mut writer) => writer.write_all(&BEGINNING),
+            Err(_) => Err(io::Error::from(ErrorKind::ResourceBusy)),
+        };
+        let _ = self.watched(written);
     }
 
     /// Writes what waits. `Output` where it cannot be written, and where a call before failed.

@@ -1,23 +1,13 @@
-//! An input of which it is told, to who looks on, how far it was read.
+//! An input that reports on a terminal how far it was read.
+
+ghost use Rattle.std.specs.Prelude.{◌≤◌};
 
 use std::io;
-use std::io::{IsTerminal, Read};
+use std::io::Read;
 use std::time::{Clock, Duration, Instant};
 
 /// How many bytes a MiB has.
 const MEBIBYTE: u64 = 1_048_576;
-
-/// A runtime that knows whether someone looks on.
-pub(crate) trait Onlooker {
-    /// Whether standard error is a terminal.
-    fn looks_on(&self) -> bool;
-}
-
-impl Onlooker for HostRuntime {
-    fn looks_on(&self) -> bool {
-        self.stderr().is_terminal()
-    }
-}
 
 /// An input, and how far it was read where that is told. Its bytes are those of the input.
 #[derive(Drop)]
@@ -59,7 +49,9 @@ pub(crate) struct Progress<'a, R: Clock + Eprint> {
     command: &'static str,
     size: Option<u64>,
     read: u64,
-    // When it was told last, or the input opened.
+    // When the input was opened.
+    start: Instant,
+    // When it was reported last, or the input opened.
     last: Instant,
     is_told: bool,
 }
@@ -73,12 +65,13 @@ impl<'a, R: Clock + Eprint> Progress<'a, R> {
         size: Option<u64>,
     ) -> Option<Progress<'a, R>> {
         match Instant::now(rt) {
-            Ok(last) => Some(Progress {
+            Ok(start) => Some(Progress {
                 rt,
                 command,
                 size,
                 read: 0,
-                last,
+                start,
+                last: start,
                 is_told: false,
             }),
             Err(_) => None,
@@ -98,23 +91,37 @@ impl<'a, R: Clock + Eprint> Progress<'a, R> {
         }
     }
 
-    /// Tells how many bytes came, and of how many. A line that cannot be written is left out.
+    /// Reports how many bytes came, of how many, how many in a second, and how many seconds are left.
+    /// A line that cannot be written is left out.
     fn tell(&self) {
         let command = self.command;
         let read = self.read / MEBIBYTE;
+        let rate = self.rate();
+        let speed = rate / MEBIBYTE;
         let _ = match self.size {
             Some(size) => {
+                let left = size.saturating_sub(self.read) / rate;
                 let size = size / MEBIBYTE;
-                eprint!(self.rt; "\r{command}: {read} MiB of {size} MiB")
+                eprint!(self.rt;
+                    "\r{command}: {read} MiB of {size} MiB, {speed} MiB/s, {left} s left "
+                )
             }
-            None => eprint!(self.rt; "\r{command}: {read} MiB"),
+            None => eprint!(self.rt; "\r{command}: {read} MiB, {speed} MiB/s "),
         };
+    }
+
+    /// How many bytes came in a second, 1 at least.
+    fn rate(&self) -> u64
+        ensures { 1 ≤ result }
+    {
+        let seconds = self.last.duration_since(self.start).as_secs().max(1);
+        (self.read / seconds).max(1)
     }
 
     /// Writes spaces over what was told.
     fn clear(&self) {
         if self.is_told {
-            let _ = eprint!(self.rt; "\r{:60}\r", "");
+            let _ = eprint!(self.rt; "\r{:70}\r", "");
         }
     }
 }

@@ -27,7 +27,7 @@ lacks_schema choice schema ended place h = absurd h
 -- and only where rows are told
 pub lacks_rows : (report : Report) (schema : Option SchemaShape) (place : ℕ) → LacksColumn (choice_of report) schema place → AreRows report
 lacks_rows Messages schema place h = absurd h
-lacks_rows (Rows choice) schema place h = tt
+lacks_rows (Rows layout) schema place h = tt
 
 -- a schema that has all columns lacks none
 has_none : (choice : Choice) (schema : Option SchemaShape) (place : ℕ) → HaveChosen choice schema → LacksColumn choice schema place → ⊥

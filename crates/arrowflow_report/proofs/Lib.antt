@@ -1,8 +1,8 @@
 mod Chars
 pub mod First
-mod FirstRows
-mod FirstTold
-mod FirstReported
+mod Windows
+mod WindowTold
+mod WindowReported
 pub mod Found
 mod Indented
 pub mod Driving

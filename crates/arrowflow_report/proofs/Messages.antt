@@ -1,9 +1,10 @@
 -- A stream that is told message by message: what each message leaves, and how the telling ends.
-use Rattle.std.proofs.Common.{◌≡◌, ℕ, ◌+◌, List, [], ◌∷◌, ◌++◌, length, take, drop, Bool, true, false, Option, None, Some, Result, Ok, Err, ◌⊎◌, inl, inr, refl, sym, ap, ◌∙◌, subst, append_assoc, append-nil, take-append-drop, arith}
+use Rattle.std.proofs.Common.{◌≡◌, ℕ, ◌+◌, List, [], ◌∷◌, ◌++◌, length, take, drop, Bool, true, false, Option, None, Some, Result, Ok, Err, ◌⊎◌, inl, inr, refl, sym, ap, ◌∙◌, subst, append_assoc, append-nil, take-append-drop}
 use Rattle.std.specs.Prelude.{OnOk}
 use Rattle.std.specs.Io.KnownBytes.{Appends, Consumes}
 use Rattle.std.proofs.KnownBytes.{Appends-nil}
 use Rattle.arrow_types.specs.Limits.{LimitNumbers}
+use Rattle.arrow_csv.specs.Layouts.{form_by}
 use Rattle.arrow_csv.specs.Named.{choice_by, chosen_schema}
 use Rattle.arrow_stream_reader.specs.declared.item.Item.{Item}
 use Rattle.arrow_stream_reader.specs.Front.{Entry, Standing}
@@ -12,25 +13,27 @@ use Rattle.arrow_stream_reader.specs.Stream.{ReaderView, ReaderStands}
 use Rattle.arrow_stream_reader.specs.Tables.{table_in, tables_of}
 use Rattle.arrow_stream_reader.specs.Views.{given}
 use Rattle.arrow_sink.specs.Sinks.{AcceptsBeginning}
-use Rattle.arrowflow_report.specs.Chosen.{AreRows, IsChosenAt, LacksAt, LacksColumn, IsChosenText, choice_of, chosen_given}
+use Rattle.arrow_types.specs.Notes.{SchemaShape}
+use Rattle.arrowflow_report.specs.Chosen.{AreRows, HaveChosen, IsChosenAt, LacksAt, LacksColumn, choice_of, chosen_given, form_of}
 use Rattle.arrowflow_report.specs.Columns.{BeginWithout, LacksInput}
 use Rattle.arrowflow_report.specs.Consumer.{Comes, HasEnded, IsEndedBy, entry_of}
 use Rattle.arrowflow_report.specs.Driver.{CallForMore, Driven, EndBadly, FailToRead, WantMemory}
-use Rattle.arrowflow_report.specs.FirstRows.{AreLeft, HasLast, HasMore, IsFirstTold, IsLastIn, IsShortAt, ShowsFirst, ShowsFirstOf, left_behind, rows_of}
+use Rattle.arrowflow_report.specs.Windows.{AreLeft, IsOver, IsPartIn, IsPartTold, IsShortAt, ShowsWindow, ShowsWindowOf, window_after}
 use Rattle.arrowflow_report.specs.Reads.{IsReadWhile}
 use Rattle.arrowflow_report.specs.Reports.{EndsBadly, EndsWell, IsAdded, IsBegun, IsEnding, IsLast, IsOpenAt, IsTextOf, IsTold, IsWritten, Reports, ReportsInput, SendsSome, SendsText}
 use Rattle.arrowflow_report.specs.SchemaCall.{AreNoMessage}
-use Rattle.arrowflow_report.specs.Telling.{HasTold, IsLastBy, LeftAre, ShowsOrLacks, ShowsSo, TellingBegan, TellsSo}
+use Rattle.arrowflow_report.specs.Telling.{HasTold, IsLastBy, IsToldBy, LeftAre, ShowsOrLacks, ShowsSo, TellingBegan, TellsSo}
 use Rattle.arrowflow_report.specs.declared.report.Report.{Report}
 use Rattle.arrowflow_report.specs.declared.report.Report.TheVariants.{Messages, Rows}
 use Rattle.arrowflow_report.specs.declared.telling.Teller.{Teller}
 use Rattle.arrowflow_report.specs.declared.tool_fault.ToolFault.{ToolFault}
+use Rattle.arrowflow_report.specs.declared.window.Window.{Window}
 use Rattle.arrowflow_report.specs.declared.tool_fault.ToolFault.TheVariants.{Input, Output, Stream, Refused, Memory}
 use Rattle.arrowflow_report.proofs.Driving.{badly_at, read_while_so, standing_of, well_at}
 use Rattle.arrowflow_report.proofs.First.{one_entry, state_stays}
-use Rattle.arrowflow_report.proofs.FirstReported.{first_longer, begun_so, ending_cut, ending_told, first_badly, first_enough_flushed, first_input, first_memory, flushed_by}
-use Rattle.arrowflow_report.proofs.FirstRows.{none_last, not_there, rows_text, stays_all}
-use Rattle.arrowflow_report.proofs.FirstTold.{first_cut, first_enough, first_last_cut, first_left}
+use Rattle.arrowflow_report.proofs.WindowReported.{first_longer, begun_so, ending_cut, ending_told, first_badly, first_enough_flushed, first_input, first_memory, flushed_by}
+use Rattle.arrowflow_report.proofs.Windows.{not_there, nothing_within, rows_text, within_before}
+use Rattle.arrowflow_report.proofs.WindowTold.{part_cut, part_enough, part_told}
 use Rattle.arrowflow_report.proofs.Growing.{have_before, nothing_before, text_before}
 use Rattle.arrowflow_report.proofs.Lacking.{lack_waits, lacks_rows, lacks_schema, none_before}
 use Rattle.arrowflow_report.proofs.Reporting.{cut_begun, flushed, more_begun, more_written, written}
@@ -46,33 +49,49 @@ cut_short text held held' failed failed' (Input n) sent out memory = absurd sent
 cut_short text held held' failed failed' (Stream fault) sent out memory = absurd sent
 cut_short text held held' failed failed' (Refused what kind) sent out memory = absurd sent
 
+-- nothing was written before the schema
+nothing_by : (wanted : Option Window) (report : Report) → AreRows report → (es : List Entry) (text : List ℕ) → IsToldBy wanted report None es text → text ≡ []
+nothing_by None report rows es text is = text_before (form_of report) (choice_of report) (tables_of es) text (rows_text report rows None es text is).1
+nothing_by (Some w) report rows es text is = within_before (form_of report) (choice_of report) w (tables_of es) text is.1
+
+-- the schema of a text has the columns that are chosen
+chosen_by : (wanted : Option Window) (report : Report) → AreRows report → (schema : Option SchemaShape) (es : List Entry) (text : List ℕ) → IsToldBy wanted report schema es text → HaveChosen (choice_of report) schema
+chosen_by None report rows schema es text is = (rows_text report rows schema es text is).0
+chosen_by (Some w) report rows schema es text is = is.0
+
+-- what is wanted is a window, or all
+is_window : {w : Option Window} {u : Window} → w ≡ None → w ≡ Some u → ⊥
+is_window none some = let q = sym none ∙ some in absurd (cc)
+
 module _ {S : Type 0} (contents : S → Option (List ℕ)) (failed : S → ℕ) (is_passed_on : S → Type 0) (began : TellingBegan) where
   -- the text of the messages so far, at the bytes at which the reader stands
-  abbrev told_at : (c : Teller S) (r : ReaderView) (t : List ℕ) (es : List Entry) → ReaderStands r t es → HasTold contents failed began c r.limits r.at.state es → IsTold c.report began.first (contents c.output) c.number r t es
-  told_at c r t es at x = record { text = x.text; stands = at; is = x.is; wrote = x.wrote; counted = x.counted }
+  abbrev told_at : (c : Teller S) (r : ReaderView) (t : List ℕ) (es : List Entry) → ReaderStands r t es → (x : HasTold contents failed began c r.limits r.at.state es) → IsTextOf c.report r.at.state.schema es x.text
+      → IsTold c.report began.first (contents c.output) c.number r t es
+  told_at c r t es at x is = record { text = x.text; stands = at; is = is; wrote = x.wrote; counted = x.counted }
 
-  -- the same where so many rows are wanted
-  abbrev first_at : (c : Teller S) (r : ReaderView) (t : List ℕ) (es : List Entry) → ReaderStands r t es → HasTold contents failed began c r.limits r.at.state es → (n : ℕ) → AreLeft n c.left es
-      → IsFirstTold n c.report began.first (contents c.output) c.number c.left r t
-  first_at c r t es at x n left = record { entries = es; told = told_at c r t es at x; left_are = left }
+  -- the same where the rows of a window are wanted
+  abbrev part_at : (c : Teller S) (r : ReaderView) (t : List ℕ) (es : List Entry) → ReaderStands r t es → (x : HasTold contents failed began c r.limits r.at.state es) → (w : Window) → IsToldBy (Some w) c.report r.at.state.schema es x.text → AreLeft w c.window es
+      → IsPartTold (form_of c.report) (choice_of c.report) w began.first (contents c.output) c.number c.window r t es
+  part_at c r t es at x w is left = record { stands = at; has = is.0; text = x.text; is = is.1; wrote = x.wrote; counted = x.counted; left_are = left }
 
   -- an answer of a schema that lacks nothing
   answered : (c c' : Teller S) (r : ReaderView) (bytes : List ℕ) (left : Option (List ℕ)) (answer : Result (Unit {0}) ToolFault) → c.report ≡ began.report → c'.lacks ≡ None
-      → ShowsSo began.rows c.report r.limits bytes left began.first began.failures answer (contents c'.output) (failed c'.output) → OnOk answer (is_passed_on c'.output) → TellsSo contents failed is_passed_on began c' answer r bytes left
+      → ShowsSo began.window c.report r.limits bytes left began.first began.failures answer (contents c'.output) (failed c'.output) → OnOk answer (is_passed_on c'.output) → TellsSo contents failed is_passed_on began c' answer r bytes left
   answered c c' r bytes left answer same none shows passed = (
     subst (λ l. ShowsOrLacks l began r.limits bytes left answer (contents c'.output) (failed c'.output)) (sym none)
-        (subst (λ p. ShowsSo began.rows p r.limits bytes left began.first began.failures answer (contents c'.output) (failed c'.output)) same shows),
+        (subst (λ p. ShowsSo began.window p r.limits bytes left began.first began.failures answer (contents c'.output) (failed c'.output)) same shows),
     λ q. passed,
   )
 
   -- ---- a message
 
   module _ (c : Teller S) (place : ℕ) (item : Item) (old new : ReaderView) (t : List ℕ) (es : List Entry) (piece : List ℕ) (n : ℕ) (comes : Comes place item old new t es piece n) (x : HasTold contents failed began c old.limits old.at.state es) where
-    abbrev told : IsTold c.report began.first (contents c.output) c.number old t es
-    told = told_at c old t es comes.before x
+    abbrev told : IsTextOf c.report old.at.state.schema es x.text → IsTold c.report began.first (contents c.output) c.number old t es
+    told is = told_at c old t es comes.before x is
 
-    abbrev first_told : (k : ℕ) → AreLeft k c.left es → IsFirstTold k c.report began.first (contents c.output) c.number c.left old t
-    first_told k left = first_at c old t es comes.before x k left
+    -- the rows of a window were written so far
+    part : (v : Window) → c.window ≡ Some v → (w : Window) → IsToldBy (Some w) c.report old.at.state.schema es x.text → AreLeft w c.window es → IsPartTold (form_of c.report) (choice_of c.report) w began.first (contents c.output) c.number (Some v) old t es
+    part v is w text left = subst (λ u. IsPartTold (form_of c.report) (choice_of c.report) w began.first (contents c.output) c.number u old t es) is (part_at c old t es comes.before x w text left)
 
     -- it is a schema that lacks a column which is asked for
     pub message_lacks : (column : ℕ) → LacksAt (choice_of c.report) new.at.state.schema (given item) column → (c' : Teller S) → c'.report ≡ c.report → c'.output ≡ c.output → c'.lacks ≡ Some column → (left : Option (List ℕ))
@@ -82,8 +101,7 @@ module _ {S : Type 0} (contents : S → Option (List ℕ)) (failed : S → ℕ) 
         let schema = lacks_schema choice new.at.state.schema (given item) column lacks in
         let rows = lacks_rows c.report new.at.state.schema column schema.1 in
         let none = none_before es (entry_of item t n) comes.gives.stands.front schema.0 in
-        let text = (rows_text c.report rows old.at.state.schema es x.text x.is).1 in
-        let nothing : x.text ≡ [] = text_before choice (tables_of es) x.text (subst (λ (s : StreamState). IsChosenText choice s.schema (tables_of es) x.text) (state_stays comes.before.front none) text) in
+        let nothing : x.text ≡ [] = nothing_by began.window c.report rows es x.text (subst (λ (s : StreamState). IsToldBy began.window c.report s.schema es x.text) (state_stays comes.before.front none) x.is) in
         let opens = one_entry comes.gives.stands.front refl (entry_of item t n) (ap (λ fs. fs ++ entry_of item t n ∷ []) none) in
         let joined : t ++ piece ≡ (t ++ take n piece) ++ drop n piece = ap (λ y. t ++ y) (sym (take-append-drop n piece)) ∙ sym (append_assoc t (take n piece) (drop n piece)) in
         let begins : BeginWithout choice new.limits (t ++ piece) column =
@@ -95,101 +113,116 @@ module _ {S : Type 0} (contents : S → Option (List ℕ)) (failed : S → ℕ) 
           λ q. let z = sym is ∙ q in absurd (cc),
         )
 
-    -- it has the last row that is wanted: its rows were sent, and the output was flushed
-    pub message_enough : (rows : ℕ) → HasLast c.left (given item) rows → IsChosenAt (choice_of c.report) new.at.state.schema (given item) → (held' : Option (List ℕ)) (failed' : ℕ)
-        → SendsSome (IsLastIn rows (chosen_schema (choice_of c.report) new.at.state.schema) c.number (chosen_given (choice_of c.report) (given item))) (contents c.output) (failed c.output) (Ok tt) held' failed'
+    -- its rows in the window were sent, and no row is wanted any more: the output was flushed
+    pub message_enough : (v : Window) → c.window ≡ Some v → IsChosenAt (choice_of c.report) new.at.state.schema (given item) → (held' : Option (List ℕ)) (failed' : ℕ)
+        → SendsSome (IsPartIn (form_of c.report) v (chosen_schema (choice_of c.report) new.at.state.schema) c.number (chosen_given (choice_of c.report) (given item))) (contents c.output) (failed c.output) (Ok tt) held' failed'
+        → IsOver (window_after v c.number (table_in (given item))) (c.number + length (table_in (given item)))
         → (c' : Teller S) → c'.report ≡ c.report → c'.lacks ≡ c.lacks → (answer : Result (Unit {0}) ToolFault) → SendsText held' failed' [] answer (contents c'.output) (failed c'.output) → OnOk answer (is_passed_on c'.output) → (left : Option (List ℕ))
         → TellsSo contents failed is_passed_on began c' answer new (t ++ piece) left
-    message_enough rows last has held' failed' sent c' same lacks answer flush passed left =
-        answered c c' new (t ++ piece) left answer x.report_is (lacks ∙ x.lacks_none) (by began.rows x.left_are) passed
+    message_enough v window has held' failed' sent over c' same lacks answer flush passed left =
+        answered c c' new (t ++ piece) left answer x.report_is (lacks ∙ x.lacks_none) (by began.window x.left_are x.is) passed
       where
-        by : (wanted : Option ℕ) → LeftAre wanted c.left c.report es → ShowsSo wanted c.report new.limits (t ++ piece) left began.first began.failures answer (contents c'.output) (failed c'.output)
-        by None none = absurd (none_last c.left (given item) rows last none)
-        by (Some k) wants =
-            let enough = first_enough k c.report wants.0 began.first (contents c.output) c.number c.left old new t piece (first_told k wants.1) n item comes.is_open comes.limits comes.gives rows last has sent.0 sent.1 held' sent.2.0 in
-            first_enough_flushed (choice_of c.report) k new.limits t piece left began.first held' began.failures (failed c.output) failed' new refl x.failures_are enough sent.2.1 (contents c'.output) (failed c'.output) answer flush
+        by : (wanted : Option Window) → LeftAre wanted c.window c.report es → IsToldBy wanted c.report old.at.state.schema es x.text → ShowsSo wanted c.report new.limits (t ++ piece) left began.first began.failures answer (contents c'.output) (failed c'.output)
+        by None none is = absurd (is_window none window)
+        by (Some w) wants is =
+            let enough = part_enough (form_of c.report) (choice_of c.report) w v began.first (contents c.output) c.number old new t piece es (part v window w is wants.1) n item comes.is_open comes.limits comes.gives has sent.0 sent.1 held' sent.2.0 over in
+            first_enough_flushed (form_of c.report) (choice_of c.report) w new.limits t piece left began.first held' began.failures (failed c.output) failed' new refl x.failures_are enough sent.2.1 (contents c'.output) (failed c'.output) answer flush
+
+    -- more are wanted
+    pub part_message_told : (v : Window) → c.window ≡ Some v → IsChosenAt (choice_of c.report) new.at.state.schema (given item) → (c' : Teller S)
+        → SendsSome (IsPartIn (form_of c.report) v (chosen_schema (choice_of c.report) new.at.state.schema) c.number (chosen_given (choice_of c.report) (given item))) (contents c.output) (failed c.output) (Ok tt) (contents c'.output) (failed c'.output)
+        → (IsOver (window_after v c.number (table_in (given item))) (c.number + length (table_in (given item))) → ⊥)
+        → c'.number ≡ c.number + length (table_in (given item)) → c'.window ≡ Some (window_after v c.number (table_in (given item))) → c'.report ≡ c.report → c'.lacks ≡ c.lacks
+        → HasTold contents failed began c' new.limits new.at.state (es ++ entry_of item t n ∷ [])
+    part_message_told v window has c' sent more count lefts same lacks = by began.window refl x.left_are x.is
+      where
+        by : (wanted : Option Window) → began.window ≡ wanted → LeftAre wanted c.window c.report es → IsToldBy wanted c.report old.at.state.schema es x.text → HasTold contents failed began c' new.limits new.at.state (es ++ entry_of item t n ∷ [])
+        by None asked none is = absurd (is_window none window)
+        by (Some w) asked wants is =
+            let next = part_told (form_of c.report) (choice_of c.report) w v began.first (contents c.output) c.number old new t piece es (part v window w is wants.1) n item comes.is_open comes.limits comes.gives has sent.0 sent.1 (contents c'.output) sent.2.0 more in
+            let text : IsToldBy (Some w) c'.report new.at.state.schema (es ++ entry_of item t n ∷ []) next.text =
+            subst (λ p. IsToldBy (Some w) p new.at.state.schema (es ++ entry_of item t n ∷ []) next.text) (sym same) (next.has, next.is) in
+            let left : LeftAre (Some w) c'.window c'.report (es ++ entry_of item t n ∷ []) = (subst AreRows (sym same) wants.0, subst (λ l. AreLeft w l (es ++ entry_of item t n ∷ [])) (sym lefts) next.left_are) in
+            record {
+              report_is = same ∙ x.report_is;
+              text = next.text;
+              is = subst (λ a. IsToldBy a c'.report new.at.state.schema (es ++ entry_of item t n ∷ []) next.text) (sym asked) text;
+              wrote = next.wrote;
+              counted = count ∙ next.counted;
+              failures_are = sent.2.1 ∙ x.failures_are;
+              left_are = subst (λ a. LeftAre a c'.window c'.report (es ++ entry_of item t n ∷ [])) (sym asked) left;
+              lacks_none = lacks ∙ x.lacks_none;
+            }
 
     -- or they were not sent to their end
-    pub message_cut : (rows : ℕ) → HasLast c.left (given item) rows → IsChosenAt (choice_of c.report) new.at.state.schema (given item) → (c' : Teller S) → c'.report ≡ c.report → c'.lacks ≡ c.lacks → (f : ToolFault)
-        → SendsSome (IsLastIn rows (chosen_schema (choice_of c.report) new.at.state.schema) c.number (chosen_given (choice_of c.report) (given item))) (contents c.output) (failed c.output) (Err f) (contents c'.output) (failed c'.output)
+    pub message_cut : (v : Window) → c.window ≡ Some v → IsChosenAt (choice_of c.report) new.at.state.schema (given item) → (c' : Teller S) → c'.report ≡ c.report → c'.lacks ≡ c.lacks → (f : ToolFault)
+        → SendsSome (IsPartIn (form_of c.report) v (chosen_schema (choice_of c.report) new.at.state.schema) c.number (chosen_given (choice_of c.report) (given item))) (contents c.output) (failed c.output) (Err f) (contents c'.output) (failed c'.output)
         → (left : Option (List ℕ)) → TellsSo contents failed is_passed_on began c' (Err f) new (t ++ piece) left
-    message_cut rows last has c' same lacks f sent left =
-        answered c c' new (t ++ piece) left (Err f) x.report_is (lacks ∙ x.lacks_none) (by began.rows x.left_are) tt
+    message_cut v window has c' same lacks f sent left =
+        answered c c' new (t ++ piece) left (Err f) x.report_is (lacks ∙ x.lacks_none) (by began.window x.left_are x.is) tt
       where
-        by : (wanted : Option ℕ) → LeftAre wanted c.left c.report es → ShowsSo wanted c.report new.limits (t ++ piece) left began.first began.failures (Err f) (contents c'.output) (failed c'.output)
-        by None none = absurd (none_last c.left (given item) rows last none)
-        by (Some k) wants =
+        by : (wanted : Option Window) → LeftAre wanted c.window c.report es → IsToldBy wanted c.report old.at.state.schema es x.text → ShowsSo wanted c.report new.limits (t ++ piece) left began.first began.failures (Err f) (contents c'.output) (failed c'.output)
+        by None none is = absurd (is_window none window)
+        by (Some w) wants is =
             let begun = λ (h : AcceptsBeginning (contents c.output) (contents c'.output) sent.0).
-            begun_so (choice_of c.report) k new.limits t piece left began.first (contents c'.output) began.failures (failed c.output) (failed c'.output) new refl x.failures_are
-            (first_last_cut k c.report wants.0 began.first (contents c.output) c.number c.left old new t piece (first_told k wants.1) n item comes.is_open comes.limits comes.gives rows last has sent.0 sent.1 (contents c'.output) h) in
+            begun_so (form_of c.report) (choice_of c.report) w new.limits t piece left began.first (contents c'.output) began.failures (failed c.output) (failed c'.output) new refl x.failures_are
+            (part_cut (form_of c.report) (choice_of c.report) w v began.first (contents c.output) c.number old new t piece es (part v window w is wants.1) n item comes.is_open comes.limits comes.gives has sent.0 sent.1 (contents c'.output) h) in
             cut_short sent.0 (contents c.output) (contents c'.output) (failed c.output) (failed c'.output) f sent.2
-            (λ h w. subst (λ g. ShowsFirst (choice_of c.report) k new.limits (t ++ piece) left began.first began.failures (Err g) (contents c'.output) (failed c'.output)) (sym w.1) (begun h, w.0 ∙ ap (λ m. m + 1) x.failures_are))
-            (λ h w. subst (λ g. ShowsFirst (choice_of c.report) k new.limits (t ++ piece) left began.first began.failures (Err g) (contents c'.output) (failed c'.output)) (sym w.1) (begun h, w.0 ∙ x.failures_are))
+            (λ h z. subst (λ g. ShowsWindow (form_of c.report) (choice_of c.report) w new.limits (t ++ piece) left began.first began.failures (Err g) (contents c'.output) (failed c'.output)) (sym z.1) (begun h, z.0 ∙ ap (λ m. m + 1) x.failures_are))
+            (λ h z. subst (λ g. ShowsWindow (form_of c.report) (choice_of c.report) w new.limits (t ++ piece) left began.first began.failures (Err g) (contents c'.output) (failed c'.output)) (sym z.1) (begun h, z.0 ∙ x.failures_are))
 
     -- what was sent is what the message adds at the place where it began
     here : (text : List ℕ) → IsAdded c.report new.at.state.schema place c.number (given item) text → IsAdded c.report new.at.state.schema old.at.place c.number (given item) text
     here text h = subst (λ p. IsAdded c.report new.at.state.schema p c.number (given item) text) comes.begins h
 
-    -- more is wanted, and its text was sent
-    pub message_told : HasMore c.left (given item) → (c' : Teller S) → SendsSome (IsAdded c.report new.at.state.schema place c.number (given item)) (contents c.output) (failed c.output) (Ok tt) (contents c'.output) (failed c'.output)
-        → c'.number ≡ c.number + length (table_in (given item)) → c'.left ≡ left_behind c.left (rows_of (table_in (given item))) → c'.report ≡ c.report → c'.lacks ≡ c.lacks
+    -- all rows are wanted, and its text was sent
+    pub message_told : c.window ≡ None → (c' : Teller S) → SendsSome (IsAdded c.report new.at.state.schema place c.number (given item)) (contents c.output) (failed c.output) (Ok tt) (contents c'.output) (failed c'.output)
+        → c'.number ≡ c.number + length (table_in (given item)) → c'.window ≡ c.window → c'.report ≡ c.report → c'.lacks ≡ c.lacks
         → HasTold contents failed began c' new.limits new.at.state (es ++ entry_of item t n ∷ [])
-    message_told more c' sent count lefts same lacks =
-        let next = told_next c.report began.first (contents c.output) c.number old new t piece es n item comes.is_open comes.limits told comes.gives sent.0 (here sent.0 sent.1) (contents c'.output) sent.2.0 in
-        record {
-          report_is = same ∙ x.report_is;
-          text = next.text;
-          is = subst (λ p. IsTextOf p new.at.state.schema (es ++ entry_of item t n ∷ []) next.text) (sym same) next.is;
-          wrote = next.wrote;
-          counted = count ∙ next.counted;
-          failures_are = sent.2.1 ∙ x.failures_are;
-          left_are = by began.rows x.left_are;
-          lacks_none = lacks ∙ x.lacks_none;
-        }
+    message_told all c' sent count lefts same lacks = by began.window refl x.left_are x.is
       where
-        by : (wanted : Option ℕ) → LeftAre wanted c.left c.report es → LeftAre wanted c'.left c'.report (es ++ entry_of item t n ∷ [])
-        by None none = stays_all c.left c'.left (rows_of (table_in (given item))) lefts none
-        by (Some k) wants = (
-          subst AreRows (sym same) wants.0,
-          subst (λ l. AreLeft k l (es ++ entry_of item t n ∷ [])) (sym lefts) (first_left k c.report wants.0 began.first (contents c.output) c.number c.left old new t piece (first_told k wants.1) n item comes.is_open comes.limits comes.gives more),
-        )
+        by : (wanted : Option Window) → began.window ≡ wanted → LeftAre wanted c.window c.report es → IsToldBy wanted c.report old.at.state.schema es x.text → HasTold contents failed began c' new.limits new.at.state (es ++ entry_of item t n ∷ [])
+        by (Some w) asked wants is = absurd (subst (λ l. AreLeft w l es) all wants.1)
+        by None asked none is =
+            let next = told_next c.report began.first (contents c.output) c.number old new t piece es n item comes.is_open comes.limits (told is) comes.gives sent.0 (here sent.0 sent.1) (contents c'.output) sent.2.0 in
+            record {
+              report_is = same ∙ x.report_is;
+              text = next.text;
+              is = subst (λ a. IsToldBy a c'.report new.at.state.schema (es ++ entry_of item t n ∷ []) next.text) (sym asked) (subst (λ p. IsTextOf p new.at.state.schema (es ++ entry_of item t n ∷ []) next.text) (sym same) next.is);
+              wrote = next.wrote;
+              counted = count ∙ next.counted;
+              failures_are = sent.2.1 ∙ x.failures_are;
+              left_are = subst (λ a. LeftAre a c'.window c'.report (es ++ entry_of item t n ∷ [])) (sym asked) (lefts ∙ all);
+              lacks_none = lacks ∙ x.lacks_none;
+            }
 
     -- or it was not sent to its end
-    pub message_broken : HasMore c.left (given item) → (c' : Teller S) → c'.report ≡ c.report → c'.lacks ≡ c.lacks → (f : ToolFault)
+    pub message_broken : c.window ≡ None → (c' : Teller S) → c'.report ≡ c.report → c'.lacks ≡ c.lacks → (f : ToolFault)
         → SendsSome (IsAdded c.report new.at.state.schema place c.number (given item)) (contents c.output) (failed c.output) (Err f) (contents c'.output) (failed c'.output) → (left : Option (List ℕ))
         → TellsSo contents failed is_passed_on began c' (Err f) new (t ++ piece) left
-    message_broken more c' same lacks f sent left =
-        answered c c' new (t ++ piece) left (Err f) x.report_is (lacks ∙ x.lacks_none) (by began.rows x.left_are) tt
+    message_broken all c' same lacks f sent left =
+        answered c c' new (t ++ piece) left (Err f) x.report_is (lacks ∙ x.lacks_none) (by began.window x.left_are x.is) tt
       where
-        by : (wanted : Option ℕ) → LeftAre wanted c.left c.report es → ShowsSo wanted c.report new.limits (t ++ piece) left began.first began.failures (Err f) (contents c'.output) (failed c'.output)
-        by None none =
+        by : (wanted : Option Window) → LeftAre wanted c.window c.report es → IsToldBy wanted c.report old.at.state.schema es x.text → ShowsSo wanted c.report new.limits (t ++ piece) left began.first began.failures (Err f) (contents c'.output) (failed c'.output)
+        by (Some w) wants is = absurd (subst (λ l. AreLeft w l es) all wants.1)
+        by None none is =
             let begun = λ (h : AcceptsBeginning (contents c.output) (contents c'.output) sent.0).
-            cut_begun c.report new.limits t piece began.first (contents c'.output) new refl (cut_next c.report began.first (contents c.output) c.number old new t piece es n item comes.is_open comes.limits told comes.gives sent.0 (here sent.0 sent.1) (contents c'.output) h) in
+            cut_begun c.report new.limits t piece began.first (contents c'.output) new refl (cut_next c.report began.first (contents c.output) c.number old new t piece es n item comes.is_open comes.limits (told is) comes.gives sent.0 (here sent.0 sent.1) (contents c'.output) h) in
             cut_short sent.0 (contents c.output) (contents c'.output) (failed c.output) (failed c'.output) f sent.2
             (λ h w. subst (λ g. Reports c.report new.limits (t ++ piece) left began.first began.failures (Err g) (contents c'.output) (failed c'.output)) (sym w.1) (begun h, w.0 ∙ ap (λ m. m + 1) x.failures_are))
             (λ h w. subst (λ g. Reports c.report new.limits (t ++ piece) left began.first began.failures (Err g) (contents c'.output) (failed c'.output)) (sym w.1) (begun h, w.0 ∙ x.failures_are))
-        by (Some k) wants =
-            let begun = λ (h : AcceptsBeginning (contents c.output) (contents c'.output) sent.0).
-            begun_so (choice_of c.report) k new.limits t piece left began.first (contents c'.output) began.failures (failed c.output) (failed c'.output) new refl x.failures_are
-            (first_cut k c.report wants.0 began.first (contents c.output) c.number c.left old new t piece (first_told k wants.1) n item comes.is_open comes.limits comes.gives more (contents c'.output) sent.0 (here sent.0 sent.1) h) in
-            cut_short sent.0 (contents c.output) (contents c'.output) (failed c.output) (failed c'.output) f sent.2
-            (λ h w. subst (λ g. ShowsFirst (choice_of c.report) k new.limits (t ++ piece) left began.first began.failures (Err g) (contents c'.output) (failed c'.output)) (sym w.1) (begun h, w.0 ∙ ap (λ m. m + 1) x.failures_are))
-            (λ h w. subst (λ g. ShowsFirst (choice_of c.report) k new.limits (t ++ piece) left began.first began.failures (Err g) (contents c'.output) (failed c'.output)) (sym w.1) (begun h, w.0 ∙ x.failures_are))
 
   -- ---- the end of a stream that ended well
 
   module _ (c : Teller S) (marked : Bool) (r : ReaderView) (bytes : List ℕ) (left : Option (List ℕ)) (es : List Entry) (ended : HasEnded marked r bytes left es) (x : HasTold contents failed began c r.limits r.at.state es) where
-    abbrev told_all : IsTold c.report began.first (contents c.output) c.number r bytes es
-    told_all = told_at c r bytes es ended.stands x
-
-    abbrev first_all : (k : ℕ) → AreLeft k c.left es → IsFirstTold k c.report began.first (contents c.output) c.number c.left r bytes
-    first_all k wants = first_at c r bytes es ended.stands x k wants
+    abbrev part_all : (k : Window) → IsToldBy (Some k) c.report r.at.state.schema es x.text → AreLeft k c.window es → IsPartTold (form_of c.report) (choice_of c.report) k began.first (contents c.output) c.number c.window r bytes es
+    part_all k is wants = part_at c r bytes es ended.stands x k is wants
 
     abbrev e : Standing
     e = standing_of r ended.stands.rest
 
-    abbrev w : IsWritten c.report r.limits bytes e began.first (contents c.output)
-    w = written c.report r.limits bytes left began.first began.failures (contents c.output) c.number r es refl told_all
+    abbrev w : IsTextOf c.report r.at.state.schema es x.text → IsWritten c.report r.limits bytes e began.first (contents c.output)
+    w is = written c.report r.limits bytes left began.first began.failures (contents c.output) c.number r es refl (told_at c r bytes es ended.stands x is)
 
     -- what stands last is what may stand there
     last_is : (last : List ℕ) → IsLastBy marked c.report r.at.place last → IsLast c.report e.verdict e.place last
@@ -204,7 +237,7 @@ module _ {S : Type 0} (contents : S → Option (List ℕ)) (failed : S → ℕ) 
     rows_last rows last is = by marked is c.report rows refl
       where
         by : (m : Bool) → IsLastBy m c.report r.at.place last → (p : Report) → AreRows p → c.report ≡ p → IsEnding c.report r.at.place last
-        by true none (Rows choice) rows same = subst (λ q. IsEnding q r.at.place last) (sym same) none
+        by true none (Rows layout) rows same = subst (λ q. IsEnding q r.at.place last) (sym same) none
         by true none Messages rows same = absurd rows
         by false is p rows same = is
 
@@ -212,28 +245,28 @@ module _ {S : Type 0} (contents : S → Option (List ℕ)) (failed : S → ℕ) 
     pub end_told : (last : List ℕ) → IsLastBy marked c.report r.at.place last → (held' : Option (List ℕ)) (failed' : ℕ) → SendsText (contents c.output) (failed c.output) last (Ok tt) held' failed' → (c' : Teller S) → c'.report ≡ c.report → c'.lacks ≡ c.lacks
         → (answer : Result (Unit {0}) ToolFault) → SendsText held' failed' [] answer (contents c'.output) (failed c'.output) → OnOk answer (is_passed_on c'.output) → TellsSo contents failed is_passed_on began c' answer r bytes left
     end_told last is held' failed' sent c' same lacks answer flush passed =
-        answered c c' r bytes left answer x.report_is (lacks ∙ x.lacks_none) (by began.rows x.left_are) passed
+        answered c c' r bytes left answer x.report_is (lacks ∙ x.lacks_none) (by began.window x.left_are x.is) passed
       where
         well : EndsWell left e
         well = well_at r bytes es left ended.stands ended.well
 
-        by : (wanted : Option ℕ) → LeftAre wanted c.left c.report es → ShowsSo wanted c.report r.limits bytes left began.first began.failures answer (contents c'.output) (failed c'.output)
-        by None none =
+        by : (wanted : Option Window) → LeftAre wanted c.window c.report es → IsToldBy wanted c.report r.at.state.schema es x.text → ShowsSo wanted c.report r.limits bytes left began.first began.failures answer (contents c'.output) (failed c'.output)
+        by None none told =
             flushed c.report r.limits bytes left began.first began.failures e held' (contents c'.output) failed' (failed c'.output) answer
-            (more_written c.report r.limits bytes left began.first began.failures e (contents c.output) held' last w (last_is last is) sent.0) well (sent.1 ∙ x.failures_are) flush
-        by (Some k) wants =
-            let y = first_all k wants.1 in
-            let text = ending_told k c.report wants.0 r.limits bytes left began.first began.failures (contents c.output) c.number (failed c.output) c.left r refl x.failures_are y last (rows_last wants.0 last is) held' sent.0 in
-            flushed_by k c.report wants.0 r.limits bytes left began.first began.failures (contents c.output) c.number (failed c.output) c.left r refl x.failures_are y held' (contents c'.output) failed' (failed c'.output) answer text well (sent.1 ∙ x.failures_are) flush
+            (more_written c.report r.limits bytes left began.first began.failures e (contents c.output) held' last (w told) (last_is last is) sent.0) well (sent.1 ∙ x.failures_are) flush
+        by (Some k) wants told =
+            let y = part_all k told wants.1 in
+            let text = ending_told k c.report wants.0 r.limits bytes left began.first began.failures (contents c.output) c.number (failed c.output) c.window r refl x.failures_are es y last (rows_last wants.0 last is) held' sent.0 in
+            flushed_by k c.report wants.0 r.limits bytes left began.first began.failures (contents c.output) c.number (failed c.output) c.window r refl x.failures_are es y held' (contents c'.output) failed' (failed c'.output) answer text well (sent.1 ∙ x.failures_are) flush
 
     -- or it was not sent to its end
     pub end_broken : (last : List ℕ) → IsLastBy marked c.report r.at.place last → (c' : Teller S) → c'.report ≡ c.report → c'.lacks ≡ c.lacks → (f : ToolFault)
         → SendsText (contents c.output) (failed c.output) last (Err f) (contents c'.output) (failed c'.output) → TellsSo contents failed is_passed_on began c' (Err f) r bytes left
     end_broken last is c' same lacks f sent =
-        answered c c' r bytes left (Err f) x.report_is (lacks ∙ x.lacks_none) (by began.rows x.left_are) tt
+        answered c c' r bytes left (Err f) x.report_is (lacks ∙ x.lacks_none) (by began.window x.left_are x.is) tt
       where
-        by : (wanted : Option ℕ) → LeftAre wanted c.left c.report es → ShowsSo wanted c.report r.limits bytes left began.first began.failures (Err f) (contents c'.output) (failed c'.output)
-        by None none =
+        by : (wanted : Option Window) → LeftAre wanted c.window c.report es → IsToldBy wanted c.report r.at.state.schema es x.text → ShowsSo wanted c.report r.limits bytes left began.first began.failures (Err f) (contents c'.output) (failed c'.output)
+        by None none told =
             let begun = λ (h : AcceptsBeginning (contents c.output) (contents c'.output) last). begun_last last is h in
             cut_short last (contents c.output) (contents c'.output) (failed c.output) (failed c'.output) f sent
             (λ h v. subst (λ g. Reports c.report r.limits bytes left began.first began.failures (Err g) (contents c'.output) (failed c'.output)) (sym v.1) (begun h, v.0 ∙ ap (λ m. m + 1) x.failures_are))
@@ -243,61 +276,65 @@ module _ {S : Type 0} (contents : S → Option (List ℕ)) (failed : S → ℕ) 
             begun_last last is h = by_mark marked is
               where
                 by_mark : (m : Bool) → IsLastBy m c.report r.at.place last → IsBegun c.report r.limits bytes began.first (contents c'.output)
-                by_mark false ending = more_begun c.report r.limits bytes left began.first began.failures e (contents c.output) (contents c'.output) last w ending h
+                by_mark false ending = more_begun c.report r.limits bytes left began.first began.failures e (contents c.output) (contents c'.output) last (w told) ending h
                 by_mark true none = record {
                   taken = bytes;
                   rest = [];
                   whole = append-nil bytes;
                   standing = e;
-                  entries = w.entries;
-                  front = w.front;
-                  text = w.text;
-                  is = w.is;
+                  entries = es;
+                  front = (w told).front;
+                  text = x.text;
+                  is = told;
                   last = [];
                   is_last = inl refl;
-                  wrote = subst (λ l. AcceptsBeginning began.first (contents c'.output) (w.text ++ l)) none (begun_behind began.first (contents c.output) (contents c'.output) w.text last w.wrote h);
+                  wrote = subst (λ l. AcceptsBeginning began.first (contents c'.output) (x.text ++ l)) none (begun_behind began.first (contents c.output) (contents c'.output) x.text last x.wrote h);
                 }
-        by (Some k) wants =
-            let y = first_all k wants.1 in
+        by (Some k) wants told =
+            let y = part_all k told wants.1 in
             let begun = λ (h : AcceptsBeginning (contents c.output) (contents c'.output) last).
-            ending_cut k c.report wants.0 r.limits bytes left began.first began.failures (contents c.output) c.number (failed c.output) c.left r refl x.failures_are y last (rows_last wants.0 last is) (contents c'.output) h in
+            ending_cut k c.report wants.0 r.limits bytes left began.first began.failures (contents c.output) c.number (failed c.output) c.window r refl x.failures_are es y last (rows_last wants.0 last is) (contents c'.output) h in
             cut_short last (contents c.output) (contents c'.output) (failed c.output) (failed c'.output) f sent
-            (λ h v. subst (λ g. ShowsFirst (choice_of c.report) k r.limits bytes left began.first began.failures (Err g) (contents c'.output) (failed c'.output)) (sym v.1) (begun h, v.0 ∙ ap (λ m. m + 1) x.failures_are))
-            (λ h v. subst (λ g. ShowsFirst (choice_of c.report) k r.limits bytes left began.first began.failures (Err g) (contents c'.output) (failed c'.output)) (sym v.1) (begun h, v.0 ∙ x.failures_are))
+            (λ h v. subst (λ g. ShowsWindow (form_of c.report) (choice_of c.report) k r.limits bytes left began.first began.failures (Err g) (contents c'.output) (failed c'.output)) (sym v.1) (begun h, v.0 ∙ ap (λ m. m + 1) x.failures_are))
+            (λ h v. subst (λ g. ShowsWindow (form_of c.report) (choice_of c.report) k r.limits bytes left began.first began.failures (Err g) (contents c'.output) (failed c'.output)) (sym v.1) (begun h, v.0 ∙ x.failures_are))
 
   -- ---- a call
 
   -- a teller to whom nothing was told keeps to its beginning
-  pub nothing_told : (c : Teller S) (limits : LimitNumbers) → c.report ≡ began.report → began.first ≡ contents c.output → began.failures ≡ failed c.output → began.rows ≡ c.left → c.number ≡ 0 → c.lacks ≡ None → ((c.left ≡ None) ⊎ AreRows c.report)
+  pub nothing_told : (c : Teller S) (limits : LimitNumbers) → c.report ≡ began.report → began.first ≡ contents c.output → began.failures ≡ failed c.output → began.window ≡ c.window → c.number ≡ 0 → c.lacks ≡ None → ((c.window ≡ None) ⊎ AreRows c.report)
       → HasTold contents failed began c limits nothing_yet []
   nothing_told c limits same first failures rows none lacks limited = record {
     report_is = same;
     text = [];
-    is = by c.report;
+    is = by_window began.window c.report;
     wrote = subst (λ h. Appends h (contents c.output) []) (sym first) (Appends-nil (contents c.output));
     counted = none;
     failures_are = sym failures;
-    left_are = subst (λ w. LeftAre w c.left c.report []) (sym rows) (left_by c.left refl);
+    left_are = subst (λ w. LeftAre w c.window c.report []) (sym rows) (left_by c.window refl);
     lacks_none = lacks;
   }
     where
       by : (p : Report) → IsTextOf p None [] []
       by Messages = refl
-      by (Rows chosen) = (have_before (choice_by chosen), nothing_before (choice_by chosen) [])
+      by (Rows layout) = (have_before (choice_by layout.columns), nothing_before (form_by layout) (choice_by layout.columns) [])
 
-      rows_by : (n : ℕ) → ((c.left ≡ None) ⊎ AreRows c.report) → c.left ≡ Some n → AreRows c.report
+      by_window : (wanted : Option Window) (p : Report) → IsToldBy wanted p None [] []
+      by_window None p = by p
+      by_window (Some w) p = (have_before (choice_of p), nothing_within (form_of p) (choice_of p) w [])
+
+      rows_by : (n : Window) → ((c.window ≡ None) ⊎ AreRows c.report) → c.window ≡ Some n → AreRows c.report
       rows_by n (inl all) some = let q = sym all ∙ some in absurd (cc)
       rows_by n (inr rows) some = rows
 
-      left_by : (w : Option ℕ) → c.left ≡ w → LeftAre w c.left c.report []
+      left_by : (w : Option Window) → c.window ≡ w → LeftAre w c.window c.report []
       left_by None is = is
-      left_by (Some n) is = (rows_by n limited is, subst (λ l. AreLeft n l []) (sym is) (omega arith, λ q. refl))
+      left_by (Some n) is = (rows_by n limited is, subst (λ l. AreLeft n l []) (sym is) (refl, λ q. refl))
 
   module _ (c : Teller S) (bytes : List ℕ) (left : Option (List ℕ)) (r : ReaderView) where
     -- the stream ended badly
     call_badly : (fault : ToolFault) → EndBadly (HasTold contents failed began c) bytes left r fault → TellsSo contents failed is_passed_on began c (Err fault) r bytes left
     call_badly fault ends =
-        subst (λ f. TellsSo contents failed is_passed_on began c (Err f) r bytes left) (sym ends.told) (answered c c r bytes left (Err (Stream ends.of_stream)) x.report_is x.lacks_none (by began.rows x.left_are) tt)
+        subst (λ f. TellsSo contents failed is_passed_on began c (Err f) r bytes left) (sym ends.told) (answered c c r bytes left (Err (Stream ends.of_stream)) x.report_is x.lacks_none (by began.window x.left_are x.is) tt)
       where
         x : HasTold contents failed began c r.limits r.at.state ends.given.entries
         x = ends.given.kept
@@ -305,39 +342,39 @@ module _ {S : Type 0} (contents : S → Option (List ℕ)) (failed : S → ℕ) 
         badly : EndsBadly left (standing_of r ends.given.stands.rest) ends.of_stream
         badly = badly_at r bytes ends.given.entries left ends.of_stream ends.given.stands ends.badly
 
-        by : (wanted : Option ℕ) → LeftAre wanted c.left c.report ends.given.entries → ShowsSo wanted c.report r.limits bytes left began.first began.failures (Err (Stream ends.of_stream)) (contents c.output) (failed c.output)
-        by None none =
-            (standing_of r ends.given.stands.rest, written c.report r.limits bytes left began.first began.failures (contents c.output) c.number r ends.given.entries refl (told_at c r bytes ends.given.entries ends.given.stands ends.given.kept), badly, ends.given.kept.failures_are)
-        by (Some k) wants =
-            first_badly k c.report wants.0 r.limits bytes left began.first began.failures (contents c.output) c.number (failed c.output) c.left r refl ends.given.kept.failures_are
-            (first_at c r bytes ends.given.entries ends.given.stands ends.given.kept k wants.1) ends.of_stream badly
+        by : (wanted : Option Window) → LeftAre wanted c.window c.report ends.given.entries → IsToldBy wanted c.report r.at.state.schema ends.given.entries x.text → ShowsSo wanted c.report r.limits bytes left began.first began.failures (Err (Stream ends.of_stream)) (contents c.output) (failed c.output)
+        by None none is =
+            (standing_of r ends.given.stands.rest, written c.report r.limits bytes left began.first began.failures (contents c.output) c.number r ends.given.entries refl (told_at c r bytes ends.given.entries ends.given.stands ends.given.kept is), badly, ends.given.kept.failures_are)
+        by (Some k) wants is =
+            first_badly k c.report wants.0 r.limits bytes left began.first began.failures (contents c.output) c.number (failed c.output) c.window r refl ends.given.kept.failures_are ends.given.entries
+            (part_at c r bytes ends.given.entries ends.given.stands ends.given.kept k is wants.1) ends.of_stream badly
 
     -- a read failed
     call_failed : (fault : ToolFault) → FailToRead (HasTold contents failed began c) bytes r fault → TellsSo contents failed is_passed_on began c (Err fault) r bytes left
     call_failed fault fails =
-        subst (λ f. TellsSo contents failed is_passed_on began c (Err f) r bytes left) (sym fails.told) (answered c c r bytes left (Err (Input 0)) fails.given.kept.report_is fails.given.kept.lacks_none (by began.rows fails.given.kept.left_are) tt)
+        subst (λ f. TellsSo contents failed is_passed_on began c (Err f) r bytes left) (sym fails.told) (answered c c r bytes left (Err (Input 0)) fails.given.kept.report_is fails.given.kept.lacks_none (by began.window fails.given.kept.left_are fails.given.kept.is) tt)
       where
-        by : (wanted : Option ℕ) → LeftAre wanted c.left c.report fails.given.entries → ShowsSo wanted c.report r.limits bytes left began.first began.failures (Err (Input 0)) (contents c.output) (failed c.output)
-        by None none = (
+        by : (wanted : Option Window) → LeftAre wanted c.window c.report fails.given.entries → IsToldBy wanted c.report r.at.state.schema fails.given.entries fails.given.kept.text → ShowsSo wanted c.report r.limits bytes left began.first began.failures (Err (Input 0)) (contents c.output) (failed c.output)
+        by None none is = (
           refl,
           (
             standing_of r fails.given.stands.rest,
             fails.is_open,
-            written c.report r.limits bytes left began.first began.failures (contents c.output) c.number r fails.given.entries refl (told_at c r bytes fails.given.entries fails.given.stands fails.given.kept),
+            written c.report r.limits bytes left began.first began.failures (contents c.output) c.number r fails.given.entries refl (told_at c r bytes fails.given.entries fails.given.stands fails.given.kept is),
           ),
           fails.given.kept.failures_are,
         )
-        by (Some k) wants =
-            first_input k c.report wants.0 r.limits bytes left began.first began.failures (contents c.output) c.number (failed c.output) c.left r refl fails.given.kept.failures_are
-            (first_at c r bytes fails.given.entries fails.given.stands fails.given.kept k wants.1) fails.is_open
+        by (Some k) wants is =
+            first_input k c.report wants.0 r.limits bytes left began.first began.failures (contents c.output) c.number (failed c.output) c.window r refl fails.given.kept.failures_are fails.given.entries
+            (part_at c r bytes fails.given.entries fails.given.stands fails.given.kept k is wants.1) fails.is_open
 
     -- memory was wanting
     call_wanting : (fault : ToolFault) → WantMemory (HasTold contents failed began c) bytes r fault → TellsSo contents failed is_passed_on began c (Err fault) r bytes left
     call_wanting fault wants =
-        subst (λ f. TellsSo contents failed is_passed_on began c (Err f) r bytes left) (sym wants.is_memory) (answered c c r bytes left (Err Memory) wants.given.kept.report_is wants.given.kept.lacks_none (by began.rows wants.given.kept.left_are) tt)
+        subst (λ f. TellsSo contents failed is_passed_on began c (Err f) r bytes left) (sym wants.is_memory) (answered c c r bytes left (Err Memory) wants.given.kept.report_is wants.given.kept.lacks_none (by began.window wants.given.kept.left_are wants.given.kept.is) tt)
       where
-        by : (wanted : Option ℕ) → LeftAre wanted c.left c.report wants.given.entries → ShowsSo wanted c.report r.limits bytes left began.first began.failures (Err Memory) (contents c.output) (failed c.output)
-        by None none = (
+        by : (wanted : Option Window) → LeftAre wanted c.window c.report wants.given.entries → IsToldBy wanted c.report r.at.state.schema wants.given.entries wants.given.kept.text → ShowsSo wanted c.report r.limits bytes left began.first began.failures (Err Memory) (contents c.output) (failed c.output)
+        by None none is = (
           record {
             taken = wants.taken;
             rest = wants.rest;
@@ -346,17 +383,17 @@ module _ {S : Type 0} (contents : S → Option (List ℕ)) (failed : S → ℕ) 
             entries = wants.given.entries;
             front = wants.given.stands.front;
             text = wants.given.kept.text;
-            is = wants.given.kept.is;
+            is = is;
             last = [];
             is_last = inl refl;
             wrote = subst (AcceptsBeginning began.first (contents c.output)) (sym (append-nil wants.given.kept.text)) (begun_all began.first (contents c.output) wants.given.kept.text wants.given.kept.wrote);
           },
           wants.given.kept.failures_are,
         )
-        by (Some k) some =
-            let memory = first_memory k c.report some.0 r.limits wants.taken left began.first began.failures (contents c.output) c.number (failed c.output) c.left r refl wants.given.kept.failures_are
-            (first_at c r wants.taken wants.given.entries wants.given.stands wants.given.kept k some.1) in
-            (first_longer (choice_of c.report) k r.limits wants.taken wants.rest bytes began.first (contents c.output) wants.whole memory.0, memory.1)
+        by (Some k) some is =
+            let memory = first_memory k c.report some.0 r.limits wants.taken left began.first began.failures (contents c.output) c.number (failed c.output) c.window r refl wants.given.kept.failures_are wants.given.entries
+            (part_at c r wants.taken wants.given.entries wants.given.stands wants.given.kept k is some.1) in
+            (first_longer (form_of c.report) (choice_of c.report) k r.limits wants.taken wants.rest bytes began.first (contents c.output) wants.whole memory.0, memory.1)
 
     -- how the call ended: by the teller's answer, or before it had one
     pub call_told : (answer : Result (Unit {0}) ToolFault) → Driven (HasTold contents failed began c) (TellsSo contents failed is_passed_on began c) bytes left r answer → TellsSo contents failed is_passed_on began c answer r bytes left
@@ -372,18 +409,18 @@ module _ {S : Type 0} (contents : S → Option (List ℕ)) (failed : S → ℕ) 
   abbrev pub more_open : (limits : LimitNumbers) (bytes : List ℕ) → CallForMore (HasTold contents failed began) limits bytes → IsOpenAt limits bytes
   more_open limits bytes more = record { entries = more.entries; standing = more.standing; front = more.front; goes_on = more.is_open }
 
-  -- of so many rows not all are there
-  pub more_short : (k : ℕ) → began.rows ≡ Some k → (limits : LimitNumbers) (bytes : List ℕ) → CallForMore (HasTold contents failed began) limits bytes → IsShortAt k limits bytes
+  -- of the rows in the window more are wanted
+  pub more_short : (k : Window) → began.window ≡ Some k → (limits : LimitNumbers) (bytes : List ℕ) → CallForMore (HasTold contents failed began) limits bytes → IsShortAt k limits bytes
   more_short k is limits bytes more =
-      let wants = subst (λ w. LeftAre w more.consumer.left more.consumer.report more.entries) is more.kept.left_are in
-      record { open_at = more_open limits bytes more; short = not_there k more.consumer.left more.front wants.1 }
+      let wants = subst (λ w. LeftAre w more.consumer.window more.consumer.report more.entries) is more.kept.left_are in
+      record { open_at = more_open limits bytes more; short = not_there k more.consumer.window more.front wants.1 }
 
   -- before a schema that lacks a column there was no message
   pub more_none : AreRows began.report → (limits : LimitNumbers) (place : ℕ) (before piece : List ℕ) → BeginWithout (choice_of began.report) limits (before ++ piece) place → CallForMore (HasTold contents failed began) limits before → AreNoMessage limits before
   more_none rows limits place before piece lacks more =
       let x = more.kept in
-      let is = subst (λ p. IsTextOf p more.standing.state.schema more.entries x.text) x.report_is x.is in
-      lack_waits (choice_of began.report) limits place before piece lacks more.entries more.standing more.front more.is_open (rows_text began.report rows more.standing.state.schema more.entries x.text is).0
+      let is = subst (λ p. IsToldBy began.window p more.standing.state.schema more.entries x.text) x.report_is x.is in
+      lack_waits (choice_of began.report) limits place before piece lacks more.entries more.standing more.front more.is_open (chosen_by began.window began.report rows more.standing.state.schema more.entries x.text is)
 
   -- so no piece was read behind the one with its end
   pub none_while : AreRows began.report → (limits : LimitNumbers) (place : ℕ) (bytes : List ℕ) → BeginWithout (choice_of began.report) limits bytes place → IsReadWhile (CallForMore (HasTold contents failed began) limits) bytes → IsReadWhile (AreNoMessage limits) bytes
@@ -407,7 +444,7 @@ module _ {S : Type 0} (contents : S → Option (List ℕ)) (failed : S → ℕ) 
     shown_by lacks is = subst (λ l. ShowsOrLacks l began limits driven.0 left answer (contents c.output) (failed c.output)) is (subst (λ l. ShowsOrLacks c.lacks began l driven.0 left answer (contents c.output) (failed c.output)) same told_so.0)
 
     -- all was told
-    pub call_all : c.lacks ≡ None → began.rows ≡ None → ReportsInput began.report limits had left began.first began.failures answer (contents c.output) (failed c.output)
+    pub call_all : c.lacks ≡ None → began.window ≡ None → ReportsInput began.report limits had left began.first began.failures answer (contents c.output) (failed c.output)
     call_all none all = (
       driven.0,
       driven.1,
@@ -415,9 +452,9 @@ module _ {S : Type 0} (contents : S → Option (List ℕ)) (failed : S → ℕ) 
       subst (λ w. ShowsSo w began.report limits driven.0 left began.first began.failures answer (contents c.output) (failed c.output)) all (shown_by None none),
     )
 
-    -- the first rows were
-    pub call_first : c.lacks ≡ None → (n : ℕ) → began.rows ≡ Some n → ShowsFirstOf (choice_of began.report) n limits had left began.first began.failures answer (contents c.output) (failed c.output)
-    call_first none n some = (
+    -- the rows in the window were
+    pub call_window : c.lacks ≡ None → (n : Window) → began.window ≡ Some n → ShowsWindowOf (form_of began.report) (choice_of began.report) n limits had left began.first began.failures answer (contents c.output) (failed c.output)
+    call_window none n some = (
       driven.0,
       driven.1,
       read_while_so (more_short n some limits) driven.2,

@@ -1,11 +1,12 @@
 -- From a beginning of bytes to the front of all of them.
-use Rattle.std.proofs.Common.{◌≡◌, ℕ, ◌+◌, ◌-◌, List, [], ◌∷◌, ◌++◌, length, Option, None, Some, ◌⊎◌, inl, inr, refl, sym, ap, ◌∙◌, subst, append_assoc, append-nil}
+use Rattle.std.proofs.Common.{◌≡◌, ℕ, ◌+◌, List, [], ◌∷◌, ◌++◌, length, Option, None, Some, ◌⊎◌, inl, inr, refl, sym, ap, ◌∙◌, subst, append_assoc, append-nil}
 use Rattle.arrow_types.specs.Limits.{LimitNumbers}
 use Rattle.arrow_types.specs.Notes.{SchemaShape}
 use Rattle.arrow_data.specs.Batch.{Table}
+use Rattle.arrow_csv.specs.Layouts.{Form, form_by}
 use Rattle.arrow_csv.specs.Named.{Choice, choice_by, chosen_schema, chosen_tables}
 use Rattle.arrow_csv.specs.Records.{AreBatches, IsStreamText, header_record}
-use Rattle.arrow_csv.proofs.Some.{some_rows}
+use Rattle.arrow_csv.proofs.Some.{some_batch_rows}
 use Rattle.arrow_sink.specs.Sinks.{AcceptsBeginning}
 use Rattle.arrow_stream_reader.specs.Front.{Entry, Standing, Front, FrontOf, rests, fails, closes, goes_on}
 use Rattle.arrow_stream_reader.specs.State.{StreamState, nothing_yet}
@@ -55,50 +56,50 @@ lines_behind schema p n (x ∷ es) more text (first, rest, own, others, whole) =
     (w.0, (first, rest ++ w.0, own, w.1, ap (λ t. t ++ w.0) whole ∙ append_assoc first rest w.0))
 
 -- batches have records
-some_batches : (n : ℕ) (ts : List Table) → (text : List ℕ) × AreBatches n ts text
-some_batches n [] = ([], refl)
-some_batches n (t ∷ ts) =
-    let own = some_rows n t.columns 0 (t.rows - 0) in
-    let rest = some_batches (n + 1) ts in
+some_batches : (form : Form) (n : ℕ) (ts : List Table) → (text : List ℕ) × AreBatches form n ts text
+some_batches form n [] = ([], refl)
+some_batches form n (t ∷ ts) =
+    let own = some_batch_rows form n t 0 t.rows in
+    let rest = some_batches form (n + 1) ts in
     (own.0 ++ rest.0, (own.0, rest.0, own.1, rest.1, refl))
 
 -- so has a stream
-some_stream : (schema : Option SchemaShape) (ts : List Table) → (text : List ℕ) × IsStreamText schema ts text
-some_stream None ts = ([], refl)
-some_stream (Some shape) ts =
-    let records = some_batches 0 ts in
-    (header_record shape.fields ++ records.0, (records.0, records.1, refl))
+some_stream : (form : Form) (schema : Option SchemaShape) (ts : List Table) → (text : List ℕ) × IsStreamText form schema ts text
+some_stream form None ts = ([], refl)
+some_stream form (Some shape) ts =
+    let records = some_batches form 0 ts in
+    (header_record form shape.fields ++ records.0, (records.0, records.1, refl))
 
 -- and batches after others
-stream_goes_on : (schema : Option SchemaShape) (ts us : List Table) (text : List ℕ) → IsStreamText schema ts text → (added : List ℕ) × IsStreamText schema (ts ++ us) (text ++ added)
-stream_goes_on None ts us text is = ([], append-nil text ∙ is)
-stream_goes_on (Some shape) ts us text (records, are, whole) =
-    let later = some_batches (0 + length ts) us in
-    (later.0, (records ++ later.0, batches_join 0 ts us records later.0 are later.1, ap (λ t. t ++ later.0) whole ∙ append_assoc (header_record shape.fields) records later.0))
+stream_goes_on : (form : Form) (schema : Option SchemaShape) (ts us : List Table) (text : List ℕ) → IsStreamText form schema ts text → (added : List ℕ) × IsStreamText form schema (ts ++ us) (text ++ added)
+stream_goes_on form None ts us text is = ([], append-nil text ∙ is)
+stream_goes_on form (Some shape) ts us text (records, are, whole) =
+    let later = some_batches form (0 + length ts) us in
+    (later.0, (records ++ later.0, batches_join form 0 ts us records later.0 are later.1, ap (λ t. t ++ later.0) whole ∙ append_assoc (header_record form shape.fields) records later.0))
 
 -- the same of the chosen columns
-rows_behind : (choice : Choice) (schema : Option SchemaShape) (ts us : List Table) (text : List ℕ) → IsChosenText choice schema ts text → (added : List ℕ) × IsChosenText choice schema (ts ++ us) (text ++ added)
-rows_behind choice schema ts us text is =
-    let w = stream_goes_on (chosen_schema choice schema) (chosen_tables choice ts) (chosen_tables choice us) text is in
-    (w.0, subst (λ vs. IsStreamText (chosen_schema choice schema) vs (text ++ w.0)) (sym (chosen_join choice ts us)) w.1)
+rows_behind : (form : Form) (choice : Choice) (schema : Option SchemaShape) (ts us : List Table) (text : List ℕ) → IsChosenText form choice schema ts text → (added : List ℕ) × IsChosenText form choice schema (ts ++ us) (text ++ added)
+rows_behind form choice schema ts us text is =
+    let w = stream_goes_on form (chosen_schema choice schema) (chosen_tables choice ts) (chosen_tables choice us) text is in
+    (w.0, subst (λ vs. IsStreamText form (chosen_schema choice schema) vs (text ++ w.0)) (sym (chosen_join choice ts us)) w.1)
 
 -- the text of messages behind others, by one schema
 more_text : (report : Report) (schema : Option SchemaShape) (es more : List Entry) (text : List ℕ) → IsTextOf report schema es text → (added : List ℕ) × IsTextOf report schema (es ++ more) (text ++ added)
 more_text Messages schema es more text is = lines_behind schema 0 0 es more text is
-more_text (Rows chosen) schema es more text is =
-    let choice = choice_by chosen in
-    let w = rows_behind choice schema (tables_of es) (tables_of more) text is.1 in
-    (w.0, (is.0, subst (λ ts. IsChosenText choice schema ts (text ++ w.0)) (sym (tables-append es more)) w.1))
+more_text (Rows layout) schema es more text is =
+    let choice = choice_by layout.columns in
+    let w = rows_behind (form_by layout) choice schema (tables_of es) (tables_of more) text is.1 in
+    (w.0, (is.0, subst (λ ts. IsChosenText (form_by layout) choice schema ts (text ++ w.0)) (sym (tables-append es more)) w.1))
 
 -- the text of a beginning of bytes goes on to one of all
 text_behind : (report : Report) {l : LimitNumbers} {b : List ℕ} {es fs : List Entry} {e f : Standing} (c text : List ℕ) → FrontOf l b es e → FrontOf l (b ++ c) fs f → HaveChosen (choice_of report) f.state.schema → IsTextOf report e.state.schema es text
     → (added : List ℕ) × IsTextOf report f.state.schema fs (text ++ added)
 text_behind Messages {es = []} {fs = fs} {f = f} c text x y has is = more_text Messages f.state.schema [] fs text is
-text_behind (Rows chosen) {es = []} {fs = fs} {e = e} {f = f} c text x y has is =
-    let choice = choice_by chosen in
-    let none : text ≡ [] = text_before choice [] text (subst (λ (s : StreamState). IsChosenText choice s.schema [] text) (state_stays x refl) is.1) in
-    let all = some_stream (chosen_schema choice f.state.schema) (chosen_tables choice (tables_of fs)) in
-    (all.0, (has, subst (λ t. IsChosenText choice f.state.schema (tables_of fs) (t ++ all.0)) (sym none) all.1))
+text_behind (Rows layout) {es = []} {fs = fs} {e = e} {f = f} c text x y has is =
+    let choice = choice_by layout.columns in
+    let none : text ≡ [] = text_before (form_by layout) choice [] text (subst (λ (s : StreamState). IsChosenText (form_by layout) choice s.schema [] text) (state_stays x refl) is.1) in
+    let all = some_stream (form_by layout) (chosen_schema choice f.state.schema) (chosen_tables choice (tables_of fs)) in
+    (all.0, (has, subst (λ t. IsChosenText (form_by layout) choice f.state.schema (tables_of fs) (t ++ all.0)) (sym none) all.1))
 text_behind report {es = z ∷ zs} {fs = fs} {e = e} {f = f} c text x y has is =
     let m = (more_bytes c x y).0 in
     let w = more_text report e.state.schema (z ∷ zs) m.0 text is in

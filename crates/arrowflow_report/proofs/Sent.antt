@@ -1,24 +1,26 @@
 -- Texts that are sent one behind the other.
-use Rattle.std.proofs.Common.{◌≡◌, ◌≤◌, ◌+◌, ◌-◌, ℕ, List, [], ◌++◌, length, take, Option, Err, refl, sym, ap, ◌∙◌, subst, arith}
+use Rattle.std.proofs.Common.{◌≡◌, ◌≤◌, ◌+◌, ℕ, List, [], ◌++◌, length, take, Option, Err, refl, sym, ap, ◌∙◌, subst, arith}
 use Rattle.std.specs.Io.KnownBytes.{Appends}
 use Rattle.std.proofs.KnownBytes.{Appends-nil, Appends-trans}
 use Rattle.std.proofs.Math.Seq.{take-append-add}
 use Rattle.std.proofs.lemmas.List.{length-append, take-append-le, take_all}
 use Rattle.arrow_data.specs.Batch.{Table}
+use Rattle.arrow_csv.specs.Layouts.{Form, form_by}
 use Rattle.arrow_csv.specs.Named.{choice_by, chosen_schema}
 use Rattle.arrow_csv.specs.Records.{AreBatchRows}
-use Rattle.arrow_csv.proofs.Some.{rows_join, some_rows}
+use Rattle.arrow_csv.proofs.Some.{rows_join, some_batch_rows}
 use Rattle.arrow_sink.specs.Sinks.{AcceptsBeginning}
 use Rattle.arrow_stream_reader.specs.State.{StreamState, Given, schema_given, dictionary_given, batch_given, ended}
 use Rattle.arrow_types.specs.Notes.{SchemaShape}
 use Rattle.arrowflow_report.specs.Chosen.{IsChosenAt, choice_of, chosen_given}
-use Rattle.arrowflow_report.specs.FirstRows.{IsLastIn}
+use Rattle.arrowflow_report.specs.Windows.{IsPartIn, counted, end_by, start_in}
 use Rattle.arrowflow_report.specs.Lines.{message_line}
 use Rattle.arrowflow_report.specs.Reports.{IsAdded, SendsText}
 use Rattle.arrowflow_report.specs.Shown.{IsTextIn, header_in}
 use Rattle.arrowflow_report.specs.declared.report.Report.{Report}
 use Rattle.arrowflow_report.specs.declared.report.Report.TheVariants.{Messages, Rows}
 use Rattle.arrowflow_report.specs.declared.tool_fault.ToolFault.{ToolFault}
+use Rattle.arrowflow_report.specs.declared.window.Window.{Window}
 use Rattle.arrowflow_report.specs.declared.tool_fault.ToolFault.TheVariants.{Input, Output, Stream, Refused, Memory}
 
 -- all of a text is a beginning of it
@@ -40,33 +42,33 @@ begun_longer a b s t (n, within, g) = (n, omega (arith, within, length-append s 
 
 -- ---- that there are texts
 
--- records of the first rows of a batch go on to those of more
-pub rows_go_on : (number : ℕ) (batch : Table) (mid end : ℕ) (text : List ℕ) → mid ≤ end → AreBatchRows number batch 0 mid text → (rest : List ℕ) × AreBatchRows number batch 0 end (text ++ rest)
-rows_go_on number batch mid end text within told =
-    let rest = some_rows number batch.columns mid (end - mid) in
-    (rest.0, rows_join number batch 0 mid end text rest.0 (omega arith) within told rest.1)
+-- records of some rows of a batch go on to those of more
+pub rows_go_on : (form : Form) (number : ℕ) (batch : Table) (start mid end : ℕ) (text : List ℕ) → start ≤ mid → mid ≤ end → AreBatchRows form number batch start mid text → (rest : List ℕ) × AreBatchRows form number batch start end (text ++ rest)
+rows_go_on form number batch start mid end text order within told =
+    let rest = some_batch_rows form number batch mid end in
+    (rest.0, rows_join form number batch start mid end text rest.0 order within told rest.1)
 
 -- each message adds a text to the rows
-pub some_in : (schema : Option SchemaShape) (number : ℕ) (given : Given) → (text : List ℕ) × IsTextIn schema number given text
-some_in schema number schema_given = (header_in schema, refl)
-some_in schema number (dictionary_given id) = ([], refl)
-some_in schema number (batch_given batch) = some_rows number batch.columns 0 (batch.rows - 0)
-some_in schema number ended = ([], refl)
+pub some_in : (form : Form) (schema : Option SchemaShape) (number : ℕ) (given : Given) → (text : List ℕ) × IsTextIn form schema number given text
+some_in form schema number schema_given = (header_in form schema, refl)
+some_in form schema number (dictionary_given id) = ([], refl)
+some_in form schema number (batch_given batch) = some_batch_rows form number batch 0 batch.rows
+some_in form schema number ended = ([], refl)
 
--- so it does with some of its rows
-pub some_last : (rows : ℕ) (schema : Option SchemaShape) (number : ℕ) (given : Given) → (text : List ℕ) × IsLastIn rows schema number given text
-some_last rows schema number schema_given = (header_in schema, refl)
-some_last rows schema number (dictionary_given id) = ([], refl)
-some_last rows schema number (batch_given batch) = some_rows number batch.columns 0 (rows - 0)
-some_last rows schema number ended = ([], refl)
+-- so it does with its rows that lie in a window
+pub some_part : (form : Form) (w : Window) (schema : Option SchemaShape) (number : ℕ) (given : Given) → (text : List ℕ) × IsPartIn form w schema number given text
+some_part form w schema number schema_given = (header_in form schema, refl)
+some_part form w schema number (dictionary_given id) = ([], refl)
+some_part form w schema number (batch_given batch) = some_batch_rows form number batch (start_in w (counted w number batch.rows)) (end_by w.rows w.skip (counted w number batch.rows))
+some_part form w schema number ended = ([], refl)
 
 -- and to what is told, be it rows or lines
 pub some_added : (report : Report) (schema : Option SchemaShape) (place number : ℕ) (given : Given) → IsChosenAt (choice_of report) schema given → (text : List ℕ) × IsAdded report schema place number given text
 some_added Messages schema place number given has =
     let state : StreamState = record { schema = schema; dictionaries = [] } in
     (message_line place number state given, (state, refl, refl))
-some_added (Rows chosen) schema place number given has =
-    let text = some_in (chosen_schema (choice_by chosen) schema) number (chosen_given (choice_by chosen) given) in
+some_added (Rows layout) schema place number given has =
+    let text = some_in (form_by layout) (chosen_schema (choice_by layout.columns) schema) number (chosen_given (choice_by layout.columns) given) in
     (text.0, (has, text.1))
 
 -- ---- texts that were not sent to their end

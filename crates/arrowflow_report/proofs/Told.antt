@@ -4,6 +4,7 @@ use Rattle.std.specs.Io.KnownBytes.{Appends}
 use Rattle.std.proofs.KnownBytes.{Appends-trans}
 use Rattle.std.proofs.lemmas.List.{length-append}
 use Rattle.arrow_types.specs.Limits.{LimitNumbers}
+use Rattle.arrow_csv.specs.Layouts.{form_by}
 use Rattle.arrow_csv.specs.Named.{choice_by, chosen_schema}
 use Rattle.arrow_sink.specs.Sinks.{AcceptsBeginning}
 use Rattle.arrow_stream_reader.specs.declared.item.Item.{Item}
@@ -31,10 +32,10 @@ text_more Messages c {es} {e} {f} x number text added old o new k is more =
     let count : number ≡ 0 + length (tables_of es) = omega (arith, k) in
     lines_more f.state.schema 0 0 es x text added (lines_kept c x text es old o new is)
     (subst (λ m. IsLine f.state.schema (end_of 0 es) m x.given added) count (subst (λ p. IsLine f.state.schema p number x.given added) (front_end old) more))
-text_more (Rows chosen) c {es} {e} {f} x number text added old o new k is more =
-    let choice = choice_by chosen in
-    let own = subst (λ m. IsTextIn (chosen_schema choice f.state.schema) m (chosen_given choice x.given) added) k more.1 in
-    (have_next choice c x old o new is.0 more.0, text_grows choice c x old o new text added is.1 own)
+text_more (Rows layout) c {es} {e} {f} x number text added old o new k is more =
+    let choice = choice_by layout.columns in
+    let own = subst (λ m. IsTextIn (form_by layout) (chosen_schema choice f.state.schema) m (chosen_given choice x.given) added) k more.1 in
+    (have_next choice c x old o new is.0 more.0, text_grows (form_by layout) choice c x old o new text added is.1 own)
 
 module _ (report : Report) (first held : Option (List ℕ)) (number : ℕ) (now new : ReaderView) (u rest : List ℕ) (es : List Entry) (n : ℕ) (item : Item) (is_open : now.at.verdict ≡ Open) (limits : new.limits ≡ now.limits)
     (x : IsTold report first held number now u es) (gives : GivesNext rest n item new u es) (added : List ℕ) (is_added : IsAdded report new.at.state.schema now.at.place number (given item) added) where

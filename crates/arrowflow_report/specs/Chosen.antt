@@ -2,6 +2,7 @@
 use Rattle.std.specs.Prelude.{◌≡◌, ℕ, List, Option, None, Some, ⊤}
 use Rattle.arrow_types.specs.Notes.{SchemaShape}
 use Rattle.arrow_data.specs.Batch.{Table}
+use Rattle.arrow_csv.specs.Layouts.{Form, form_by, usual_form}
 use Rattle.arrow_csv.specs.Named.{Choice, HasChosen, choice_by, chosen, chosen_schema, chosen_tables, lacking}
 use Rattle.arrow_csv.specs.Records.{IsStreamText}
 use Rattle.arrow_stream_reader.specs.State.{Given, schema_given, dictionary_given, batch_given, ended}
@@ -11,12 +12,17 @@ use Rattle.arrowflow_report.specs.declared.report.Report.TheVariants.{Messages, 
 -- which columns are told
 abbrev pub choice_of : Report → Choice
 choice_of Messages = None
-choice_of (Rows choice) = choice_by choice
+choice_of (Rows layout) = choice_by layout.columns
+
+-- and in which form their records are
+abbrev pub form_of : Report → Form
+form_of Messages = usual_form
+form_of (Rows layout) = form_by layout
 
 -- rows are told, and not messages
 abbrev pub AreRows : Report → Type 0
 AreRows Messages = ⊥
-AreRows (Rows choice) = ⊤
+AreRows (Rows layout) = ⊤
 
 -- the schema of a stream has all columns that are chosen, once it is there
 abbrev pub HaveChosen : Choice → Option SchemaShape → Type 0
@@ -53,5 +59,5 @@ chosen_given (Some names) (batch_given batch) = batch_given (chosen (Some names)
 chosen_given (Some names) ended = ended
 
 -- records of a stream with the chosen columns alone
-abbrev pub IsChosenText : Choice → Option SchemaShape → List Table → List ℕ → Type 0
-IsChosenText choice schema batches text = IsStreamText (chosen_schema choice schema) (chosen_tables choice batches) text
+abbrev pub IsChosenText : Form → Choice → Option SchemaShape → List Table → List ℕ → Type 0
+IsChosenText form choice schema batches text = IsStreamText form (chosen_schema choice schema) (chosen_tables choice batches) text

@@ -3,18 +3,17 @@ use Rattle.std.specs.Prelude.{◌≡◌, ℕ, List, [], Option, None, Some, Resu
 use Rattle.std.specs.Io.KnownBytes.{Appends, Consumes}
 use Rattle.arrow_types.specs.Limits.{LimitNumbers}
 use Rattle.arrow_types.specs.Notes.{SchemaShape}
-use Rattle.arrow_csv.specs.Named.{Choice}
-use Rattle.arrowflow_report.specs.Chosen.{LacksColumn, choice_of}
-use Rattle.arrowflow_report.specs.FirstRows.{ShowsFirstOf}
+use Rattle.arrow_csv.specs.Layouts.{form_by}
+use Rattle.arrow_csv.specs.Named.{Choice, choice_by}
+use Rattle.arrowflow_report.specs.Chosen.{LacksColumn}
 use Rattle.arrowflow_report.specs.Reads.{IsReadWhile}
-use Rattle.arrowflow_report.specs.Reports.{ReportsInput}
 use Rattle.arrowflow_report.specs.SchemaCall.{AreNoMessage, BeginWithSchema}
-use Rattle.arrowflow_report.specs.declared.report.Report.{Report}
-use Rattle.arrowflow_report.specs.declared.report.Report.TheVariants.{Rows}
+use Rattle.arrowflow_report.specs.Windows.{ShowsWindowOf}
 use Rattle.arrowflow_report.specs.declared.columns.ColumnsFault.{ColumnsFault}
 use Rattle.arrowflow_report.specs.declared.columns.ColumnsFault.TheVariants.{Lacks, Tool}
 use Rattle.arrowflow_report.specs.declared.columns.Selection.{Selection}
 use Rattle.arrowflow_report.specs.declared.tool_fault.ToolFault.{ToolFault}
+use Rattle.arrowflow_report.specs.declared.window.Window.{Window}
 
 -- These bytes begin with a schema that lacks the column at this place of the choice, and none before.
 abbrev pub BeginWithout : Choice → LimitNumbers → List ℕ → ℕ → Type 0
@@ -26,16 +25,15 @@ LacksInput choice limits had left before failed place after failed' =
     (bytes : List ℕ) × Consumes had left bytes × IsReadWhile (AreNoMessage limits) bytes × BeginWithout choice limits bytes place
     × Appends before after [] × (failed' ≡ failed)
 
--- so many rows of an input's stream are shown, or all
-abbrev pub ShowsRows : Report → Option ℕ → LimitNumbers → Option (List ℕ) → Option (List ℕ) → Option (List ℕ) → ℕ → Result (Unit {0}) ToolFault → Option (List ℕ) → ℕ → Type 0
-ShowsRows report None = ReportsInput report
-ShowsRows report (Some n) = ShowsFirstOf (choice_of report) n
+-- the window that a selection asks for
+abbrev pub window_of : Selection → Window
+window_of s = record { batch = s.batch; skip = s.skip; rows = s.rows }
 
--- the same of the rows with the selected columns, which the schema may lack
-abbrev pub ShowsColumns : Selection → LimitNumbers → Option (List ℕ) → Option (List ℕ) → Option (List ℕ) → ℕ → Result (Unit {0}) ColumnsFault → Option (List ℕ) → ℕ → Type 0
-ShowsColumns s limits had left before failed (Ok done) after failed' = ShowsRows (Rows (Some s.columns)) s.rows limits had left before failed (Ok done) after failed'
-ShowsColumns s limits had left before failed (Err (Tool fault)) after failed' = ShowsRows (Rows (Some s.columns)) s.rows limits had left before failed (Err fault) after failed'
-ShowsColumns s limits had left before failed (Err (Lacks place)) after failed' = LacksInput (choice_of (Rows (Some s.columns))) limits had left before failed place after failed'
+-- the rows of an input's stream that a selection has are shown, with its columns, which the schema may lack
+abbrev pub ShowsSelection : Selection → LimitNumbers → Option (List ℕ) → Option (List ℕ) → Option (List ℕ) → ℕ → Result (Unit {0}) ColumnsFault → Option (List ℕ) → ℕ → Type 0
+ShowsSelection s limits had left before failed (Ok done) after failed' = ShowsWindowOf (form_by s.layout) (choice_by s.layout.columns) (window_of s) limits had left before failed (Ok done) after failed'
+ShowsSelection s limits had left before failed (Err (Tool fault)) after failed' = ShowsWindowOf (form_by s.layout) (choice_by s.layout.columns) (window_of s) limits had left before failed (Err fault) after failed'
+ShowsSelection s limits had left before failed (Err (Lacks place)) after failed' = LacksInput (choice_by s.layout.columns) limits had left before failed place after failed'
 
 -- the answer of a call by what the schema was found to lack
 abbrev pub answer_by_lack : Option ℕ → Result (Unit {0}) ToolFault → Result (Unit {0}) ColumnsFault

@@ -4,7 +4,7 @@ pub mod Telling
 pub mod Kept
 pub mod Driver
 pub mod Escapes
-pub mod FirstRows
+pub mod Windows
 pub mod Faults
 pub mod SchemaCall
 pub mod SchemaText

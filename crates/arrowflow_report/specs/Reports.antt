@@ -3,6 +3,7 @@ use Rattle.std.specs.Prelude.{◌≡◌, ℕ, ◌+◌, ◌⊎◌, List, [], ◌+
 use Rattle.std.specs.Io.KnownBytes.{Appends, Consumes, IsAtEnd}
 use Rattle.arrow_types.specs.Limits.{LimitNumbers}
 use Rattle.arrow_types.specs.Notes.{SchemaShape}
+use Rattle.arrow_csv.specs.Layouts.{form_by}
 use Rattle.arrow_csv.specs.Named.{choice_by, chosen_schema}
 use Rattle.arrow_sink.specs.Sinks.{AcceptsBeginning}
 use Rattle.arrow_stream_reader.specs.declared.fault.Fault.{Fault}
@@ -27,18 +28,18 @@ use Rattle.arrowflow_report.specs.declared.tool_fault.ToolFault.TheVariants.{Inp
 -- none where the schema lacks a column that is chosen
 abbrev pub IsTextOf : Report → Option SchemaShape → List Entry → List ℕ → Type 0
 IsTextOf Messages schema entries text = AreLines schema 0 0 entries text
-IsTextOf (Rows choice) schema entries text = HaveChosen (choice_by choice) schema × IsChosenText (choice_by choice) schema (tables_of entries) text
+IsTextOf (Rows layout) schema entries text = HaveChosen (choice_by layout.columns) schema × IsChosenText (form_by layout) (choice_by layout.columns) schema (tables_of entries) text
 
 -- what one message adds to it that begins at this place, behind so many batches
 abbrev pub IsAdded : Report → Option SchemaShape → ℕ → ℕ → Given → List ℕ → Type 0
 IsAdded Messages schema place number given text = IsLine schema place number given text
-IsAdded (Rows choice) schema place number given text =
-    IsChosenAt (choice_by choice) schema given × IsTextIn (chosen_schema (choice_by choice) schema) number (chosen_given (choice_by choice) given) text
+IsAdded (Rows layout) schema place number given text =
+    IsChosenAt (choice_by layout.columns) schema given × IsTextIn (form_by layout) (chosen_schema (choice_by layout.columns) schema) number (chosen_given (choice_by layout.columns) given) text
 
 -- what stands behind the text of the messages where the input ends at this place: a line, nothing behind rows
 abbrev pub IsEnding : Report → ℕ → List ℕ → Type 0
 IsEnding Messages place text = text ≡ end_line place
-IsEnding (Rows choice) place text = text ≡ []
+IsEnding (Rows layout) place text = text ≡ []
 
 -- what stands there at the end of a call that ends well: nothing behind an end marker
 abbrev pub IsLast : Report → Verdict → ℕ → List ℕ → Type 0

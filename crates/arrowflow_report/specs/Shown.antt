@@ -2,6 +2,7 @@
 use Rattle.std.specs.Prelude.{◌≡◌, ℕ, List, [], ◌∷◌, ◌++◌, length, Option, None, Some}
 use Rattle.arrow_types.specs.Limits.{LimitNumbers}
 use Rattle.arrow_types.specs.Notes.{SchemaShape}
+use Rattle.arrow_csv.specs.Layouts.{Form}
 use Rattle.arrow_csv.specs.Records.{AreBatchRows, IsStreamText, header_record}
 use Rattle.arrow_stream_reader.specs.declared.reader.Verdict.TheVariants.{Open}
 use Rattle.arrow_stream_reader.specs.Front.{Entry, Standing, FrontOf}
@@ -9,23 +10,23 @@ use Rattle.arrow_stream_reader.specs.State.{Given, schema_given, dictionary_give
 use Rattle.arrow_stream_reader.specs.Tables.{tables_of}
 
 -- what a schema adds to the text
-abbrev pub header_in : Option SchemaShape → List ℕ
-header_in None = []
-header_in (Some shape) = header_record shape.fields
+abbrev pub header_in : Form → Option SchemaShape → List ℕ
+header_in form None = []
+header_in form (Some shape) = header_record form shape.fields
 
 -- what a message adds to the text behind so many batches
-abbrev pub IsTextIn : Option SchemaShape → ℕ → Given → List ℕ → Type 0
-IsTextIn schema number schema_given text = text ≡ header_in schema
-IsTextIn schema number (dictionary_given id) text = text ≡ []
-IsTextIn schema number (batch_given batch) text = AreBatchRows number batch 0 batch.rows text
-IsTextIn schema number ended text = text ≡ []
+abbrev pub IsTextIn : Form → Option SchemaShape → ℕ → Given → List ℕ → Type 0
+IsTextIn form schema number schema_given text = text ≡ header_in form schema
+IsTextIn form schema number (dictionary_given id) text = text ≡ []
+IsTextIn form schema number (batch_given batch) text = AreBatchRows form number batch 0 batch.rows text
+IsTextIn form schema number ended text = text ≡ []
 
 -- a text of the messages at a front
-abbrev pub IsTextAt : List Entry → Standing → List ℕ → Type 0
-IsTextAt entries e text = IsStreamText e.state.schema (tables_of entries) text
+abbrev pub IsTextAt : Form → List Entry → Standing → List ℕ → Type 0
+IsTextAt form entries e text = IsStreamText form e.state.schema (tables_of entries) text
 
 -- A law: with one message more at the front of a stream a text is one of before, and after it what the message adds.
 abbrev pub TextGrows : Type 0
-TextGrows = (limits : LimitNumbers) (bytes more : List ℕ) (entries : List Entry) (x : Entry) (e f : Standing) (text added : List ℕ)
+TextGrows = (form : Form) (limits : LimitNumbers) (bytes more : List ℕ) (entries : List Entry) (x : Entry) (e f : Standing) (text added : List ℕ)
     → FrontOf limits bytes entries e → e.verdict ≡ Open → FrontOf limits (bytes ++ more) (entries ++ x ∷ []) f
-    → IsTextAt entries e text → IsTextIn f.state.schema (length (tables_of entries)) x.given added → IsTextAt (entries ++ x ∷ []) f (text ++ added)
+    → IsTextAt form entries e text → IsTextIn form f.state.schema (length (tables_of entries)) x.given added → IsTextAt form (entries ++ x ∷ []) f (text ++ added)

@@ -2,49 +2,56 @@
 use Rattle.std.specs.Prelude.{◌≡◌, ℕ, List, [], Bool, true, false, length, Option, None, Some, Result, OnOk}
 use Rattle.std.specs.Io.KnownBytes.{Appends}
 use Rattle.arrow_types.specs.Limits.{LimitNumbers}
+use Rattle.arrow_types.specs.Notes.{SchemaShape}
 use Rattle.arrow_stream_reader.specs.Front.{Entry}
 use Rattle.arrow_stream_reader.specs.State.{StreamState}
 use Rattle.arrow_stream_reader.specs.Stream.{ReaderView}
 use Rattle.arrow_stream_reader.specs.Tables.{tables_of}
-use Rattle.arrowflow_report.specs.Chosen.{AreRows, choice_of}
+use Rattle.arrowflow_report.specs.Chosen.{AreRows, HaveChosen, choice_of, form_of}
 use Rattle.arrowflow_report.specs.Columns.{BeginWithout}
-use Rattle.arrowflow_report.specs.FirstRows.{AreLeft, ShowsFirst}
 use Rattle.arrowflow_report.specs.Reports.{IsEnding, IsTextOf, Reports}
+use Rattle.arrowflow_report.specs.Windows.{AreLeft, IsChosenWithin, ShowsWindow}
 use Rattle.arrowflow_report.specs.declared.report.Report.{Report}
 use Rattle.arrowflow_report.specs.declared.telling.Teller.{Teller}
 use Rattle.arrowflow_report.specs.declared.tool_fault.ToolFault.{ToolFault}
+use Rattle.arrowflow_report.specs.declared.window.Window.{Window}
 
--- how the telling began: what was to be told, what the output held, how many times it had failed, and how many rows were wanted, or all
+-- how the report began: what was to be reported, what the output held, how many times it had failed, and which rows were wanted, or all
 pub record TellingBegan : Type 0 where
   pub report : Report
   pub first : Option (List ℕ)
   pub failures : ℕ
-  pub rows : Option ℕ
+  pub window : Option Window
 
--- Of all rows all are wanted; of a number so many are left behind these messages, and nothing but rows is told.
-abbrev pub LeftAre : Option ℕ → Option ℕ → Report → List Entry → Type 0
+-- If all rows are wanted all are; else this window is left after these messages, and nothing but rows is written.
+abbrev pub LeftAre : Option Window → Option Window → Report → List Entry → Type 0
 LeftAre None left report es = left ≡ None
-LeftAre (Some n) left report es = AreRows report × AreLeft n left es
+LeftAre (Some w) left report es = AreRows report × AreLeft w left es
 
--- The text of these messages stands in the output, and more of it is wanted.
+-- the text of these messages: of all their rows, or of those in the window
+abbrev pub IsToldBy : Option Window → Report → Option SchemaShape → List Entry → List ℕ → Type 0
+IsToldBy None report schema es text = IsTextOf report schema es text
+IsToldBy (Some w) report schema es text = HaveChosen (choice_of report) schema × IsChosenWithin (form_of report) (choice_of report) w schema (tables_of es) text
+
+-- It is in the output, and more is wanted.
 pub record HasTold {S : Type 0} (contents : S → Option (List ℕ)) (failed : S → ℕ) (began : TellingBegan) (c : Teller S) (limits : LimitNumbers) (state : StreamState) (es : List Entry) : Type 0 where
   pub report_is : c.report ≡ began.report
   pub text : List ℕ
-  pub is : IsTextOf c.report state.schema es text
+  pub is : IsToldBy began.window c.report state.schema es text
   pub wrote : Appends began.first (contents c.output) text
   pub counted : c.number ≡ length (tables_of es)
   pub failures_are : failed c.output ≡ began.failures
-  pub left_are : LeftAre began.rows c.left c.report es
+  pub left_are : LeftAre began.window c.window c.report es
   pub lacks_none : c.lacks ≡ None
 
--- what was told of these bytes: of all rows, or of the first of them
-abbrev pub ShowsSo : Option ℕ → Report → LimitNumbers → List ℕ → Option (List ℕ) → Option (List ℕ) → ℕ → Result (Unit {0}) ToolFault → Option (List ℕ) → ℕ → Type 0
+-- what was written of these bytes: of all rows, or of those in the window
+abbrev pub ShowsSo : Option Window → Report → LimitNumbers → List ℕ → Option (List ℕ) → Option (List ℕ) → ℕ → Result (Unit {0}) ToolFault → Option (List ℕ) → ℕ → Type 0
 ShowsSo None report = Reports report
-ShowsSo (Some n) report = ShowsFirst (choice_of report) n
+ShowsSo (Some w) report = ShowsWindow (form_of report) (choice_of report) w
 
 -- the same, or that nothing was told since the schema lacks the column at this place of the choice
 abbrev pub ShowsOrLacks : Option ℕ → TellingBegan → LimitNumbers → List ℕ → Option (List ℕ) → Result (Unit {0}) ToolFault → Option (List ℕ) → ℕ → Type 0
-ShowsOrLacks None began limits bytes left answer after failed' = ShowsSo began.rows began.report limits bytes left began.first began.failures answer after failed'
+ShowsOrLacks None began limits bytes left answer after failed' = ShowsSo began.window began.report limits bytes left began.first began.failures answer after failed'
 ShowsOrLacks (Some place) began limits bytes left answer after failed' =
     AreRows began.report × BeginWithout (choice_of began.report) limits bytes place × Appends began.first after [] × (failed' ≡ began.failures)
 
@@ -62,6 +69,6 @@ IsLastBy false report place text = IsEnding report place text
 abbrev pub IsTellerSame : {S : Type 0} → Teller S → Teller S → Type 0
 IsTellerSame old new = (new.report ≡ old.report) × (new.lacks ≡ old.lacks)
 
--- how many batches came and how many rows are left stays
+-- how many batches came and which rows are wanted stays
 abbrev pub AreCountsSame : {S : Type 0} → Teller S → Teller S → Type 0
-AreCountsSame old new = (new.number ≡ old.number) × (new.left ≡ old.left)
+AreCountsSame old new = (new.number ≡ old.number) × (new.window ≡ old.window)

@@ -1,17 +1,21 @@
-//! Which columns are shown, and why they are not.
+//! Which rows and columns are shown, and why they are not.
 
 ghost use Rattle.std.specs.Prelude.{◌≡◌};
 ghost use Rattle.arrowflow_report.specs.Columns.{answer_by_lack};
 
 use crate::tool_fault::ToolFault;
+use arrow_csv::Layout;
 
-/// Which columns of a stream are shown, and how many of its rows.
+/// Which rows of a stream are shown, and how they are written.
 #[derive(Clone, Copy)]
 pub struct Selection<'a> {
-    /// The names of the columns, in the order in which they are shown. Of a name that several have
-    /// the first is meant. Names are compared byte for byte.
-    pub columns: &'a [&'a str],
-    /// How many rows, or all.
+    /// The columns of the rows, the text of a null, and whether rows have numbers.
+    pub layout: Layout<'a>,
+    /// The number of the one batch whose rows are shown, from 0, or all batches.
+    pub batch: Option<u64>,
+    /// How many of these rows are left out first.
+    pub skip: u64,
+    /// How many rows follow, or all.
     pub rows: Option<u64>,
 }
 
@@ -21,7 +25,7 @@ pub enum ColumnsFault {
     /// The schema has no column of the name at this place among those that were asked for, and one
     /// of each name before it.
     Lacks(usize),
-    /// As of [`show`].
+    /// As of [`show`](crate::show).
     Tool(ToolFault),
 }
 

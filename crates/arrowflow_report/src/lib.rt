@@ -22,8 +22,8 @@
 //! | what an input answers with it | `specs/SchemaCall.antt`: `AnswersInput` |
 //! | what is written of a stream, and how that ends | `specs/Reports.antt`: `ReportsInput`; `specs/OfFront.antt`: `IsBegunOf`; `specs/Shown.antt`: `IsTextAt` |
 //! | what a check that writes nothing says of an input | `specs/Quiet.antt`: `ChecksInput` |
-//! | the first rows of a stream | `specs/FirstRows.antt`: `ShowsFirstOf`, `IsFirstText` |
-//! | columns chosen by their names | `specs/Columns.antt`: `ShowsColumns`, `LacksInput`; `specs/Chosen.antt`: `IsChosenText` |
+//! | the rows of a stream that lie in a window | `specs/Windows.antt`: `ShowsWindowOf`, `IsTextWithin` |
+//! | rows that are selected, columns chosen by their names | `specs/Columns.antt`: `ShowsSelection`, `LacksInput`; `specs/Chosen.antt`: `IsChosenText` |
 //! | the lines of messages | `specs/Lines.antt`: `message_line`, `AreLines` |
 //! | how far an input is read | `specs/Reads.antt`: `IsReadWhile` |
 //! | when an input is said to have failed | `specs/Blame.antt`: `BlamesOnly`; `has_failed` of [`Input`] |
@@ -33,8 +33,8 @@
 //! pieces, `Reading` that the loop ends; `Messages` what a teller makes of its messages, and `Kept`
 //! what a list of batches does. `Growing` shows the law, `Told` and `Lined` how a text grows, `Sent`
 //! what of it was sent, `Reporting` how that ends, `OfFront` that it is so by the front of all bytes;
-//! `FirstRows`, `FirstTold`, `FirstReported` the same of the first rows, and `Lacking` and `Chosen`
-//! of columns that are asked for.
+//! `Windows`, `WindowTold`, `WindowReported` the same of the rows in a window, and `Lacking` and
+//! `Chosen` of columns that are asked for.
 #![tactic(auto)]
 
 mod batches;
@@ -58,12 +58,14 @@ mod tool_fault;
 mod type_names;
 mod type_words;
 mod what;
+mod window;
 
+pub use arrow_csv::Layout;
 pub use columns::{ColumnsFault, Selection};
 pub use consumer::{Consumer, Wants};
 pub use driver::{Progress, drive, take_piece};
 pub use input::{Input, Tried};
-pub use reports::{check, check_quietly, show, show_columns, show_first};
+pub use reports::{check, check_quietly, show, show_selection};
 pub use schema_call::schema_text;
 pub use schema_lines::schema_lines_of;
 pub use tool_fault::ToolFault;

@@ -1,26 +1,30 @@
 //! What is told of a stream.
 
 ghost use Rattle.std.specs.Prelude.{◌≡◌};
+ghost use Rattle.arrow_csv.specs.Layouts.{form_by};
 ghost use Rattle.arrow_csv.specs.Named.{choice_by};
-ghost use Rattle.arrowflow_report.specs.Chosen.{choice_of};
+ghost use Rattle.arrowflow_report.specs.Chosen.{choice_of, form_of};
+
+use arrow_csv::Layout;
 
 /// What is told of a stream, as it comes.
 #[derive(Clone, Copy)]
 pub(crate) enum Report<'a> {
     /// A line for each message.
     Messages,
-    /// Its rows, as records of comma-separated values, with the columns of these names or with all.
-    Rows(Option<&'a [&'a str]>),
+    /// Its rows, as records of comma-separated values.
+    Rows(Layout<'a>),
 }
 
 impl<'a> Report<'a> {
-    /// Which columns the rows have; `None` for all.
-    pub(crate) fn choice(self) -> Option<&'a [&'a str]>
-        ensures { choice_by result ≡ choice_of self.entry }
+    /// How rows are written.
+    pub(crate) fn layout(self) -> Layout<'a>
+        ensures columns { choice_by result.columns ≡ choice_of self.entry }
+        ensures form { form_by result ≡ form_of self.entry }
     {
         match self {
-            Report::Messages => None,
-            Report::Rows(choice) => choice,
+            Report::Messages => Layout::usual(),
+            Report::Rows(layout) => layout,
         }
     }
 }

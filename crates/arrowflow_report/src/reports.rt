@@ -1,10 +1,12 @@
 //! Streams told as they come: their messages, or their rows.
 
 ghost use Rattle.std.specs.Prelude.{◌≡◌, ◌<◌, ◌-◌, ◌^◌, ◌⊎◌, ℕ, IfErr, None, Some, OnOk};
+ghost use Rattle.arrow_csv.specs.Layouts.{usual};
 ghost use Rattle.arrowflow_report.specs.Blame.{BlamesOnly, ColumnsBlameOnly};
-ghost use Rattle.arrowflow_report.specs.Chosen.{AreRows, choice_of};
-ghost use Rattle.arrowflow_report.specs.Columns.{LacksInput, ShowsColumns};
-ghost use Rattle.arrowflow_report.specs.FirstRows.{ShowsFirstOf};
+ghost use Rattle.arrowflow_report.specs.Chosen.{AreRows, choice_of, form_of};
+ghost use Rattle.arrowflow_report.specs.Columns.{LacksInput, ShowsSelection};
+ghost use Rattle.arrowflow_report.specs.Windows.{ShowsWindowOf};
+ghost use Rattle.arrowflow_report.specs.declared.window.Window.{Window};
 ghost use Rattle.arrowflow_report.specs.Quiet.{ChecksInput};
 ghost use Rattle.arrowflow_report.specs.Reports.{ReportsInput};
 ghost use Rattle.arrowflow_report.specs.declared.report.Report.TheVariants.{Messages, Rows};
@@ -16,6 +18,8 @@ use crate::nowhere::Nowhere;
 use crate::report::Report;
 use crate::telling::Teller;
 use crate::tool_fault::ToolFault;
+use crate::window::Window;
+use arrow_csv::Layout;
 use arrow_sink::Sink;
 use arrow_stream_reader::StreamReader;
 use arrow_types::Limits;
@@ -89,51 +93,32 @@ pub fn show<R: Input, S: Sink>(
     limits: &Limits,
 ) -> (S, Result<(), ToolFault>)
     requires { S.failed output < 2 ^ 64 - 1 }
-    ensures written { ReportsInput (Rows None) limits.now (R.remaining input.old)
+    ensures written { ReportsInput (Rows usual) limits.now (R.remaining input.old)
         (R.remaining input.new) (S.contents output) (S.failed output) result.1
         (S.contents result.0) (S.failed result.0) }
     ensures passed { OnOk result.1 (S.is_passed_on result.0) }
     ensures blameless { IfErr result.1 (BlamesOnly (R.has_failed input.new)) }
 {
-    let teller = Teller::new(alloc, Report::Rows(None), None, output);
+    let teller = Teller::new(alloc, Report::Rows(Layout::usual()), None, output);
     let (output, _, answer) = report(alloc, input, teller, limits);
     (output, answer)
 }
 
-/// Writes the first rows of a stream, so many of them, as [`show`] does, and hands the output back.
+/// Writes the rows of a stream that a selection has, and hands the output back.
 ///
-/// The record of the names comes first, then those of the first `rows` rows that [`show`] would
-/// write; all of them where there are fewer. Once they are written the call ends well: what stands
-/// behind the message that has the last of them is not looked at, and of the input no piece is read
-/// behind that in which its last byte stands. Of a stream that ends or is refused before, the call
-/// ends as [`show`] does.
-pub fn show_first<R: Input, S: Sink>(
-    alloc: Global,
-    input: &mut R,
-    output: S,
-    rows: u64,
-    limits: &Limits,
-) -> (S, Result<(), ToolFault>)
-    requires { S.failed output < 2 ^ 64 - 1 }
-    ensures written { ShowsFirstOf None rows limits.now (R.remaining input.old)
-        (R.remaining input.new) (S.contents output) (S.failed output) result.1
-        (S.contents result.0) (S.failed result.0) }
-    ensures passed { OnOk result.1 (S.is_passed_on result.0) }
-    ensures blameless { IfErr result.1 (BlamesOnly (R.has_failed input.new)) }
-{
-    let teller = Teller::new(alloc, Report::Rows(None), Some(rows), output);
-    let (output, _, answer) = report(alloc, input, teller, limits);
-    (output, answer)
-}
-
-/// Writes the rows of a stream, or the first of them, with some of its columns alone, and hands the
-/// output back.
+/// The record of the names comes first. Of the rows that [`show`] would write, or of those of the
+/// one batch that is asked for, the first `skip` are left out; then come `rows` rows, or all. They
+/// are written in the layout of the selection: with some of the columns, with another text of a
+/// null, or without numbers.
 ///
-/// What is written is what [`show`], or [`show_first`], writes of a stream that has just these
-/// columns in this order; the call ends, and the input is read, as there. Where the schema lacks one
-/// of the columns, `Lacks` is answered once it came: nothing was written then, and no piece was read
-/// behind the one in which the schema's last byte stands.
-pub fn show_columns<R: Input, S: Sink>(
+/// Once the last row is written that is wanted, or the batch that is asked for has come, the call
+/// ends well, with no rows wanted once the schema has come: what comes after that message is not
+/// read, and of the input no piece after the one with its last byte. Of a stream that ends or is
+/// refused before, the call ends as [`show`] does.
+///
+/// Where the schema lacks one of the columns, `Lacks` is answered once it came: nothing was written
+/// then, and no piece was read after the one with the schema's last byte.
+pub fn show_selection<R: Input, S: Sink>(
     alloc: Global,
     input: &mut R,
     output: S,
@@ -141,19 +126,23 @@ pub fn show_columns<R: Input, S: Sink>(
     limits: &Limits,
 ) -> (S, Result<(), ColumnsFault>)
     requires { S.failed output < 2 ^ 64 - 1 }
-    ensures written { ShowsColumns selection.now limits.now (R.remaining input.old)
+    ensures written { ShowsSelection selection.now limits.now (R.remaining input.old)
         (R.remaining input.new) (S.contents output) (S.failed output) result.1
         (S.contents result.0) (S.failed result.0) }
     ensures passed { OnOk result.1 (S.is_passed_on result.0) }
     ensures blameless { IfErr result.1 (ColumnsBlameOnly (R.has_failed input.new)) }
 {
-    let columns = Report::Rows(Some(selection.columns));
-    let teller = Teller::new(alloc, columns, selection.rows, output);
+    let window = Window {
+        batch: selection.batch,
+        skip: selection.skip,
+        rows: selection.rows,
+    };
+    let teller = Teller::new(alloc, Report::Rows(selection.layout), Some(window), output);
     let (output, lacks, answer) = report(alloc, input, teller, limits);
     (output, answer_by_lack(lacks, answer))
 }
 
-/// Tells a stream from its beginning, as many of its rows as the teller is to tell; hands back the
+/// Reports a stream from its beginning, those of its rows that the teller is to write; hands back the
 /// output, and the place of the first column asked for that the schema lacks.
 fn report<R: Input, S: Sink>(
     alloc: Global,
@@ -164,15 +153,16 @@ fn report<R: Input, S: Sink>(
     requires failed { S.failed teller.output < 2 ^ 64 - 1 }
     requires none { teller.number ≡ 0 }
     requires has { teller.lacks ≡ None }
-    requires limited { (teller.left ≡ None) ⊎ AreRows teller.report }
-    ensures written { result.1 ≡ None → teller.entry.left ≡ None
+    requires limited { (teller.window ≡ None) ⊎ AreRows teller.report }
+    ensures written { result.1 ≡ None → teller.entry.window ≡ None
         → ReportsInput teller.entry.report limits.now
         (R.remaining input.old) (R.remaining input.new) (S.contents teller.entry.output)
         (S.failed teller.entry.output) result.2 (S.contents result.0) (S.failed result.0) }
-    ensures first { result.1 ≡ None → AreRows teller.entry.report → (n : ℕ) → teller.entry.left ≡ Some n
-        → ShowsFirstOf (choice_of teller.entry.report) n limits.now (R.remaining input.old)
-        (R.remaining input.new) (S.contents teller.entry.output) (S.failed teller.entry.output) result.2
-        (S.contents result.0) (S.failed result.0) }
+    ensures first { result.1 ≡ None → AreRows teller.entry.report → (w : Window)
+        → teller.entry.window ≡ Some w
+        → ShowsWindowOf (form_of teller.entry.report) (choice_of teller.entry.report) w limits.now
+        (R.remaining input.old) (R.remaining input.new) (S.contents teller.entry.output)
+        (S.failed teller.entry.output) result.2 (S.contents result.0) (S.failed result.0) }
     ensures lacks { (k : ℕ) → result.1 ≡ Some k → LacksInput (choice_of teller.entry.report) limits.now
         (R.remaining input.old) (R.remaining input.new) (S.contents teller.entry.output)
         (S.failed teller.entry.output) k (S.contents result.0) (S.failed result.0) }

@@ -7,6 +7,7 @@ ghost use Rattle.arrowflow_report.specs.Reports.{SendsSome, SendsText};
 use crate::tool_fault::ToolFault;
 use arrow_csv::BatchRows;
 use arrow_sink::{Sink, send};
+use std::ops::Range;
 
 /// How many rows are put into text at once.
 const ROWS: usize = 1_024;
@@ -21,23 +22,24 @@ pub(crate) fn send_text<S: Sink>(output: &mut S, text: &[u8]) -> Result<(), Tool
     Ok(())
 }
 
-/// Sends the records of these rows up to `end`, some of them at a time, which are made in the room
-/// of a text.
+/// Sends the records of these rows, some of them at a time, which are made in the room of a text.
 pub(crate) fn send_rows<S: Sink>(
     text: &mut Vec<u8>,
     rows: &BatchRows,
-    end: usize,
+    range: Range<usize>,
     output: &mut S,
 ) -> Result<(), ToolFault>
     requires failed { S.failed output.old < 2 ^ 64 - 1 }
-    requires within { end ≤ rows.now.batch.rows }
-    ensures { SendsSome (AreBatchRows rows.now.number rows.now.batch 0 end)
+    requires order { range.start ≤ range.end }
+    requires within { range.end ≤ rows.now.batch.rows }
+    ensures { SendsSome (AreBatchRows rows.now.form rows.now.number rows.now.batch
+        range.start range.end)
         (S.contents output.old) (S.failed output.old) result (S.contents output.new)
         (S.failed output.new) }
 {
-    let mut start = 0;
-    while start < end {
-        let next = start + ROWS.min(end - start);
+    let mut start = range.start;
+    while start < range.end {
+        let next = start + ROWS.min(range.end - start);
         text.clear();
         rows.push(text, start..next)?;
         send_text(output, text)?;

@@ -1,15 +1,16 @@
 //! A stream told message by message.
 
-ghost use Rattle.std.specs.Prelude.{◌≡◌, ◌<◌, ◌+◌, ◌-◌, ◌^◌, IfErr, IfOk, MatchOption, None, Ok};
-ghost use Rattle.std.specs.Prelude.{OnOk, length};
+ghost use Rattle.std.specs.Prelude.{◌≡◌, ◌<◌, ◌+◌, ◌-◌, ◌^◌, IfErr, IfOk, MatchBool, MatchOption, None, Ok};
+ghost use Rattle.std.specs.Prelude.{OnOk, Some, length};
 ghost use Rattle.arrow_stream_reader.specs.Views.{given};
 ghost use Rattle.arrow_stream_reader.specs.Tables.{table_in};
+ghost use Rattle.arrow_csv.specs.Layouts.{form_by};
 ghost use Rattle.arrow_csv.specs.Named.{choice_by, chosen_schema};
 ghost use Rattle.arrowflow_report.specs.Blame.{BlamesNone};
 ghost use Rattle.arrowflow_report.specs.Chosen.{IsChosenAt, LacksAt, choice_of, chosen_given};
+ghost use Rattle.arrowflow_report.specs.Chosen.{form_of};
 ghost use Rattle.arrowflow_report.specs.Consumer.{Ends, Takes};
-ghost use Rattle.arrowflow_report.specs.FirstRows.{AreRowsIn, HasLast, HasMore, IsLastIn};
-ghost use Rattle.arrowflow_report.specs.FirstRows.{left_behind, rows_of};
+ghost use Rattle.arrowflow_report.specs.Windows.{IsOver, IsPartIn, window_after};
 ghost use Rattle.arrowflow_report.specs.Lines.{IsLine};
 ghost use Rattle.arrowflow_report.specs.Reports.{IsAdded, SendsText, SendsSome};
 ghost use Rattle.arrowflow_report.specs.Shown.{IsTextIn, header_in};
@@ -23,12 +24,13 @@ use crate::lines::{Message, end_line, push_line};
 use crate::report::Report;
 use crate::sending::{flush, send_rows, send_text};
 use crate::tool_fault::ToolFault;
-use arrow_csv::{BatchRows, header_of, lacking};
+use crate::window::Window;
+use arrow_csv::{BatchRows, Layout, header_of, lacking};
 use arrow_sink::Sink;
 use arrow_stream_reader::{Item, StreamReader};
 use std::alloc::Global;
 
-/// A stream that is told into an output: what is told of it, how many of its batches came, how many
+/// A stream that is reported into an output: what is reported, how many of its batches came, which
 /// rows are still wanted, if not all are, the place of the first column asked for that its schema
 /// was found to lack, and the room in which the lines of its messages, or the texts of their rows,
 /// are made, one after another.
@@ -38,18 +40,18 @@ pub(crate) struct Teller<'a, S: Sink> {
     report: Report<'a>,
     output: S,
     number: u64,
-    left: Option<u64>,
+    window: Option<Window>,
     lacks: Option<usize>,
     text: Vec<u8>,
 }
 
 impl<'a, S: Sink> Teller<'a, S> {
-    /// One to whom no batch came, and who is to tell so many rows, or all. It takes no memory.
-    pub(crate) fn new(alloc: Global, report: Report<'a>, rows: Option<u64>, output: S) -> Self
+    /// A new one, which is to write the rows in a window, or all. It takes no memory.
+    pub(crate) fn new(alloc: Global, report: Report<'a>, window: Option<Window>, output: S) -> Self
         ensures number { result.number ≡ 0 }
         ensures report { result.report ≡ report.entry }
         ensures output { result.output ≡ output }
-        ensures left { result.left ≡ rows }
+        ensures window { result.window ≡ window }
         ensures lacks { result.lacks ≡ None }
     {
         Teller {
@@ -57,7 +59,7 @@ impl<'a, S: Sink> Teller<'a, S> {
             report,
             output,
             number: 0,
-            left: rows,
+            window,
             lacks: None,
             text: Vec::new(alloc),
         }
@@ -73,58 +75,51 @@ impl<'a, S: Sink> Teller<'a, S> {
             report: _,
             output,
             number: _,
-            left: _,
+            window: _,
             lacks,
             text: _,
         } = self;
         (output, lacks)
     }
 
-    /// How many rows of a message are to be told, where it has the last that are wanted.
-    fn last_rows(&self, item: &Item) -> Option<usize>
-        ensures { MatchOption result (HasMore self.now.left (given item.now))
-            (λ rows. HasLast self.now.left (given item.now) rows) }
-    {
-        let left = self.left?;
-        match item {
-            Item::Schema if left == 0 => Some(0),
-            Item::Batch(batch) if left <= batch.rows() as u64 => Some(left as usize),
-            Item::Schema | Item::Batch(_) | Item::Dictionary(_) | Item::End => None,
-        }
-    }
-
-    /// Counts a message's batch and its rows, if it is one; answers how many batches came before.
+    /// Counts a message's batch, if it is one; answers how many batches came before.
     fn count(&mut self, item: &Item) -> Result<u64, ToolFault>
         ensures number { IfOk result (λ before. before ≡ self.old.number) }
         ensures counted { OnOk result
             (self.new.number ≡ self.old.number + length (table_in (given item.now))) }
-        ensures left { OnOk result
-            (self.new.left ≡ left_behind self.old.left (rows_of (table_in (given item.now)))) }
+        ensures window { self.new.window ≡ self.old.window }
         ensures output { self.new.output ≡ self.old.output }
         ensures same { IsTellerSame self.old self.new }
         ensures memory { IfErr result (λ fault. fault ≡ Memory) }
     {
         let before = self.number;
-        if let Item::Batch(batch) = item {
+        if let Item::Batch(_) = item {
             let Some(next) = before.checked_add(1) else {
                 return Err(ToolFault::Memory);
             };
             self.number = next;
-            self.pass(batch.rows());
         }
         Ok(before)
     }
 
-    /// Notes that so many rows more are told.
-    fn pass(&mut self, rows: usize)
-        ensures left { self.new.left ≡ left_behind self.old.left rows }
+    /// Notes which rows are wanted after a message before which so many batches came; answers
+    /// whether none is.
+    fn pass(&mut self, window: Window, item: &Item, number: u64) -> bool
+        ensures window { self.new.window
+            ≡ Some (window_after window number (table_in (given item.now))) }
+        ensures over { MatchBool result
+            (IsOver (window_after window number (table_in (given item.now))) self.old.number)
+            (IsOver (window_after window number (table_in (given item.now))) self.old.number → ⊥) }
         ensures number { self.new.number ≡ self.old.number }
         ensures output { self.new.output ≡ self.old.output }
         ensures same { IsTellerSame self.old self.new }
     {
-        if let Some(left) = self.left {
-            self.left = Some(left.saturating_sub(rows as u64));
-        }
+        let left = match item {
+            Item::Batch(batch) => window.after(number, batch.rows()),
+            Item::Schema | Item::Dictionary(_) | Item::End => window,
+        };
+        self.window = Some(left);
+        left.is_over(self.number)
     }
 
     /// Tells a message that the reader has just read and that begins at this place; answers whether
@@ -141,93 +136,84 @@ impl<'a, S: Sink> Teller<'a, S> {
             self.lacks = Some(column);
             return Ok(Wants::Enough);
         }
-        match self.last_rows(item) {
-            Some(rows) => {
-                self.tell_last(reader, item, rows)?;
-                flush(&mut self.output)?;
-                Ok(Wants::Enough)
-            }
-            None => {
-                self.tell_whole(reader, place, item)?;
-                Ok(Wants::More)
-            }
-        }
-    }
-
-    /// Tells a whole message.
-    fn tell_whole(
-        &mut self,
-        reader: &StreamReader,
-        place: u64,
-        item: &Item,
-    ) -> Result<(), ToolFault>
-        requires failed { S.failed self.old.output < 2 ^ 64 - 1 }
-        requires chosen { IsChosenAt (choice_of self.old.report) reader.now.at.state.schema
-            (given item.now) }
-        ensures sent { SendsSome (IsAdded self.old.report reader.now.at.state.schema place
-            self.old.number (given item.now)) (S.contents self.old.output)
-            (S.failed self.old.output) result (S.contents self.new.output)
-            (S.failed self.new.output) }
-        ensures counted { OnOk result
-            (self.new.number ≡ self.old.number + length (table_in (given item.now))) }
-        ensures left { OnOk result (self.new.left
-            ≡ left_behind self.old.left (rows_of (table_in (given item.now)))) }
-        ensures same { IsTellerSame self.old self.new }
-    {
-        let number = self.count(item)?;
         let message = Message {
             reader,
             place,
             item,
         };
+        let Some(window) = self.window else {
+            self.tell_whole(message)?;
+            return Ok(Wants::More);
+        };
+        let number = self.number;
+        self.tell_part(window, message)?;
+        if !self.pass(window, item, number) {
+            return Ok(Wants::More);
+        }
+        flush(&mut self.output)?;
+        Ok(Wants::Enough)
+    }
+
+    /// Tells a whole message.
+    fn tell_whole(&mut self, message: Message) -> Result<(), ToolFault>
+        requires failed { S.failed self.old.output < 2 ^ 64 - 1 }
+        requires chosen { IsChosenAt (choice_of self.old.report)
+            message.reader.now.at.state.schema (given message.item.now) }
+        ensures sent { SendsSome (IsAdded self.old.report
+            message.entry.reader.now.at.state.schema message.entry.place self.old.number
+            (given message.entry.item.now)) (S.contents self.old.output)
+            (S.failed self.old.output) result (S.contents self.new.output)
+            (S.failed self.new.output) }
+        ensures counted { OnOk result (self.new.number
+            ≡ self.old.number + length (table_in (given message.entry.item.now))) }
+        ensures window { self.new.window ≡ self.old.window }
+        ensures same { IsTellerSame self.old self.new }
+    {
+        let number = self.count(message.item)?;
         match self.report {
             Report::Messages => self.tell_message(message, number),
-            Report::Rows(choice) => self.tell_rows(choice, message, number),
+            Report::Rows(layout) => self.tell_rows(layout, message, number),
         }
     }
 
-    /// Tells so many rows of the message that has the last ones which are wanted.
-    fn tell_last(
-        &mut self,
-        reader: &StreamReader,
-        item: &Item,
-        rows: usize,
-    ) -> Result<(), ToolFault>
+    /// Tells the rows of a message that lie in the window.
+    fn tell_part(&mut self, window: Window, message: Message) -> Result<(), ToolFault>
         requires failed { S.failed self.old.output < 2 ^ 64 - 1 }
-        requires within { AreRowsIn (given item.now) rows }
-        ensures sent { SendsSome (IsLastIn rows
-            (chosen_schema (choice_of self.old.report) reader.now.at.state.schema) self.old.number
-            (chosen_given (choice_of self.old.report) (given item.now)))
+        ensures sent { SendsSome (IsPartIn (form_of self.old.report) window
+            (chosen_schema (choice_of self.old.report) message.entry.reader.now.at.state.schema)
+            self.old.number
+            (chosen_given (choice_of self.old.report) (given message.entry.item.now)))
             (S.contents self.old.output) (S.failed self.old.output) result
             (S.contents self.new.output) (S.failed self.new.output) }
+        ensures counted { OnOk result (self.new.number
+            ≡ self.old.number + length (table_in (given message.entry.item.now))) }
         ensures same { IsTellerSame self.old self.new }
     {
-        let choice = self.report.choice();
-        match item {
-            Item::Schema => self.tell_header(choice, reader),
+        let layout = self.report.layout();
+        let number = self.count(message.item)?;
+        match message.item {
+            Item::Schema => self.tell_header(layout, message.reader),
             Item::Batch(batch) => {
-                let texts = BatchRows::of(self.alloc, self.number, batch, choice)?;
-                send_rows(&mut self.text, &texts, rows, &mut self.output)
+                let texts = BatchRows::of(self.alloc, number, batch, layout)?;
+                let range = window.range(number, batch.rows());
+                send_rows(&mut self.text, &texts, range, &mut self.output)
             }
             Item::Dictionary(_) | Item::End => Ok(()),
         }
     }
 
     /// Tells the record of the schema, where there is one.
-    fn tell_header(
-        &mut self,
-        choice: Option<&[&str]>,
-        reader: &StreamReader,
-    ) -> Result<(), ToolFault>
+    fn tell_header(&mut self, layout: Layout<'_>, reader: &StreamReader) -> Result<(), ToolFault>
         requires { S.failed self.old.output < 2 ^ 64 - 1 }
         ensures sent { SendsText (S.contents self.old.output) (S.failed self.old.output)
-            (header_in (chosen_schema (choice_by choice.entry) reader.now.at.state.schema)) result
+            (header_in (form_by layout.entry) (chosen_schema (choice_by layout.entry.columns)
+            reader.now.at.state.schema)) result
             (S.contents self.new.output) (S.failed self.new.output) }
         ensures same { IsTellerSame self.old self.new }
         ensures counts { AreCountsSame self.old self.new }
     {
         match reader.schema() {
-            Some(schema) => send_text(&mut self.output, &header_of(self.alloc, schema, choice)?),
+            Some(schema) => send_text(&mut self.output, &header_of(self.alloc, schema, layout)?),
             None => Ok(()),
         }
     }
@@ -249,25 +235,25 @@ impl<'a, S: Sink> Teller<'a, S> {
     /// Tells what a message before which so many batches came adds to the text of the rows.
     fn tell_rows(
         &mut self,
-        choice: Option<&[&str]>,
+        layout: Layout<'_>,
         message: Message,
         number: u64,
     ) -> Result<(), ToolFault>
         requires { S.failed self.old.output < 2 ^ 64 - 1 }
-        ensures sent { SendsSome (IsTextIn
-            (chosen_schema (choice_by choice.entry) message.entry.reader.now.at.state.schema) number
-            (chosen_given (choice_by choice.entry) (given message.entry.item.now)))
+        ensures sent { SendsSome (IsTextIn (form_by layout.entry)
+            (chosen_schema (choice_by layout.entry.columns) message.entry.reader.now.at.state.schema)
+            number (chosen_given (choice_by layout.entry.columns) (given message.entry.item.now)))
             (S.contents self.old.output) (S.failed self.old.output) result
             (S.contents self.new.output) (S.failed self.new.output) }
         ensures same { IsTellerSame self.old self.new }
         ensures counts { AreCountsSame self.old self.new }
     {
         match message.item {
-            Item::Schema => self.tell_header(choice, message.reader),
+            Item::Schema => self.tell_header(layout, message.reader),
             Item::Batch(batch) => {
-                let texts = BatchRows::of(self.alloc, number, batch, choice)?;
+                let texts = BatchRows::of(self.alloc, number, batch, layout)?;
                 let end = batch.rows();
-                send_rows(&mut self.text, &texts, end, &mut self.output)
+                send_rows(&mut self.text, &texts, 0..end, &mut self.output)
             }
             Item::Dictionary(_) | Item::End => Ok(()),
         }
@@ -338,7 +324,7 @@ fn lacking_in(report: Report, reader: &StreamReader, item: &Item) -> Option<usiz
         (λ place. LacksAt (choice_of report.entry) reader.now.at.state.schema (given item.now)
         place) }
 {
-    match (item, report.choice(), reader.schema()) {
+    match (item, report.layout().columns, reader.schema()) {
         (Item::Schema, Some(names), Some(schema)) => lacking(schema, names),
         (Item::Schema, Some(_), None) | (Item::Schema, None, _) => None,
         (Item::Dictionary(_) | Item::Batch(_) | Item::End, _, _) => None,

@@ -33,7 +33,7 @@ static PUSHES: [(&str, &str); 43] = [
     ("float", "4294967295, !4294967296, null, !-1"),
     ("double", "18446744073709551615, !18446744073709551616, !-1"),
     ("duration[s]", "-1, !9223372036854775808"),
-    // Ten digits where nine are told fit: digits are not counted.
+    // Ten digits of a decimal of nine are taken: digits are not counted.
     (
         "decimal[32:9:2]",
         "1000000000, 2147483647, !2147483648, null, -2147483648, !-2147483649, !x1,0,0,0, !'1'",

@@ -86,8 +86,8 @@ fn lists_of_one_size_have_no_offsets(rt: HostRuntime) {
     is_number(&rt, "child", child.len(), 4);
 }
 
-// A type, a value that is refused or taken behind a null or an empty list, and the number of the fault
-// or 0. 914 * 1202966770 is 2^40 + 4.
+// A type; a value that is refused, or taken after a null or an empty list; the fault's number, or 0.
+// 914 * 1202966770 is 2^40 + 4.
 static LIMITS: [(&str, &str, u8); 12] = [
     (
         "fixed_size_list[914] fixed_size_binary[1202966770]",

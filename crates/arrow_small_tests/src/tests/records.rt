@@ -1,7 +1,7 @@
 // The header and the rows of batches of numbers.
 
 use super::columns::{MEMORY, are_records, builder, field, finished, push, schema_of};
-use arrow_csv::{BatchRows, header, header_of, lacking, rows};
+use arrow_csv::{BatchRows, Layout, header, header_of, lacking, rows};
 use arrow_data::{Array, Batch, Value};
 use arrow_types::{BitWidth, DataType, Schema};
 use std::process::Abort;
@@ -93,20 +93,54 @@ fn rows_of_two_columns(rt: HostRuntime) {
     are_rows(&rt, &batch, (1, 2), "7,,-128\n");
 }
 
-// That the header of the chosen columns is the first of these texts, and all rows are the second.
-fn are_chosen(
+// That in a layout the header is the first of these texts, and all rows are the second, by
+// themselves and after a text.
+fn are_shown(
     rt: &(impl Abort + AllocGlobal),
     batch: &Batch,
-    choice: Option<&[&str]>,
+    layout: Layout<'_>,
     (names, want): (&str, &str),
 ) {
-    let header = header_of(rt.alloc(), batch.schema(), choice).expect(rt, MEMORY);
+    let header = header_of(rt.alloc(), batch.schema(), layout).expect(rt, MEMORY);
     are_records(rt, &header, names);
     let mut out = Vec::new(rt.alloc());
-    let rows = BatchRows::of(rt.alloc(), 7, batch, choice).expect(rt, MEMORY);
+    let rows = BatchRows::of(rt.alloc(), 7, batch, layout).expect(rt, MEMORY);
     let pushed = rows.push(&mut out, 0..batch.rows());
     pushed.expect(rt, MEMORY);
     are_records(rt, &out, want);
+    let mut more = Vec::from_slice(rt.alloc(), b"x").expect(rt, MEMORY);
+    let pushed = rows.push(&mut more, 0..batch.rows());
+    pushed.expect(rt, MEMORY);
+    let after = more.strip_prefix(b"x");
+    are_records(rt, after.expect(rt, "what was there"), want);
+}
+
+// The usual layout with these columns, or all.
+fn of_columns<'a>(columns: Option<&'a [&'a str]>) -> Layout<'a> {
+    Layout {
+        columns,
+        null: None,
+        numbers: true,
+    }
+}
+
+// A layout without numbers.
+fn bare<'a>(columns: Option<&'a [&'a str]>, null: Option<&'a str>) -> Layout<'a> {
+    Layout {
+        columns,
+        null,
+        numbers: false,
+    }
+}
+
+// That with this text of a null the rows of columns n and m are these.
+fn are_with_null(rt: &(impl Abort + AllocGlobal), batch: &Batch, null: Option<&str>, want: &str) {
+    let layout = Layout {
+        columns: None,
+        null,
+        numbers: true,
+    };
+    are_shown(rt, batch, layout, ("batch,n,m\n", want));
 }
 
 #[test]
@@ -118,12 +152,37 @@ fn columns_by_their_names(rt: HostRuntime) {
     ];
     let batch = batch(&rt, &["n", "m", "n"], &columns);
     let whole = ("batch,n,m,n\n", "7,1,,7\n7,,5,8\n7,3,6,9\n");
-    are_chosen(&rt, &batch, None, whole);
+    are_shown(&rt, &batch, of_columns(None), whole);
     let turned = ("batch,m,n\n", "7,,1\n7,5,\n7,6,3\n");
-    are_chosen(&rt, &batch, Some(&["m", "n"]), turned);
+    are_shown(&rt, &batch, of_columns(Some(&["m", "n"])), turned);
     let twice = ("batch,n,n\n", "7,1,1\n7,,\n7,3,3\n");
-    are_chosen(&rt, &batch, Some(&["n", "N", "n"]), twice);
-    are_chosen(&rt, &batch, Some(&[]), ("batch\n", "7\n7\n7\n"));
+    are_shown(&rt, &batch, of_columns(Some(&["n", "N", "n"])), twice);
+    are_shown(&rt, &batch, of_columns(Some(&[])), ("batch\n", "7\n7\n7\n"));
     assert_eq!(&rt; lacking(batch.schema(), &["n", "m", "n"]), None);
     assert_eq!(&rt; lacking(batch.schema(), &["m", "", "N"]), Some(1));
+}
+
+#[test]
+fn the_text_of_a_null(rt: HostRuntime) {
+    let columns = [[Some(1), None, Some(3)], [None, None, Some(6)]];
+    let batch = batch(&rt, &["n", "m"], &columns);
+    assert!(&rt; Layout::usual().null.is_none() && Layout::usual().numbers);
+    are_with_null(&rt, &batch, None, "7,1,\n7,,\n7,3,6\n");
+    are_with_null(&rt, &batch, Some(""), "7,1,\n7,,\n7,3,6\n");
+    are_with_null(&rt, &batch, Some("NULL"), "7,1,NULL\n7,NULL,NULL\n7,3,6\n");
+    let quoted = "7,1,\"a,b\"\n7,\"a,b\",\"a,b\"\n7,3,6\n";
+    are_with_null(&rt, &batch, Some("a,b"), quoted);
+}
+
+#[test]
+fn rows_without_numbers(rt: HostRuntime) {
+    let columns = [[Some(1), None, Some(3)], [None, None, Some(6)]];
+    let batch = batch(&rt, &["n", "m"], &columns);
+    are_shown(&rt, &batch, bare(None, None), ("n,m\n", "1,\n,\n3,6\n"));
+    let one = ("m\n", "\"\"\n\"\"\n6\n");
+    are_shown(&rt, &batch, bare(Some(&["m"]), None), one);
+    let marked = ("m,n\n", "-,1\n-,-\n6,3\n");
+    are_shown(&rt, &batch, bare(Some(&["m", "n"]), Some("-")), marked);
+    let none = ("\"\"\n", "\"\"\n\"\"\n\"\"\n");
+    are_shown(&rt, &batch, bare(Some(&[]), None), none);
 }

@@ -6,25 +6,34 @@ use std::alloc::Global;
 use std::process::Abort;
 
 // The words of a line, and what they ask for, within the limits that stand where none is given.
-static TASKS: [(&[&str], &str); 23] = [
-    (&["arrowflow", "schema", "a.arrows"], "Schema(\"a.arrows\")"),
+static TASKS: [(&[&str], &str); 44] = [
+    (
+        &["arrowflow", "schema", "a.arrows"],
+        "Schema(Files { names: [\"a.arrows\"], with_filename: false, json: false })",
+    ),
     (
         &["any name", "schema", "/dev/stdin"],
-        "Schema(\"/dev/stdin\")",
+        "Schema(Files { names: [\"/dev/stdin\"], with_filename: false, json: false })",
     ),
     (
         &["arrowflow", "check", "two words é"],
-        "Check(\"two words é\", false)",
+        "Check(Files { names: [\"two words é\"], with_filename: false, json: false }, false)",
     ),
-    (&["arrowflow", "show", ""], "Show(\"\", None, None)"),
+    (
+        &["arrowflow", "show", ""],
+        "Show(Some(\"\"), ShowOptions { columns: None, batch: None, skip: None, rows: None, null: None, no_batch: false, json: false })",
+    ),
     (
         &["arrowflow", "show", "--", "-x"],
-        "Show(\"-x\", None, None)",
+        "Show(Some(\"-x\"), ShowOptions { columns: None, batch: None, skip: None, rows: None, null: None, no_batch: false, json: false })",
     ),
-    (&["arrowflow", "show", "-"], "Show(\"-\", None, None)"),
+    (
+        &["arrowflow", "show", "-"],
+        "Show(Some(\"-\"), ShowOptions { columns: None, batch: None, skip: None, rows: None, null: None, no_batch: false, json: false })",
+    ),
     (
         &["arrowflow", "copy", "a", "b"],
-        "Copy(\"a\", \"b\", Options { updates: Delta, align: SixtyFour })",
+        "Copy(\"a\", Some(\"b\"), CopyOptions { stream: Options { updates: Delta, align: SixtyFour }, atomic: false, no_clobber: false, fail_downstream: false })",
     ),
     (
         &[
@@ -36,7 +45,7 @@ static TASKS: [(&[&str], &str); 23] = [
             "resend",
             "--align=8",
         ],
-        "Copy(\"-\", \"-\", Options { updates: Resend, align: Eight })",
+        "Copy(\"-\", Some(\"-\"), CopyOptions { stream: Options { updates: Resend, align: Eight }, atomic: false, no_clobber: false, fail_downstream: false })",
     ),
     (
         &[
@@ -48,7 +57,7 @@ static TASKS: [(&[&str], &str); 23] = [
             "--updates=delta",
             "b",
         ],
-        "Copy(\"a\", \"b\", Options { updates: Delta, align: SixtyFour })",
+        "Copy(\"a\", Some(\"b\"), CopyOptions { stream: Options { updates: Delta, align: SixtyFour }, atomic: false, no_clobber: false, fail_downstream: false })",
     ),
     (
         &["arrowflow", "drill", "a"],
@@ -93,43 +102,130 @@ static TASKS: [(&[&str], &str); 23] = [
     ),
     (
         &["arrowflow", "check", "a", "--quiet"],
-        "Check(\"a\", true)",
+        "Check(Files { names: [\"a\"], with_filename: false, json: false }, true)",
     ),
     (
         &["arrowflow", "check", "--quiet", "-"],
-        "Check(\"-\", true)",
+        "Check(Files { names: [\"-\"], with_filename: false, json: false }, true)",
     ),
     (
         &["arrowflow", "check", "--", "--quiet"],
-        "Check(\"--quiet\", false)",
+        "Check(Files { names: [\"--quiet\"], with_filename: false, json: false }, false)",
     ),
     (
         &["arrowflow", "show", "a", "--rows", "0"],
-        "Show(\"a\", None, Some(0))",
+        "Show(Some(\"a\"), ShowOptions { columns: None, batch: None, skip: None, rows: Some(0), null: None, no_batch: false, json: false })",
     ),
     (
         &["arrowflow", "show", "--rows=10", "a"],
-        "Show(\"a\", None, Some(10))",
+        "Show(Some(\"a\"), ShowOptions { columns: None, batch: None, skip: None, rows: Some(10), null: None, no_batch: false, json: false })",
     ),
     (
         &["arrowflow", "show", "--rows", "18446744073709551615", "a"],
-        "Show(\"a\", None, Some(18446744073709551615))",
+        "Show(Some(\"a\"), ShowOptions { columns: None, batch: None, skip: None, rows: Some(18446744073709551615), null: None, no_batch: false, json: false })",
     ),
     (
         &["arrowflow", "show", "--", "--rows"],
-        "Show(\"--rows\", None, None)",
+        "Show(Some(\"--rows\"), ShowOptions { columns: None, batch: None, skip: None, rows: None, null: None, no_batch: false, json: false })",
     ),
     (
         &["arrowflow", "show", "a", "--columns", "k"],
-        "Show(\"a\", Some([\"k\"]), None)",
+        "Show(Some(\"a\"), ShowOptions { columns: Some([\"k\"]), batch: None, skip: None, rows: None, null: None, no_batch: false, json: false })",
     ),
     (
         &["arrowflow", "show", "--columns=k,,a b,é,k", "a", "--rows=2"],
-        "Show(\"a\", Some([\"k\", \"\", \"a b\", \"é\", \"k\"]), Some(2))",
+        "Show(Some(\"a\"), ShowOptions { columns: Some([\"k\", \"\", \"a b\", \"é\", \"k\"]), batch: None, skip: None, rows: Some(2), null: None, no_batch: false, json: false })",
     ),
     (
         &["arrowflow", "show", "a", "--columns", ","],
-        "Show(\"a\", Some([\"\", \"\"]), None)",
+        "Show(Some(\"a\"), ShowOptions { columns: Some([\"\", \"\"]), batch: None, skip: None, rows: None, null: None, no_batch: false, json: false })",
+    ),
+    (
+        &["arrowflow", "schema"],
+        "Schema(Files { names: [], with_filename: false, json: false })",
+    ),
+    (
+        &["arrowflow", "schema", "a", "-", "a"],
+        "Schema(Files { names: [\"a\", \"-\", \"a\"], with_filename: false, json: false })",
+    ),
+    (
+        &["arrowflow", "check", "-q"],
+        "Check(Files { names: [], with_filename: false, json: false }, true)",
+    ),
+    (
+        &["arrowflow", "check", "a", "-q", "b"],
+        "Check(Files { names: [\"a\", \"b\"], with_filename: false, json: false }, true)",
+    ),
+    (
+        &["arrowflow", "show"],
+        "Show(None, ShowOptions { columns: None, batch: None, skip: None, rows: None, null: None, no_batch: false, json: false })",
+    ),
+    (
+        &["arrowflow", "show", "--json", "a"],
+        "Show(Some(\"a\"), ShowOptions { columns: None, batch: None, skip: None, rows: None, null: None, no_batch: false, json: true })",
+    ),
+    (
+        &["arrowflow", "show", "-n", "2", "-c", "k,l"],
+        "Show(None, ShowOptions { columns: Some([\"k\", \"l\"]), batch: None, skip: None, rows: Some(2), null: None, no_batch: false, json: false })",
+    ),
+    (
+        &["arrowflow", "show", "-n7", "-cx", "a"],
+        "Show(Some(\"a\"), ShowOptions { columns: Some([\"x\"]), batch: None, skip: None, rows: Some(7), null: None, no_batch: false, json: false })",
+    ),
+    (
+        &["arrowflow", "schema", "-H", "a"],
+        "Schema(Files { names: [\"a\"], with_filename: true, json: false })",
+    ),
+    (
+        &["arrowflow", "check", "a", "-qH"],
+        "Check(Files { names: [\"a\"], with_filename: true, json: false }, true)",
+    ),
+    (&["arrowflow", "explain"], "Explain(None)"),
+    (&["arrowflow", "explain", "a"], "Explain(Some(\"a\"))"),
+    (
+        &["arrowflow", "copy", "a", "b", "--atomic"],
+        "Copy(\"a\", Some(\"b\"), CopyOptions { stream: Options { updates: Delta, align: SixtyFour }, atomic: true, no_clobber: false, fail_downstream: false })",
+    ),
+    (
+        &["arrowflow", "copy", "--no-clobber", "a", "b"],
+        "Copy(\"a\", Some(\"b\"), CopyOptions { stream: Options { updates: Delta, align: SixtyFour }, atomic: false, no_clobber: true, fail_downstream: false })",
+    ),
+    (
+        &["arrowflow", "copy", "a", "--fail-downstream", "b"],
+        "Copy(\"a\", Some(\"b\"), CopyOptions { stream: Options { updates: Delta, align: SixtyFour }, atomic: false, no_clobber: false, fail_downstream: true })",
+    ),
+    (
+        &["arrowflow", "copy", "a", "--in-place"],
+        "Copy(\"a\", None, CopyOptions { stream: Options { updates: Delta, align: SixtyFour }, atomic: false, no_clobber: false, fail_downstream: false })",
+    ),
+    (
+        &[
+            "arrowflow",
+            "show",
+            "a",
+            "--batch",
+            "3",
+            "--skip=5",
+            "--null",
+            "NULL",
+        ],
+        "Show(Some(\"a\"), ShowOptions { columns: None, batch: Some(3), skip: Some(5), rows: None, null: Some(\"NULL\"), no_batch: false, json: false })",
+    ),
+    (
+        &["arrowflow", "show", "--no-batch", "--null=", "-n1"],
+        "Show(None, ShowOptions { columns: None, batch: None, skip: None, rows: Some(1), null: Some(\"\"), no_batch: true, json: false })",
+    ),
+    (
+        &["arrowflow", "schema", "--json", "a"],
+        "Schema(Files { names: [\"a\"], with_filename: false, json: true })",
+    ),
+    (
+        &["arrowflow", "check", "a", "--json"],
+        "Check(Files { names: [\"a\"], with_filename: false, json: true }, false)",
+    ),
+    (
+        &["arrowflow", "drill", "a", "--bytes", "3K", "--piece=1KB"],
+        "Drill([\"a\"], Options { updates: Delta, align: SixtyFour }, 3072, 1000)",
     ),
 ];
 
@@ -140,7 +236,7 @@ const BODY: u64 = 68_719_476_736;
 const ROWS: u64 = 2_147_483_647;
 
 // The words of a line, and the limits of metadata, of a body and of rows that they ask for.
-static LIMITS: [(&[&str], [u64; 3]); 9] = [
+static LIMITS: [(&[&str], [u64; 3]); 15] = [
     (&["arrowflow", "show", "a"], [METADATA, BODY, ROWS]),
     (
         &["arrowflow", "show", "a", "--limit-metadata", "5"],
@@ -182,6 +278,60 @@ static LIMITS: [(&[&str], [u64; 3]); 9] = [
     (
         &["arrowflow", "check", "--limit-rows", "2147483647", "a"],
         [METADATA, BODY, ROWS],
+    ),
+    (
+        &[
+            "arrowflow",
+            "show",
+            "--limit-metadata=1KiB",
+            "--limit-body=2MiB",
+        ],
+        [1_024, 2_097_152, ROWS],
+    ),
+    (
+        &[
+            "arrowflow",
+            "show",
+            "--limit-metadata=1GiB",
+            "--limit-body=1TiB",
+        ],
+        [1_073_741_824, 1_099_511_627_776, ROWS],
+    ),
+    (
+        &[
+            "arrowflow",
+            "show",
+            "--limit-metadata=3KB",
+            "--limit-body=4MB",
+        ],
+        [3_000, 4_000_000, ROWS],
+    ),
+    (
+        &[
+            "arrowflow",
+            "show",
+            "--limit-metadata=1GB",
+            "--limit-body=1TB",
+        ],
+        [1_000_000_000, 1_000_000_000_000, ROWS],
+    ),
+    (
+        &[
+            "arrowflow",
+            "show",
+            "--limit-metadata=5K",
+            "--limit-body=+6M",
+        ],
+        [5_120, 6_291_456, ROWS],
+    ),
+    (
+        &[
+            "arrowflow",
+            "show",
+            "--limit-metadata=1G",
+            "--limit-body=1T",
+        ],
+        [1_073_741_824, 1_099_511_627_776, ROWS],
     ),
 ];
 
@@ -235,14 +385,14 @@ fn types_are_those_of_the_line(rt: HostRuntime) {
 }
 
 // The words of a line without a plan, the exit status, and a part of what is printed.
-static OTHERS: [(&[&str], i32, &str); 57] = [
+static OTHERS: [(&[&str], i32, &str); 68] = [
     (&["arrowflow", "check", "a", "--types", "floats"], 2, ""),
     (&["arrowflow", "show", "a", "--types"], 2, ""),
     (&["arrowflow", "drill", "a", "--types="], 2, ""),
     (&["arrowflow"], 2, ""),
-    (&["arrowflow", "schema"], 2, ""),
-    (&["arrowflow", "schema", "a", "b"], 2, ""),
-    (&["arrowflow", "check"], 2, ""),
+    (&["arrowflow", "explain", "a", "b"], 2, ""),
+    (&["arrowflow", "explain", "--json", "a"], 2, ""),
+    (&["arrowflow", "schema", "-q", "a"], 2, ""),
     (&["arrowflow", "show", "a", "b"], 2, ""),
     (&["arrowflow", "schema", "-x"], 2, ""),
     (&["arrowflow", "schema", "--long", "a"], 2, ""),
@@ -259,16 +409,12 @@ static OTHERS: [(&[&str], i32, &str); 57] = [
         0,
         "  arrowflow show examples/growing_dictionary.arrows",
     ),
-    (
-        &["arrowflow", "--help"],
-        0,
-        "Prints the columns of a stream",
-    ),
+    (&["arrowflow", "--help"], 0, "Prints the columns of streams"),
     (&["arrowflow", "--help"], 0, "Usage: arrowflow <COMMAND>"),
     (
         &["arrowflow", "check", "--help"],
         0,
-        "Usage: arrowflow check [OPTIONS] <FILE>",
+        "Usage: arrowflow check [OPTIONS] [FILE]...",
     ),
     (
         &["arrowflow", "help", "show"],
@@ -278,12 +424,12 @@ static OTHERS: [(&[&str], i32, &str); 57] = [
     (
         &["elsewhere/program", "schema", "-h"],
         0,
-        "Usage: arrowflow schema [OPTIONS] <FILE>",
+        "Usage: arrowflow schema [OPTIONS] [FILE]...",
     ),
     (
         &["arrowflow", "help", "schema"],
         0,
-        "  arrowflow schema - < examples/one_column.arrows",
+        "  arrowflow schema examples/one_column.arrows examples/wide.arrows",
     ),
     (&["arrowflow", "copy"], 2, ""),
     (&["arrowflow", "copy", "a"], 2, ""),
@@ -321,20 +467,71 @@ static OTHERS: [(&[&str], i32, &str); 57] = [
     (
         &["arrowflow", "copy", "--help"],
         0,
-        "a stream is never copied into its own file",
+        "a stream is not copied into its own file without",
     ),
     (
         &["arrowflow", "help", "drill"],
         0,
-        "  arrowflow drill examples/growing_dictionary.arrows --align 8 --bytes 975 --piece 1",
+        "  arrowflow drill examples/growing_dictionary.arrows --bytes 975 --piece 1",
     ),
     (
         &["arrowflow", "--help"],
         0,
-        "Writes streams again over connections that break",
+        "Writes streams over connections that break",
     ),
     (&["arrowflow", "check", "a", "--quiet=true"], 2, ""),
-    (&["arrowflow", "check", "a", "--quiet", "b"], 2, ""),
+    (&["arrowflow", "copy", "--atomic", "a"], 2, ""),
+    (
+        &["arrowflow", "copy", "a"],
+        2,
+        "error: the following required arguments were not provided:\n  <OUT>\n\n\
+         Usage: arrowflow copy <IN> <OUT>\n\nFor more information, try '--help'.",
+    ),
+    (
+        &["arrowflow", "copy", "a", "b", "--in-place"],
+        2,
+        "error: the argument '--in-place' cannot be used with '[OUT]'\n\n\
+         Usage: arrowflow copy --in-place <IN>\n\nFor more information, try '--help'.",
+    ),
+    (
+        &["arrowflow", "check", "a", "--limit-body=2TiB"],
+        2,
+        "error: the size of '--limit-body <N>' is not in 0..=1099511627776: \
+         sizes are bytes, or as 64K, 1MiB or 2GB\n\nFor more information, try '--help'.",
+    ),
+    (
+        &["arrowflow", "check", "a", "--limit-body=2k"],
+        2,
+        "--limit-body <N>",
+    ),
+    (
+        &["arrowflow", "check", "a", "--limit-body=KiB"],
+        2,
+        "--limit-body <N>",
+    ),
+    (
+        &["arrowflow", "check", "a", "--limit-body=1 K"],
+        2,
+        "--limit-body <N>",
+    ),
+    (
+        &["arrowflow", "check", "a", "--limit-body="],
+        2,
+        "--limit-body <N>",
+    ),
+    (
+        &[
+            "arrowflow",
+            "check",
+            "a",
+            "--limit-metadata=18446744073709551615T",
+        ],
+        2,
+        "--limit-metadata <N>",
+    ),
+    (&["arrowflow", "show", "a", "--batch", "-1"], 2, ""),
+    (&["arrowflow", "show", "a", "--skip", "x"], 2, ""),
+    (&["arrowflow", "show", "a", "--null"], 2, ""),
     (&["arrowflow", "show", "a", "--quiet"], 2, ""),
     (
         &["arrowflow", "check", "a", "--limit-metadata", "1073741825"],
@@ -372,11 +569,18 @@ static OTHERS: [(&[&str], i32, &str); 57] = [
 ];
 
 fn assert_other(rt: &impl Abort, alloc: Global, words: &[&str], status: i32, part: &str) {
-    let Err(ArgFault::Line(error)) = plan(alloc, words) else {
-        panic!(rt; "a plan of {words:?}");
+    let (code, text) = match plan(alloc, words) {
+        Err(ArgFault::Line(error)) => {
+            let text = format!(in alloc; "{error}").expect(rt, "memory");
+            (error.exit_code(), text)
+        }
+        Err(ArgFault::Misused(misuse)) => {
+            let text = format!(in alloc; "{misuse}").expect(rt, "memory");
+            (2, text)
+        }
+        Err(ArgFault::Memory) | Ok(_) => panic!(rt; "a plan of {words:?}"),
     };
-    assert_eq!(rt; error.exit_code(), status, "of {words:?}");
-    let text = format!(in alloc; "{error}").expect(rt, "memory");
+    assert_eq!(rt; code, status, "of {words:?}");
     assert!(rt; text.as_str().contains(part), "{text}");
 }
 

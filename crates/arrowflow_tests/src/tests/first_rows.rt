@@ -1,4 +1,4 @@
-//! What `show_first` and `show_columns` write of streams, and what a check that writes nothing tells.
+//! What `show_selection` writes of streams, and what a check that writes nothing answers.
 
 use super::columns::THREE_COLUMNS;
 use super::copying::with_more;
@@ -6,6 +6,7 @@ use super::told::{Call, LETTERS, NUMBERS, assert_told, told};
 use arrow_sink::probe::Trickle;
 use arrow_test_streams::streams::{GROWING, ONE_BATCH};
 use arrow_types::Limits;
+use arrowflow_report::{Layout, Selection};
 use std::alloc::Global;
 use std::process::Abort;
 
@@ -174,5 +175,101 @@ fn assert_read(rt: &impl Abort, alloc: Global, row: &(Call, usize, usize, &str))
 fn bytes_behind_what_is_wanted(rt: HostRuntime) {
     for row in &READ {
         assert_read(&rt, rt.alloc(), row);
+    }
+}
+
+// Layouts of the three columns: which of them, the text of a null, and whether rows have numbers;
+// and what is shown then.
+static LAYOUTS: [(Layout, &str); 4] = [
+    (
+        Layout {
+            columns: None,
+            null: Some("NULL"),
+            numbers: true,
+        },
+        "batch,a,b,a\n0,1,x,7\n0,NULL,\"y,z\",8\n1,3,NULL,9\n",
+    ),
+    (
+        Layout {
+            columns: Some(&["b", "a"]),
+            null: Some("-"),
+            numbers: false,
+        },
+        "b,a\nx,1\n\"y,z\",-\n-,3\n",
+    ),
+    (
+        Layout {
+            columns: Some(&["b"]),
+            null: None,
+            numbers: false,
+        },
+        "b\nx\n\"y,z\"\n\"\"\n",
+    ),
+    (
+        Layout {
+            columns: Some(&[]),
+            null: None,
+            numbers: false,
+        },
+        "\"\"\n\"\"\n\"\"\n\"\"\n",
+    ),
+];
+
+#[test]
+fn layouts_of_a_stream(rt: HostRuntime) {
+    for (layout, text) in &LAYOUTS {
+        let selection = Selection {
+            layout: *layout,
+            batch: None,
+            skip: 0,
+            rows: None,
+        };
+        assert_told(
+            &rt,
+            rt.alloc(),
+            Call::Selected(selection),
+            THREE_COLUMNS,
+            text,
+        );
+    }
+}
+
+// A window of the rows of the growing dictionary: which batch, how many rows are left out, how many
+// follow; how far the bytes go, and what is shown then.
+type Windowed = (Option<u64>, u64, Option<u64>, usize, &'static str);
+
+static WINDOWS: [Windowed; 12] = [
+    (None, 0, None, 1376, LETTERS),
+    (None, 2, None, 1376, "batch,k\n0,c\n1,e\n1,a\n2,c\n2,e\n"),
+    (None, 2, Some(2), 1376, "batch,k\n0,c\n1,e\n"),
+    (None, 4, Some(1), 1376, "batch,k\n1,a\n"),
+    (None, u64::MAX, Some(u64::MAX), 1376, "batch,k\n"),
+    (None, 5, Some(0), 200, "batch,k\n"),
+    (Some(1), 0, None, 1376, "batch,k\n1,e\n1,a\n"),
+    (Some(1), 1, None, 1376, "batch,k\n1,a\n"),
+    (Some(2), 0, Some(1), 1376, "batch,k\n2,c\n"),
+    (Some(3), 0, None, 1376, "batch,k\n"),
+    (Some(0), 7, Some(9), 600, "batch,k\n"),
+    (
+        Some(1),
+        0,
+        None,
+        600,
+        "batch,k\n1 fault at byte 592: Truncated",
+    ),
+];
+
+#[test]
+fn windows_of_a_stream(rt: HostRuntime) {
+    let stream = GROWING.as_slice();
+    for (batch, skip, rows, place, text) in &WINDOWS {
+        let bytes = &stream[..(*place).min(stream.len())];
+        let selection = Selection {
+            layout: Layout::usual(),
+            batch: *batch,
+            skip: *skip,
+            rows: *rows,
+        };
+        assert_told(&rt, rt.alloc(), Call::Selected(selection), bytes, text);
     }
 }

@@ -5,8 +5,8 @@ use arrow_sink::Counted;
 use arrow_sink::probe::Trickle;
 use arrow_types::Limits;
 use arrowflow_report::{
-    ColumnsFault, Input, Selection, ToolFault, check, check_quietly, schema_text, show,
-    show_columns, show_first,
+    ColumnsFault, Input, Layout, Selection, ToolFault, check, check_quietly, schema_text, show,
+    show_selection,
 };
 use std::alloc::{AllocError, Global};
 use std::process::Abort;
@@ -28,6 +28,8 @@ pub(super) enum Call {
     First(u64),
     /// The columns of these names alone, of so many rows or of all.
     Columns(&'static [&'static str], Option<u64>),
+    /// What a selection has.
+    Selected(Selection<'static>),
 }
 
 /// Appends the status and the line of a fault.
@@ -83,20 +85,35 @@ pub(super) fn told<R: Input>(
             (output.into_inner(), answer)
         }
         Call::First(rows) => {
-            let output = Counted::new(Vec::new(alloc));
-            let (output, answer) = show_first(alloc, input, output, rows, limits);
-            (output.into_inner(), answer)
+            let selection = selection_of(None, Some(rows));
+            return selected(rt, alloc, input, &selection, limits);
         }
         Call::Columns(columns, rows) => {
-            let selection = Selection { columns, rows };
-            return columns_told(rt, alloc, input, &selection, limits);
+            let selection = selection_of(Some(columns), rows);
+            return selected(rt, alloc, input, &selection, limits);
         }
+        Call::Selected(selection) => return selected(rt, alloc, input, &selection, limits),
     };
     written(rt, alloc, &taken, &answer)
 }
 
-/// What is shown of columns, and behind it the place of the one that the schema lacks.
-fn columns_told<R: Input>(
+/// The columns of these names, or all, of so many rows, or of all, in the usual layout.
+fn selection_of(columns: Option<&'static [&'static str]>, rows: Option<u64>) -> Selection<'static> {
+    let layout = Layout {
+        columns,
+        null: None,
+        numbers: true,
+    };
+    Selection {
+        layout,
+        batch: None,
+        skip: 0,
+        rows,
+    }
+}
+
+/// What is shown of a selection, and after it the place of the column that the schema lacks.
+fn selected<R: Input>(
     rt: &impl Abort,
     alloc: Global,
     input: &mut R,
@@ -104,7 +121,7 @@ fn columns_told<R: Input>(
     limits: &Limits,
 ) -> String {
     let output = Counted::new(Vec::new(alloc));
-    let (output, answer) = show_columns(alloc, input, output, selection, limits);
+    let (output, answer) = show_selection(alloc, input, output, selection, limits);
     let taken = output.into_inner();
     match answer {
         Ok(()) => written(rt, alloc, &taken, &Ok(())),

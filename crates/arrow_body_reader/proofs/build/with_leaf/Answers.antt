@@ -1,6 +1,6 @@
-use Rattle.std.proofs.Common.{rules, ◌≡◌, [], drop, ap, ◌∙◌, subst}
+use Rattle.std.proofs.Common.{rules, ◌≡◌, [], drop, ap, sym, ◌∙◌, subst}
 use Rattle.arrow_types.specs.View.{field_view}
-use Rattle.arrow_data.specs.Form.{form_of}
+use Rattle.arrow_data.specs.Form.{IsLeaf, form_of, node_form}
 use Rattle.arrow_data.specs.Layout.{IsLaid, IsText}
 use Rattle.arrow_data.specs.Shared.{NodeType, node_type}
 use Rattle.arrow_data.proofs.NodeParts.{leaf_laid}
@@ -18,9 +18,8 @@ from_leaf_parts-requires-clause-own c =
 pub from_leaf_parts-requires-clause-leaf : goal.from_leaf_parts-requires-clause-leaf
 from_leaf_parts-requires-clause-leaf c =
     let h = (field_view c.args.place.field.now).head in
-    let ch = (field_view c.args.place.field.now).children in
-    let shared : c.unwrap-shared.result.now ≡ node_type h ch = search rules in
-    rw shared c.requires.leaf.leaf
+    let formed : c.args.place.form ≡ form_of h.tag = c.args.place.formed ∙ ap (node_form h.tag) c.requires.leaf.own in
+    subst IsLeaf (sym formed) c.requires.leaf.leaf
 
 pub from_leaf_parts-requires-clause-layout : goal.from_leaf_parts-requires-clause-layout
 from_leaf_parts-requires-clause-layout c =

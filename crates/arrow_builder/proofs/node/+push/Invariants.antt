@@ -6,11 +6,11 @@ use Rattle.arrow_builder.specs.Built.{built_size, fields_in, with_values}
 use Rattle.arrow_builder.proofs.Nested.{begun}
 use Rattle.arrow_builder.proofs.node.+push.Given as goal
 
--- the items so far stand behind the first values
+-- the items so far follow the first values
 abbrev pub invariant-push_items-loop-item : goal.invariant-push_items-loop-item
 invariant-push_items-loop-item l = l.node ≡ with_values l.initial.node (take l.item-index (values_view l.items))
 
--- the nulls so far stand behind the first values
+-- the nulls so far follow the first values
 abbrev pub invariant-push_nulls-loop-i : goal.invariant-push_nulls-loop-i
 invariant-push_nulls-loop-i l = l.node ≡ with_values l.initial.node (replicate l._i null_value)
 

@@ -1,4 +1,5 @@
-use Rattle.std.proofs.Common.{◌∙◌, arith}
+use Rattle.std.proofs.Common.{arith}
+use Rattle.arrow_csv.specs.Layouts.{null_by}
 use Rattle.arrow_csv.proofs.Written.{rows_more}
 use Rattle.arrow_csv.proofs.records.push_records.Goals as goal
 
@@ -6,8 +7,10 @@ use Rattle.arrow_csv.proofs.records.push_records.Goals as goal
 pub loop-i-preserved : goal.loop-i-preserved
 loop-i-preserved c =
     let start = c.args.rows.start in
-    let i = c.loop-i.i in (
-      rows_more c.args.number c.args.columns.now start i c.as_bytes.result.now c.args.out.now.items c.loop-i.out.items _ c.ranges.number.fits c.loop-i.invariant.1 (c.as_bytes.ensures.value ∙ c.format-head.ensures.text) c.loop-i.invariant.0 c.in_ok-push_row.ensures,
-      omega (arith, c.loop-i.invariant.1),
+    let i = c.loop-i.i in
+    let held = c.loop-i.invariant in (
+      rows_more c.args.number c.head_of-head.result (null_by c.args.columns.null) c.args.columns.texts.now start i c.args.out.now.items c.loop-i.out.items _ c.head_of-head.ensures held.1 held.0 c.in_ok-push_row.ensures,
+      omega (arith, held.1),
       omega (arith, c.loop-i-test.true),
+      held.3,
     )

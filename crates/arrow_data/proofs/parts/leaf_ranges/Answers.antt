@@ -1,8 +1,7 @@
 use Rattle.std.proofs.lemmas.Grind.{common_steps}
 use Rattle.std.proofs.Common.{◌≡◌, ◌≤◌, length, map, ap, sym, ◌∙◌, subst, refl, arith}
-use Rattle.arrow_types.specs.Field.{none}
 use Rattle.arrow_types.specs.View.{type_view}
-use Rattle.arrow_data.specs.Form.{HasFieldsOf, buffers_of, form_of}
+use Rattle.arrow_data.specs.Form.{buffers_of, form_of}
 use Rattle.arrow_data.specs.Node.{binary_at, bytes_of, utf8_at}
 use Rattle.arrow_data.specs.Parts.{value_slot}
 use Rattle.arrow_data.specs.Slots.{binary_slot, utf8_slot}
@@ -14,22 +13,20 @@ pub returns-in-Bytes-clause-same : goal.returns-in-Bytes-clause-same
 returns-in-Bytes-clause-same c = λ children typed.
     let t = type_view c.args.data_type.now in
     let w = c.in-Bytes.width in
-    let form : form_of t.tag ≡ forms.Bytes w = sym c.form_of.ensures.same ∙ c.in-Bytes.is in
+    let form : form_of t.tag ≡ forms.Bytes w = sym c.requires.form ∙ c.in-Bytes.is in
     let three : 3 ≤ length c.args.node.ranges.now = subst (λ x. buffers_of x ≤ length c.args.node.ranges.now) form c.requires.count in
-    let leaf : t.children ≡ none = subst (λ f. HasFieldsOf f t.children) c.in-Bytes.is c.form_of.ensures.below in
     let s = c.strings.ensures in
-    leaf_same t (forms.Bytes w) c.args.node.len (map (bytes_of c.args.node.body.now) c.args.node.ranges.now) children (binary_at c.args.node.body.now c.strings.result) form leaf typed refl
+    leaf_same t (forms.Bytes w) c.args.node.len (map (bytes_of c.args.node.body.now) c.args.node.ranges.now) children (binary_at c.args.node.body.now c.strings.result) form c.requires.bare typed refl
     (λ values. strings_same c.args.node.body.now c.args.node.ranges.now c.strings.result three s.validity s.offsets s.bytes (binary_slot c.strings.result.width) ∙ ap (λ x. value_slot (forms.Bytes x) (map (bytes_of c.args.node.body.now) c.args.node.ranges.now) values) s.width)
 
 pub returns-in-Texts-clause-same : goal.returns-in-Texts-clause-same
 returns-in-Texts-clause-same c = λ children typed.
     let t = type_view c.args.data_type.now in
     let w = c.in-Texts.width in
-    let form : form_of t.tag ≡ forms.Texts w = sym c.form_of.ensures.same ∙ c.in-Texts.is in
+    let form : form_of t.tag ≡ forms.Texts w = sym c.requires.form ∙ c.in-Texts.is in
     let three : 3 ≤ length c.args.node.ranges.now = subst (λ x. buffers_of x ≤ length c.args.node.ranges.now) form c.requires.count in
-    let leaf : t.children ≡ none = subst (λ f. HasFieldsOf f t.children) c.in-Texts.is c.form_of.ensures.below in
     let s = c.strings-in-Texts.ensures in
-    leaf_same t (forms.Texts w) c.args.node.len (map (bytes_of c.args.node.body.now) c.args.node.ranges.now) children (utf8_at c.args.node.body.now c.strings-in-Texts.result) form leaf typed refl
+    leaf_same t (forms.Texts w) c.args.node.len (map (bytes_of c.args.node.body.now) c.args.node.ranges.now) children (utf8_at c.args.node.body.now c.strings-in-Texts.result) form c.requires.bare typed refl
     (λ values. strings_same c.args.node.body.now c.args.node.ranges.now c.strings-in-Texts.result three s.validity s.offsets s.bytes (utf8_slot c.strings-in-Texts.result.width) ∙ ap (λ x. value_slot (forms.Texts x) (map (bytes_of c.args.node.body.now) c.args.node.ranges.now) values) s.width)
 
 pub bools-requires : goal.bools-requires

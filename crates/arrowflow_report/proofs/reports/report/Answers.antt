@@ -1,18 +1,18 @@
 use Rattle.std.proofs.Common.{refl, sym, ap, subst, ◌∙◌}
 use Rattle.std.specs.Prelude.{OnOk}
 use Rattle.arrow_stream_reader.specs.Stream.{ReaderView}
-use Rattle.arrowflow_report.specs.Chosen.{choice_of}
+use Rattle.arrowflow_report.specs.Chosen.{choice_of, form_of}
 use Rattle.arrowflow_report.specs.Columns.{LacksInput}
-use Rattle.arrowflow_report.specs.FirstRows.{ShowsFirstOf}
+use Rattle.arrowflow_report.specs.Windows.{ShowsWindowOf}
 use Rattle.arrowflow_report.specs.Reports.{ReportsInput}
 use Rattle.arrowflow_report.specs.Telling.{TellingBegan}
-use Rattle.arrowflow_report.proofs.Messages.{call_all, call_first, call_has, call_lacks, call_passed, nothing_told}
+use Rattle.arrowflow_report.proofs.Messages.{call_all, call_window, call_has, call_lacks, call_passed, nothing_told}
 use Rattle.arrowflow_report.proofs.reports.report.Goals as goal
 
 pub returns-clause-written : goal.returns-clause-written
 returns-clause-written g c has all =
     let teller = c.args.teller in
-    let began : TellingBegan = record { report = teller.report; first = g.S.Sink.contents teller.output; failures = g.S.Sink.failed teller.output; rows = teller.left } in
+    let began : TellingBegan = record { report = teller.report; first = g.S.Sink.contents teller.output; failures = g.S.Sink.failed teller.output; window = teller.window } in
     let own = c.new-reader.result.limits in
     let had = g.R.Input.remaining c.args.input.now in
     let left = g.R.Input.remaining c.drive-teller.new.input in
@@ -29,7 +29,7 @@ returns-clause-written g c has all =
 pub returns-clause-first : goal.returns-clause-first
 returns-clause-first g c has rows n some =
     let teller = c.args.teller in
-    let began : TellingBegan = record { report = teller.report; first = g.S.Sink.contents teller.output; failures = g.S.Sink.failed teller.output; rows = teller.left } in
+    let began : TellingBegan = record { report = teller.report; first = g.S.Sink.contents teller.output; failures = g.S.Sink.failed teller.output; window = teller.window } in
     let own = c.new-reader.result.limits in
     let had = g.R.Input.remaining c.args.input.now in
     let left = g.R.Input.remaining c.drive-teller.new.input in
@@ -39,14 +39,14 @@ returns-clause-first g c has rows n some =
     let limits_are = ap (λ (r : ReaderView). r.limits) c.new-reader.ensures.fresh in
     let output_is = sym c.into_parts-output.ensures.output in
     let lacks_is = sym c.into_parts-output.ensures.lacks in
-    subst (λ o. ShowsFirstOf (choice_of teller.report) n c.args.limits.now had left began.first began.failures answer (g.S.Sink.contents o) (g.S.Sink.failed o)) output_is
-    (subst (λ l. ShowsFirstOf (choice_of teller.report) n l had left began.first began.failures answer (g.S.Sink.contents told.output) (g.S.Sink.failed told.output)) limits_are
-    (call_first g.S.Sink.contents g.S.Sink.failed g.S.Sink.is_passed_on began told own had left c.drive-teller.new.reader c.drive-teller.ensures.limits answer driven (lacks_is ∙ has) n some))
+    subst (λ o. ShowsWindowOf (form_of teller.report) (choice_of teller.report) n c.args.limits.now had left began.first began.failures answer (g.S.Sink.contents o) (g.S.Sink.failed o)) output_is
+    (subst (λ l. ShowsWindowOf (form_of teller.report) (choice_of teller.report) n l had left began.first began.failures answer (g.S.Sink.contents told.output) (g.S.Sink.failed told.output)) limits_are
+    (call_window g.S.Sink.contents g.S.Sink.failed g.S.Sink.is_passed_on began told own had left c.drive-teller.new.reader c.drive-teller.ensures.limits answer driven (lacks_is ∙ has) n some))
 
 pub returns-clause-lacks : goal.returns-clause-lacks
 returns-clause-lacks g c k is =
     let teller = c.args.teller in
-    let began : TellingBegan = record { report = teller.report; first = g.S.Sink.contents teller.output; failures = g.S.Sink.failed teller.output; rows = teller.left } in
+    let began : TellingBegan = record { report = teller.report; first = g.S.Sink.contents teller.output; failures = g.S.Sink.failed teller.output; window = teller.window } in
     let own = c.new-reader.result.limits in
     let had = g.R.Input.remaining c.args.input.now in
     let left = g.R.Input.remaining c.drive-teller.new.input in
@@ -63,7 +63,7 @@ returns-clause-lacks g c k is =
 pub returns-clause-all : goal.returns-clause-all
 returns-clause-all g c none =
     let teller = c.args.teller in
-    let began : TellingBegan = record { report = teller.report; first = g.S.Sink.contents teller.output; failures = g.S.Sink.failed teller.output; rows = teller.left } in
+    let began : TellingBegan = record { report = teller.report; first = g.S.Sink.contents teller.output; failures = g.S.Sink.failed teller.output; window = teller.window } in
     let own = c.new-reader.result.limits in
     let had = g.R.Input.remaining c.args.input.now in
     let left = g.R.Input.remaining c.drive-teller.new.input in
@@ -78,7 +78,7 @@ returns-clause-all g c none =
 pub returns-clause-passed : goal.returns-clause-passed
 returns-clause-passed g c has =
     let teller = c.args.teller in
-    let began : TellingBegan = record { report = teller.report; first = g.S.Sink.contents teller.output; failures = g.S.Sink.failed teller.output; rows = teller.left } in
+    let began : TellingBegan = record { report = teller.report; first = g.S.Sink.contents teller.output; failures = g.S.Sink.failed teller.output; window = teller.window } in
     let own = c.new-reader.result.limits in
     let had = g.R.Input.remaining c.args.input.now in
     let left = g.R.Input.remaining c.drive-teller.new.input in

@@ -8,7 +8,7 @@ use Rattle.arrow_data.specs.Form.{node_form, offset_bytes}
 use Rattle.arrow_data.specs.Node.{AreRanges, IsFormat, bytes_of, raw_slot}
 use Rattle.arrow_data.specs.declared.array.Ranges.TheVariants as ranges
 use Rattle.arrow_data.specs.PlainValue.{binary_value, list_value, struct_value, utf8_value, value_at, values_of}
-use Rattle.arrow_data.specs.Slots.{is_valid_at, items_at, place_of, range_of, slots}
+use Rattle.arrow_data.specs.Slots.{is_valid_at, items_at, place_of, slots}
 use Rattle.arrow_data.proofs.FullSlots.{empty_part, entries_of, fixed_part, ints_part, none_by, none_part, strings_part}
 use Rattle.arrow_data.proofs.Shown.{length_slots}
 use Rattle.arrow_data.proofs.array.Array.value_bytes.Goals as goal

@@ -9,7 +9,7 @@ use Rattle.arrowflow_report.proofs.telling.Teller.tell_whole.Goals as goal
 -- a batch that cannot be counted is not told
 pub returns-in_err-number-clause-sent : goal.returns-in_err-number-clause-sent
 returns-in_err-number-clause-sent g c =
-    let text = some_added c.args.self.now.report c.args.reader.now.at.state.schema c.args.place c.args.self.now.number (given c.args.item.now) c.requires.chosen in
+    let text = some_added c.args.self.now.report c.args.message.reader.now.at.state.schema c.args.message.place c.args.self.now.number (given c.args.message.item.now) c.requires.chosen in
     let held = g.S.Sink.contents c.args.self.now.output in
     let failed = g.S.Sink.failed c.args.self.now.output in
     let fault = err_from_is_err_and c.from_residual.result c.from_residual.ensures.1 in

@@ -1,0 +1,9 @@
+mod LastDigits
+mod DecimalTexts
+mod DecimalNumbers
+mod Asciis
+mod Reals
+mod Joining
+pub mod Rows
+mod ReadBack
+mod OneLine

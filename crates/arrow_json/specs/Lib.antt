@@ -1,0 +1,7 @@
+pub mod Kinds
+pub mod Scalars
+pub mod Values
+pub mod Lines
+pub mod Written
+pub mod Wide
+pub mod Laws

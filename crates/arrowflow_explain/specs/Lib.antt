@@ -1,0 +1,12 @@
+-- What is said of a stream that is rejected.
+pub mod Prefix
+pub mod Cut
+pub mod Places
+pub mod Message
+pub mod Rows
+pub mod Fields
+pub mod Rejection
+pub mod Counting
+pub mod Holds
+pub mod Bodies
+pub mod Explains

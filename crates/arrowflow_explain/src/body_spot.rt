@@ -1,0 +1,412 @@
+//! Where a body is at fault. It is found by checking one field after another with
+//! `arrow_body_reader`. What is said of the node, its buffers and the body's bytes holds; which field
+//! has that node is tested, and not proved.
+
+ghost use Rattle.std.specs.Prelude.{◌≡◌, IfSome, Some, slice_get};
+ghost use Rattle.arrow_meta_reader.specs.Means.{batch_view};
+ghost use Rattle.arrowflow_explain.specs.Bodies.{FindingHolds, SpotHolds};
+ghost use Rattle.arrowflow_explain.specs.Rejection.{situation_of};
+
+use crate::finding::{Content, Finding, IndexNode, Need, OffsetNode, TextNode};
+use crate::message::body_of;
+use crate::names::push_quoted;
+use crate::rejected::Rejected;
+use crate::rows_fault::{batch_of, header_of};
+use arrow_body_reader::{BodyFault, check};
+use arrow_data::Dictionary;
+use arrow_data::form::{Form, ListForm, OffsetWidth, int_width, node_form};
+use arrow_dict::ValueFields;
+use arrow_meta_reader::Header;
+use arrow_stream_reader::Kind;
+use arrow_types::{Field, FieldNode};
+use std::alloc::{AllocError, Global};
+use std::fmt::Write;
+use std::slice;
+
+/// The most levels of fields.
+const LEVELS: u32 = 32;
+
+/// More than the most fields of a schema.
+const FIELDS: u32 = 65_537;
+
+/// Where those of the first field begin.
+const START: Cursor = Cursor { node: 0, buffer: 0 };
+
+/// A field with its index among the fields of its level.
+#[derive(Clone, Copy)]
+struct Found<'f> {
+    index: usize,
+    field: &'f Field,
+    cursor: Cursor,
+}
+
+/// Where a body is at fault.
+#[derive(Debug, Drop)]
+pub struct BodySpot {
+    /// The field: the index of its column, and then of a child on each level below, with the names.
+    pub field: String,
+    /// The index of its node.
+    pub node: usize,
+    /// What was found.
+    pub finding: Finding,
+}
+
+/// A batch whose body is at fault.
+#[derive(Clone, Copy)]
+struct Batch<'a> {
+    alloc: Global,
+    content: Content<'a>,
+    /// The id of the dictionary whose values the batch is, if it is one of a dictionary batch.
+    id: Option<i64>,
+    dictionaries: &'a [(i64, Dictionary)],
+    fault: BodyFault,
+}
+
+/// Where the nodes and the buffers of a field begin.
+#[derive(Clone, Copy)]
+struct Cursor {
+    node: usize,
+    buffer: usize,
+}
+
+/// Where the body of a message is at fault, if the kind is one of a body and this is found. `None`
+/// too where an allocation failed.
+pub(crate) fn body_spot(alloc: Global, kind: Kind, rejected: &Rejected) -> Option<BodySpot>
+    ensures { IfSome result (λ spot. SpotHolds spot (situation_of rejected.now)) }
+{
+    let body = body_of(rejected.message)?;
+    let header = header_of(alloc, rejected)?;
+    let batch = Batch {
+        alloc,
+        content: Content {
+            batch: batch_of(&header)?,
+            body,
+        },
+        id: id_of(&header),
+        dictionaries: rejected.reader.dictionaries().entries(),
+        fault: fault_of(kind)?,
+    };
+    let schema = rejected.reader.schema()?;
+    match &header {
+        Header::Schema(_) => None,
+        Header::Dictionary(id, _, _) => {
+            let values = ValueFields::of(alloc, schema).ok()?;
+            batch.spot(values.get(*id)?.fields())
+        }
+        Header::Batch(_) => batch.spot(schema.fields()),
+    }
+}
+
+/// The id of a dictionary batch.
+fn id_of(header: &Header) -> Option<i64> {
+    match header {
+        Header::Dictionary(id, _, _) => Some(*id),
+        Header::Schema(_) | Header::Batch(_) => None,
+    }
+}
+
+/// The fault of a body of a kind, if it is one.
+fn fault_of(kind: Kind) -> Option<BodyFault> {
+    match kind {
+        Kind::Layout => Some(BodyFault::Layout),
+        Kind::Text => Some(BodyFault::Text),
+        Kind::Index => Some(BodyFault::Index),
+        _ => None,
+    }
+}
+
+impl<'a> Batch<'a> {
+    /// Where the body is at fault, by the fields of the batch.
+    fn spot(&self, fields: &[Field]) -> Option<BodySpot>
+        ensures { IfSome result (λ spot. FindingHolds spot.finding spot.node
+            (batch_view self.now.content.batch.now) self.now.content.body.now) }
+    {
+        let mut text = String::new(self.alloc);
+        let Some(mut found) = self.first_bad(fields, START) else {
+            return self.other_length(text, fields);
+        };
+        self.push_column(&mut text, found).ok()?;
+        for _ in 0..LEVELS {
+            let below = inside(found.field, found.cursor);
+            let Some(child) = self.first_bad(children_of(found.field), below) else {
+                break;
+            };
+            push_field(&mut text, " > child ", child).ok()?;
+            found = child;
+        }
+        Some(BodySpot {
+            field: text,
+            node: found.cursor.node,
+            finding: self.finding(found)?,
+        })
+    }
+
+    /// The first of the fields that has the fault by itself.
+    fn first_bad<'f>(&self, fields: &'f [Field], start: Cursor) -> Option<Found<'f>> {
+        let mut cursor = start;
+        for (index, field) in fields.iter().enumerate() {
+            if self.has_fault(field, cursor) {
+                return Some(Found {
+                    index,
+                    field,
+                    cursor,
+                });
+            }
+            cursor = after(self.alloc, field, cursor)?;
+        }
+        None
+    }
+
+    /// Whether a field has the fault by itself.
+    fn has_fault(&self, field: &Field, cursor: Cursor) -> bool {
+        let batch = self.content.batch;
+        let checked = check(
+            slice::from_ref(field),
+            batch.nodes.get(cursor.node..).unwrap_or(&[]),
+            batch.buffers.get(cursor.buffer..).unwrap_or(&[]),
+            self.content.body,
+            self.dictionaries,
+        );
+        match checked {
+            Ok(()) => false,
+            Err(fault) => fault == self.fault,
+        }
+    }
+
+    /// The first column that has another number of slots than the batch has rows.
+    fn other_length(&self, mut text: String, fields: &[Field]) -> Option<BodySpot>
+        ensures { IfSome result (λ spot. FindingHolds spot.finding spot.node
+            (batch_view self.now.content.batch.now) self.now.content.body.now) }
+    {
+        let rows = self.content.batch.length;
+        let mut cursor = START;
+        for (index, field) in fields.iter().enumerate() {
+            let slots = self.node(cursor.node)?.length;
+            if slots != rows {
+                let found = Found {
+                    index,
+                    field,
+                    cursor,
+                };
+                self.push_column(&mut text, found).ok()?;
+                return Some(BodySpot {
+                    field: text,
+                    node: cursor.node,
+                    finding: Finding::RowCount { slots, rows },
+                });
+            }
+            cursor = after(self.alloc, field, cursor)?;
+        }
+        None
+    }
+
+    /// Appends which column it is, or of which dictionary the values.
+    fn push_column(&self, text: &mut String, found: Found) -> Result<(), AllocError> {
+        match self.id {
+            Some(id) => write!(text, "values of dictionary {}", id),
+            None => push_field(text, "column ", found),
+        }
+    }
+
+    /// The node of this index.
+    fn node(&self, index: usize) -> Option<FieldNode>
+        ensures { IfSome result (λ node. slice_get self.now.content.batch.now.nodes.items index
+            ≡ Some node) }
+    {
+        Some(*self.content.batch.nodes.get(index)?)
+    }
+
+    /// What is at fault in a field that has the fault, and none below it.
+    fn finding(&self, found: Found) -> Option<Finding>
+        ensures { IfSome result (λ finding. FindingHolds finding found.entry.cursor.node
+            (batch_view self.now.content.batch.now) self.now.content.body.now) }
+    {
+        match self.fault {
+            BodyFault::Text => self.text_finding(found.field, found.cursor),
+            BodyFault::Index => self.index_finding(found.field, found.cursor),
+            BodyFault::Layout | BodyFault::Memory => {
+                self.layout_finding(found.field, found.cursor)
+            }
+        }
+    }
+
+    /// What is at fault in the texts of a field.
+    fn text_finding(&self, field: &Field, cursor: Cursor) -> Option<Finding>
+        ensures { IfSome result (λ finding. FindingHolds finding cursor.node
+            (batch_view self.now.content.batch.now) self.now.content.body.now) }
+    {
+        match node_form(&field.data_type, field.dictionary) {
+            Form::Texts(width) => self.content.bad_text(TextNode {
+                node: cursor.node,
+                buffer: cursor.buffer,
+                width,
+            }),
+            _ => None,
+        }
+    }
+
+    /// What is at fault in the indices of a field.
+    fn index_finding(&self, field: &Field, cursor: Cursor) -> Option<Finding>
+        ensures { IfSome result (λ finding. FindingHolds finding cursor.node
+            (batch_view self.now.content.batch.now) self.now.content.body.now) }
+    {
+        let encoding = field.dictionary?;
+        self.content.bad_index(IndexNode {
+            node: cursor.node,
+            buffer: cursor.buffer,
+            width: int_width(encoding.index.bits),
+            signed: encoding.index.signed,
+            values: self.values_of(encoding.id),
+        })
+    }
+
+    /// How many values the dictionary of an id has.
+    fn values_of(&self, id: i64) -> usize {
+        for (other, dictionary) in self.dictionaries {
+            if *other == id {
+                return dictionary.len();
+            }
+        }
+        0
+    }
+
+    /// What is at fault in the layout of a field.
+    fn layout_finding(&self, field: &Field, cursor: Cursor) -> Option<Finding>
+        ensures { IfSome result (λ finding. FindingHolds finding cursor.node
+            (batch_view self.now.content.batch.now) self.now.content.body.now) }
+    {
+        let Some(node) = self.node(cursor.node) else {
+            return self.content.node_missing(cursor.node);
+        };
+        for index in cursor.buffer..inside(field, cursor).buffer {
+            if self.content.batch.buffers.len() <= index {
+                return Some(Finding::BufferMissing {
+                    buffers: self.content.batch.buffers.len(),
+                });
+            }
+            if let Some(finding) = self.content.outside(index) {
+                return Some(finding);
+            }
+        }
+        match self.buffer_finding(node_form(&field.data_type, field.dictionary), cursor) {
+            Some(finding) => Some(finding),
+            None => Some(Finding::Unfit { slots: node.length }),
+        }
+    }
+
+    /// What is at fault in the buffers of a node of this form.
+    fn buffer_finding(&self, form: Form, cursor: Cursor) -> Option<Finding>
+        ensures { IfSome result (λ finding. FindingHolds finding cursor.node
+            (batch_view self.now.content.batch.now) self.now.content.body.now) }
+    {
+        if self.content.count(cursor.buffer) > 0
+            && let Some(finding) = self.content.too_few(cursor.node, cursor.buffer, Need::Bits)
+        {
+            return Some(finding);
+        }
+        let second = cursor.buffer.checked_add(1)?;
+        let need = need_of(form)?;
+        match self.content.too_few(cursor.node, second, need) {
+            Some(finding) => Some(finding),
+            None => self.content.bad_offset(self.offsets_of(form, cursor)?),
+        }
+    }
+
+    /// The offsets of a node of this form, if it has some.
+    fn offsets_of(&self, form: Form, cursor: Cursor) -> Option<OffsetNode>
+        ensures { IfSome result (λ offsets. offsets.node ≡ cursor.node) }
+    {
+        let (width, top) = match form {
+            Form::Bytes(width) | Form::Texts(width) => {
+                (
+                    width,
+                    self.content.count(cursor.buffer.checked_add(2)?) as u64,
+                )
+            }
+            Form::Lists(ListForm::Offsets(width)) => {
+                let items = self.node(cursor.node.checked_add(1)?)?.length;
+                (width, u64::try_from(items).ok()?)
+            }
+            Form::Nulls | Form::Bits | Form::Numbers(_) | Form::FixedBytes(_) => return None,
+            Form::Lists(ListForm::Fixed(_)) | Form::Structs => return None,
+        };
+        Some(OffsetNode {
+            node: cursor.node,
+            buffer: cursor.buffer.checked_add(1)?,
+            width,
+            top,
+        })
+    }
+}
+
+/// What the second buffer of a node of this form has for its slots, if there is one.
+fn need_of(form: Form) -> Option<Need> {
+    match form {
+        Form::Bits => Some(Need::Bits),
+        Form::Numbers(number) => Some(Need::Bytes(number.width() as u32)),
+        Form::FixedBytes(width) => Some(Need::Bytes(width)),
+        Form::Bytes(width) | Form::Texts(width) => Some(offsets_need(width)),
+        Form::Lists(ListForm::Offsets(width)) => Some(offsets_need(width)),
+        Form::Lists(ListForm::Fixed(_)) | Form::Nulls | Form::Structs => None,
+    }
+}
+
+/// What a buffer of offsets of this width has.
+fn offsets_need(width: OffsetWidth) -> Need {
+    match width {
+        OffsetWidth::Small => Need::Offsets(4),
+        OffsetWidth::Large => Need::Offsets(8),
+    }
+}
+
+/// The fields below one whose nodes come with its own: none of a dictionary-encoded field.
+fn children_of(field: &Field) -> &[Field] {
+    match field.dictionary {
+        Some(_) => &[],
+        None => field.children(),
+    }
+}
+
+/// Where the nodes and buffers of the children of a field begin.
+fn inside(field: &Field, cursor: Cursor) -> Cursor {
+    let own = node_form(&field.data_type, field.dictionary).buffers();
+    Cursor {
+        node: cursor.node.saturating_add(1),
+        buffer: cursor.buffer.saturating_add(own),
+    }
+}
+
+/// Where the nodes and buffers after those of a field begin; `None` where an allocation failed.
+fn after(alloc: Global, field: &Field, start: Cursor) -> Option<Cursor> {
+    let mut waiting = Vec::new(alloc);
+    waiting.push(slice::from_ref(field)).ok()?;
+    let mut cursor = start;
+    for _ in 0..FIELDS {
+        let Some(fields) = waiting.pop() else {
+            return Some(cursor);
+        };
+        cursor = over_level(fields, cursor, &mut waiting)?;
+    }
+    None
+}
+
+/// Goes over the own nodes and buffers of fields, and notes the fields below them.
+fn over_level<'f>(
+    fields: &'f [Field],
+    start: Cursor,
+    waiting: &mut Vec<&'f [Field]>,
+) -> Option<Cursor> {
+    let mut cursor = start;
+    for field in fields {
+        cursor = inside(field, cursor);
+        waiting.push(children_of(field)).ok()?;
+    }
+    Some(cursor)
+}
+
+/// Appends the index of a field among those of its level, and its name.
+fn push_field(text: &mut String, word: &str, found: Found) -> Result<(), AllocError> {
+    text.push_str(word)?;
+    write!(text, "{}", found.index)?;
+    push_quoted(text, &found.field.name)
+}

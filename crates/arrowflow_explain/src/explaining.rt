@@ -1,0 +1,167 @@
+//! An input read to its end, or up to a fault, which is explained.
+
+ghost use Rattle.std.specs.Prelude.{◌≡◌, ◌≤◌, [], IfErr, OnOk, drop, length};
+ghost use Rattle.arrow_stream_reader.specs.Stream.{ReaderStands};
+ghost use Rattle.arrow_stream_reader.specs.declared.reader.Verdict.TheVariants.{Open};
+ghost use Rattle.arrowflow_report.specs.Blame.{BlamesOnly};
+ghost use Rattle.arrowflow_explain.specs.Explains.{ExplainsInput, IsKept, IsMadeOf, KeepsOn};
+
+use crate::body_spot::body_spot;
+use crate::diagnosis::diagnose;
+use crate::explanation::{Explanation, Refusal};
+use crate::rejected::Rejected;
+use crate::summary::Summary;
+use arrow_stream_reader::{Fault, StreamReader};
+use arrow_types::Limits;
+use arrowflow_report::{Input, Progress, ToolFault, take_piece};
+use std::alloc::{AllocError, Global};
+
+/// How many bytes one read asks for.
+const PIECE: usize = 65_536;
+
+/// Reads a stream, and says why it is rejected, or what it has.
+///
+/// The input is read as by a check that writes nothing, in pieces of 65,536 bytes, up to an end
+/// marker, to its end or to the piece in which the stream is rejected. Of the bytes those of the
+/// message in work are kept, so that memory is bounded by one message.
+///
+/// `Rejected` where a check answers `Stream`, with the same fault; `Sound` where it answers `Ok`.
+/// `Input(0)` where a read failed, an interrupted one included; `Memory` where an allocation failed.
+pub fn explain<R: Input>(
+    alloc: Global,
+    input: &mut R,
+    limits: &Limits,
+) -> Result<Explanation, ToolFault>
+    ensures explains { ExplainsInput limits.now (R.remaining input.old) (R.remaining input.new)
+        result }
+    ensures blameless { IfErr result (BlamesOnly (R.has_failed input.new)) }
+{
+    let Ok(mut room) = Vec::from_elem(alloc, 0u8, PIECE) else {
+        return Err(ToolFault::Memory);
+    };
+    let work = Work {
+        alloc,
+        reader: StreamReader::new(alloc, *limits),
+        kept: Vec::new(alloc),
+        limits: *limits,
+    };
+    explain_pieces(input, work, Summary::new(alloc), &mut room)
+}
+
+/// Reads the pieces of an input, one by one. No stream is longer than the last place allows, so that
+/// this ends.
+fn explain_pieces<R: Input>(
+    input: &mut R,
+    mut work: Work,
+    mut summary: Summary,
+    room: &mut [u8],
+) -> Result<Explanation, ToolFault>
+    requires start { ReaderStands work.reader [] [] }
+    requires limits { work.reader.limits ≡ work.limits }
+    requires open { work.reader.at.verdict ≡ Open }
+    requires kept { IsKept [] work.reader work.kept.items }
+    requires room { length room.old ≡ 65536 }
+    ensures explains { ExplainsInput work.limits (R.remaining input.old)
+        (R.remaining input.new) result }
+    ensures blameless { IfErr result (BlamesOnly (R.has_failed input.new)) }
+{
+    loop {
+        let count = match input.read_piece(room) {
+            Ok(count) => count,
+            Err(_) => return Err(ToolFault::Input(0)),
+        };
+        if count == 0 {
+            return match work.reader.end() {
+                Ok(()) => Ok(Explanation::Sound(summary)),
+                Err(fault) => Ok(Explanation::Rejected(work.refusal(fault, summary))),
+            };
+        }
+        let (next, progress) = work.take(summary, &room[..count]);
+        match progress {
+            Ok(Progress::GoesOn) => summary = next,
+            Ok(Progress::Marker) => return Ok(Explanation::Sound(next)),
+            Ok(Progress::Stopped) => return Ok(Explanation::Sound(next)),
+            Err(ToolFault::Stream(fault)) => {
+                return Ok(Explanation::Rejected(work.refusal(fault, next)));
+            }
+            // `take` fails with no other fault than these
+            Err(ToolFault::Memory | ToolFault::Input(_) | ToolFault::Output) => {
+                return Err(ToolFault::Memory);
+            }
+            Err(ToolFault::Refused(_, _)) => return Err(ToolFault::Memory),
+        }
+    }
+}
+
+/// A reader, and the bytes of its message in work.
+#[derive(Drop)]
+struct Work {
+    alloc: Global,
+    reader: StreamReader,
+    kept: Vec<u8>,
+    limits: Limits,
+}
+
+impl Work {
+    /// Gives the reader a piece, and counts the messages that are whole with it.
+    fn take(&mut self, summary: Summary, piece: &[u8]) -> (Summary, Result<Progress, ToolFault>)
+        ensures keeps { KeepsOn self.old.reader self.old.kept.items piece.now result.1
+            self.new.reader self.new.kept.items }
+        ensures limits { self.new.reader.limits ≡ self.old.reader.limits }
+        ensures same { self.new.limits ≡ self.old.limits }
+    {
+        let before = self.reader.place();
+        let Ok(()) = self.kept.extend_from_slice(piece) else {
+            return (summary, Err(ToolFault::Memory));
+        };
+        let (next, progress) = take_piece(&mut self.reader, summary, piece);
+        let passed = self.reader.place().saturating_sub(before);
+        match forget(self.alloc, &mut self.kept, passed as usize) {
+            Ok(()) => (next, progress),
+            Err(_) => (next, Err(ToolFault::Memory)),
+        }
+    }
+
+    /// Why the reader says this fault.
+    fn refusal(self, fault: Fault, before: Summary) -> Refusal
+        requires { self.reader.limits ≡ self.limits }
+        ensures { IsMadeOf fault self.limits self.reader.at self.kept.items result }
+    {
+        let Work {
+            alloc,
+            reader,
+            kept,
+            limits,
+        } = self;
+        let rejected = Rejected {
+            limits: &limits,
+            reader: &reader,
+            message: &kept,
+        };
+        let diagnosis = diagnose(alloc, fault.kind, &rejected);
+        let spot = body_spot(alloc, fault.kind, &rejected);
+        Refusal {
+            fault,
+            diagnosis,
+            spot,
+            message: kept,
+            before,
+            limits,
+        }
+    }
+}
+
+/// Lets go the first bytes, so many of them.
+fn forget(alloc: Global, kept: &mut Vec<u8>, count: usize) -> Result<(), AllocError>
+    ensures { OnOk result (kept.new.items ≡ drop count kept.old.items) }
+{
+    if count == 0 {
+        return Ok(());
+    }
+    let rest = match kept.get(count..) {
+        Some(rest) => Vec::from_slice(alloc, rest)?,
+        None => Vec::new(alloc),
+    };
+    *kept = rest;
+    Ok(())
+}

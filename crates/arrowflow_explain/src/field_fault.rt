@@ -1,0 +1,413 @@
+//! Why a field of a schema is rejected, by its own tables.
+
+ghost use Rattle.std.specs.Prelude.{◌≡◌, ◌≤◌, ◌⊎◌, IfSome, None, Some, false, is_some, true};
+ghost use Rattle.arrow_meta_reader.specs.Codes.{decimal_scale, decimal_width, time_unit};
+ghost use Rattle.arrow_meta_reader.specs.Conditions.{children_fit};
+ghost use Rattle.arrow_meta_reader.specs.Types.{decimal_by, is_time, taken, type_code};
+ghost use Rattle.arrow_types.specs.DataType.{is_decimal};
+ghost use Rattle.arrow_types.specs.declared.type_set.TypeSet.{TypeSet as Types};
+ghost use Rattle.arrowflow_explain.specs.Fields.{FieldFails, can_be_entries, code_in, field_kind};
+ghost use Rattle.arrowflow_explain.specs.Fields.{first_number, has_table, has_unit, has_units, type_number, unit_in};
+
+use crate::places::Spot;
+use crate::slots;
+use arrow_stream_reader::Kind;
+use arrow_types::{DecimalWidth, TypeSet};
+
+/// Why a field of a schema is rejected, by its own tables (`Schema.fbs`, table `Field`).
+#[derive(Clone, Copy, Debug, PartialEq, Eq)]
+pub enum FieldFault {
+    /// Its type has this code, which is not read, or not among the types of the limits.
+    TypeNotRead {
+        code: u64,
+    },
+    /// Its dictionary is of the kind of this number, and not a dense array.
+    DictionaryKind {
+        number: u64,
+    },
+    /// It has so many children, which its type, of this code, has not.
+    Children {
+        code: u64,
+        count: usize,
+    },
+    /// It is an Int of so many bits.
+    BitWidth {
+        bits: u64,
+    },
+    /// It is a FloatingPoint of the precision of this number.
+    Precision {
+        number: u64,
+    },
+    /// Its type, of this code, has the unit of this number.
+    Unit {
+        code: u64,
+        number: u64,
+    },
+    /// Its type, of this code, has this size, a negative number that is given without its sign.
+    Size {
+        code: u64,
+        number: u64,
+    },
+    /// It is a Time of the unit of this number, which does not have so many bits.
+    TimeWidth {
+        unit: u64,
+        bits: u64,
+    },
+    /// It is a Decimal of so many bits, which no Decimal has, or which do not allow this precision
+    /// and this scale. The scale is given without its sign.
+    Decimal {
+        bits: u64,
+        precision: u64,
+        scale: u64,
+    },
+    /// It is a Map, and its child is not a struct of two fields without a dictionary.
+    Entries,
+    /// The table of its type, which has this code, is absent, or does not lie inside the metadata.
+    TypeTable {
+        code: u64,
+    },
+}
+
+impl FieldFault {
+    /// The kind of the reader's fault.
+    pub fn kind(self) -> Kind
+        ensures { result ≡ field_kind self }
+    {
+        match self {
+            FieldFault::TypeNotRead { .. } | FieldFault::DictionaryKind { .. } => Kind::Unsupported,
+            FieldFault::Children { .. } | FieldFault::BitWidth { .. } => Kind::Schema,
+            FieldFault::Precision { .. } => Kind::Schema,
+            FieldFault::Unit { .. } | FieldFault::Size { .. } => Kind::Schema,
+            FieldFault::TimeWidth { .. } | FieldFault::Decimal { .. } => Kind::Schema,
+            FieldFault::Entries => Kind::Schema,
+            FieldFault::TypeTable { .. } => Kind::Metadata,
+        }
+    }
+}
+
+/// What a field has that is not supported, if it has such.
+pub(crate) fn unsupported_in(types: TypeSet, field: &Spot) -> Option<FieldFault>
+    ensures { IfSome result (λ fault. FieldFails fault types field.now) }
+{
+    let code = code_in(field)?;
+    if !is_read(types, code) {
+        return Some(FieldFault::TypeNotRead { code });
+    }
+    let dictionary = field.table(slots::field::DICTIONARY)?;
+    let number = dictionary.number(slots::dictionary_encoding::DICTIONARY_KIND, 2, 0)?;
+    if number == 0 {
+        return None;
+    }
+    Some(FieldFault::DictionaryKind { number })
+}
+
+/// That the table of a field's type is not readable, if it is required and is not.
+pub(crate) fn unreadable_in(types: TypeSet, field: &Spot) -> Option<FieldFault>
+    ensures { IfSome result (λ fault. FieldFails fault types field.now) }
+{
+    let code = code_in(field)?;
+    if !is_read(types, code) || !has_table(code) || field.table(slots::field::TYPE).is_some() {
+        return None;
+    }
+    Some(FieldFault::TypeTable { code })
+}
+
+/// Whether a type of this code has a table that is read.
+fn has_table(code: u64) -> bool
+    ensures { result ≡ has_table code }
+{
+    matches!(
+        code,
+        INT | FLOATING_POINT
+            | DECIMAL
+            | DATE
+            | TIME
+            | TIMESTAMP
+            | INTERVAL
+            | FIXED_SIZE_BINARY
+            | FIXED_SIZE_LIST
+            | MAP
+            | DURATION
+    )
+}
+
+/// What a field has that its type cannot have, if it has such.
+pub(crate) fn misfit_in(types: TypeSet, field: &Spot) -> Option<FieldFault>
+    ensures { IfSome result (λ fault. FieldFails fault types field.now) }
+{
+    let code = code_in(field)?;
+    let count = field.count(slots::field::CHILDREN).unwrap_or(0);
+    if !has_children(code, count) {
+        return Some(FieldFault::Children { code, count });
+    }
+    match code {
+        INT => bits_in(field),
+        FLOATING_POINT => precision_in(field),
+        DATE | TIMESTAMP | INTERVAL | DURATION => bad_unit_in(field, code),
+        TIME => bad_time_in(field),
+        DECIMAL => bad_decimal_in(field),
+        MAP => bad_entries_in(field),
+        FIXED_SIZE_BINARY | FIXED_SIZE_LIST => bad_size_in(field, code),
+        // a type without a number of its own
+        _ => None,
+    }
+}
+
+/// The code of a field's type.
+pub(crate) fn code_in(field: &Spot) -> Option<u64>
+    ensures { result ≡ code_in field.now }
+{
+    field.number(slots::field::TYPE_TYPE, 1, 0)
+}
+
+/// Whether a type of this code is read among these types.
+fn is_read(types: TypeSet, code: u64) -> bool
+    ensures { result ≡ is_some (taken types (type_code code)) }
+{
+    match code {
+        1 | INT | 4 | 5 | 6 | DATE | TIME | TIMESTAMP | 12 | STRUCT => true,
+        FIXED_SIZE_BINARY | DURATION | 19 | 20 | 21 => true,
+        FLOATING_POINT | DECIMAL | INTERVAL => matches!(types, TypeSet::All),
+        FIXED_SIZE_LIST | MAP => matches!(types, TypeSet::All),
+        // a number that is no type's of the profile
+        _ => false,
+    }
+}
+
+/// Whether a type of this code may have so many children.
+fn has_children(code: u64, count: usize) -> bool
+    ensures { result ≡ children_fit (type_code code) count }
+{
+    match code {
+        12 | FIXED_SIZE_LIST | MAP | 21 => count == 1,
+        STRUCT => true,
+        // a type without children
+        _ => count == 0,
+    }
+}
+
+/// The width of an Int, if it is none that an Int has.
+fn bits_in(field: &Spot) -> Option<FieldFault>
+    requires { code_in field.now ≡ Some 2 }
+    ensures { IfSome result (λ fault. (types : Types) → FieldFails fault types field.now) }
+{
+    let bits = first_number(field, 4, 0)?;
+    match bits {
+        8 | 16 | 32 | 64 => None,
+        _ => Some(FieldFault::BitWidth { bits }),
+    }
+}
+
+/// The precision of a FloatingPoint, if it is none.
+fn precision_in(field: &Spot) -> Option<FieldFault>
+    requires { code_in field.now ≡ Some 3 }
+    ensures { IfSome result (λ fault. (types : Types) → FieldFails fault types field.now) }
+{
+    let number = first_number(field, 2, 0)?;
+    if number < 3 {
+        return None;
+    }
+    Some(FieldFault::Precision { number })
+}
+
+/// The unit of a type of this code, if the type has none of this number.
+fn bad_unit_in(field: &Spot, code: u64) -> Option<FieldFault>
+    requires code { code_in field.now ≡ Some code }
+    requires units { has_units code ≡ true }
+    ensures { IfSome result (λ fault. (types : Types) → FieldFails fault types field.now) }
+{
+    let number = unit_in(field, code)?;
+    if has_unit(code, number) {
+        return None;
+    }
+    Some(FieldFault::Unit { code, number })
+}
+
+/// The size of a FixedSizeBinary or a FixedSizeList, if it is negative.
+fn bad_size_in(field: &Spot, code: u64) -> Option<FieldFault>
+    requires code { code_in field.now ≡ Some code }
+    requires sized { (code ≡ 15) ⊎ (code ≡ 16) }
+    ensures { IfSome result (λ fault. (types : Types) → FieldFails fault types field.now) }
+{
+    let number = first_number(field, 4, 0)?;
+    if number <= 2_147_483_647 {
+        return None;
+    }
+    Some(FieldFault::Size { code, number })
+}
+
+/// The unit or the width of a Time, if it has none of this unit, or none of this width.
+fn bad_time_in(field: &Spot) -> Option<FieldFault>
+    requires { code_in field.now ≡ Some 9 }
+    ensures { IfSome result (λ fault. (types : Types) → FieldFails fault types field.now) }
+{
+    let unit = unit_in(field, TIME)?;
+    if !has_unit(TIME, unit) {
+        return Some(FieldFault::Unit {
+            code: TIME,
+            number: unit,
+        });
+    }
+    let bits = type_number(field, 1, 4, 32)?;
+    if is_time(unit, bits) {
+        return None;
+    }
+    Some(FieldFault::TimeWidth { unit, bits })
+}
+
+/// Whether a Time of the unit of this number has so many bits.
+fn is_time(unit: u64, bits: u64) -> bool
+    ensures { result ≡ is_time (time_unit unit) bits }
+{
+    match unit {
+        0 | 1 => bits == 32,
+        2 | 3 => bits == 64,
+        // a number that is no unit's
+        _ => false,
+    }
+}
+
+/// The numbers of a Decimal, if no Decimal has them.
+fn bad_decimal_in(field: &Spot) -> Option<FieldFault>
+    requires { code_in field.now ≡ Some 7 }
+    ensures { IfSome result (λ fault. (types : Types) → FieldFails fault types field.now) }
+{
+    let bits = type_number(field, 2, 4, 128)?;
+    let precision = type_number(field, 0, 4, 0)?;
+    let scale = type_number(field, 1, 4, 0)?;
+    if is_decimal(bits, precision, scale) {
+        return None;
+    }
+    Some(FieldFault::Decimal {
+        bits,
+        precision,
+        scale,
+    })
+}
+
+/// Whether a Decimal of so many bits may have this precision and this scale.
+fn is_decimal(bits: u64, precision: u64, scale: u64) -> bool
+    ensures { result
+        ≡ is_some (decimal_by (decimal_width bits) precision (decimal_scale scale)) }
+{
+    match decimal_width(bits) {
+        Some(width) => allows(width, precision, signed(scale)),
+        None => false,
+    }
+}
+
+/// Whether decimals of this width may have this precision and this scale.
+fn allows(width: DecimalWidth, precision: u64, scale: i32) -> bool
+    ensures { result ≡ is_decimal width precision scale }
+{
+    1 <= precision && precision <= u64::from(width.digits()) && -76 <= scale && scale <= 76
+}
+
+/// The width of a Decimal of so many bits.
+fn decimal_width(bits: u64) -> Option<DecimalWidth>
+    ensures { result ≡ decimal_width bits }
+{
+    match bits {
+        32 => Some(DecimalWidth::ThirtyTwo),
+        64 => Some(DecimalWidth::SixtyFour),
+        128 => Some(DecimalWidth::OneHundredTwentyEight),
+        256 => Some(DecimalWidth::TwoHundredFiftySix),
+        // a number that is no Decimal's width
+        _ => None,
+    }
+}
+
+/// The signed number that four bytes are.
+pub(crate) fn signed(number: u64) -> i32
+    ensures { result ≡ decimal_scale number }
+{
+    ((number % 4_294_967_296) as u32).cast_signed()
+}
+
+/// That the child of a Map cannot be its entries, if it cannot.
+fn bad_entries_in(field: &Spot) -> Option<FieldFault>
+    requires { code_in field.now ≡ Some 17 }
+    ensures { IfSome result (λ fault. (types : Types) → FieldFails fault types field.now) }
+{
+    let child = field.element(slots::field::CHILDREN, 0)?;
+    let code = code_in(&child)?;
+    if can_be_entries(&child, code) {
+        return None;
+    }
+    Some(FieldFault::Entries)
+}
+
+/// Whether a field of this code is a struct of two fields without a dictionary.
+fn can_be_entries(field: &Spot, code: u64) -> bool
+    ensures { result ≡ can_be_entries field.now code }
+{
+    let count = field.count(slots::field::CHILDREN).unwrap_or(0);
+    code == STRUCT && count == 2 && field.field(slots::field::DICTIONARY).is_none()
+}
+
+/// The first number of a field's type, of `width` bytes and with this default.
+fn first_number(field: &Spot, width: usize, default: u64) -> Option<u64>
+    requires low { 1 ≤ width }
+    requires high { width ≤ 8 }
+    ensures { result ≡ first_number field.now width default }
+{
+    type_number(field, 0, width, default)
+}
+
+/// The number of this index in a field's type, of `width` bytes and with this default.
+fn type_number(field: &Spot, index: u16, width: usize, default: u64) -> Option<u64>
+    requires low { 1 ≤ width }
+    requires high { width ≤ 8 }
+    ensures { result ≡ type_number field.now index width default }
+{
+    field
+        .table(slots::field::TYPE)?
+        .number(index, width, default)
+}
+
+/// The unit of a type of this code.
+fn unit_in(field: &Spot, code: u64) -> Option<u64>
+    ensures { result ≡ unit_in field.now code }
+{
+    let default = if code == TIMESTAMP || code == INTERVAL {
+        0
+    } else {
+        1
+    };
+    first_number(field, 2, default)
+}
+
+/// Whether a type of this code has a unit of this number.
+fn has_unit(code: u64, number: u64) -> bool
+    ensures { result ≡ has_unit code number }
+{
+    match code {
+        DATE => number < 2,
+        INTERVAL => number < 3,
+        _ => number < 4,
+    }
+}
+
+const INT: u64 = 2;
+
+const FLOATING_POINT: u64 = 3;
+
+const DECIMAL: u64 = 7;
+
+const DATE: u64 = 8;
+
+const TIME: u64 = 9;
+
+const TIMESTAMP: u64 = 10;
+
+const INTERVAL: u64 = 11;
+
+const STRUCT: u64 = 13;
+
+const FIXED_SIZE_BINARY: u64 = 15;
+
+const FIXED_SIZE_LIST: u64 = 16;
+
+const MAP: u64 = 17;
+
+const DURATION: u64 = 18;

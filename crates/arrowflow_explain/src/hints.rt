@@ -1,0 +1,124 @@
+//! What can be done about a fault.
+
+use crate::cut::Part;
+use crate::diagnosis::Diagnosis;
+use crate::explanation::Refusal;
+use crate::field_fault::FieldFault;
+use crate::format::Format;
+use crate::message_fault::MessageFault;
+use crate::prefix::PrefixFault;
+use crate::rows_fault::RowsFault;
+use crate::schema_fault::SchemaFault;
+use arrow_stream_reader::Kind;
+
+/// What can be done about a fault, in a sentence or two, each below 80 characters.
+pub(crate) fn hint_of(refusal: &Refusal) -> &'static str {
+    match &refusal.diagnosis {
+        Diagnosis::Prefix(fault) => prefix_hint(*fault, refusal),
+        Diagnosis::Ends(cut) => cut_hint(cut.part, refusal),
+        Diagnosis::Message(fault) => message_hint(*fault),
+        Diagnosis::Rows(fault) => rows_hint(*fault),
+        Diagnosis::Schema(fault) => schema_hint(fault),
+        Diagnosis::Other(kind) => kind_hint(*kind),
+    }
+}
+
+/// What can be done about a prefix.
+fn prefix_hint(fault: PrefixFault, refusal: &Refusal) -> &'static str {
+    match fault {
+        PrefixFault::Continuation { .. } if refusal.fault.place == 0 => {
+            match Format::of(&refusal.message) {
+                Some(format) => format.advice(),
+                None => "This is no Arrow stream, or one of a version before 0.15.",
+            }
+        }
+        PrefixFault::Continuation { .. } => {
+            "Bytes were lost or added here, or an end marker is missing before other data."
+        }
+        PrefixFault::MetadataSize { size } if size.cast_signed() < 0 => CHANGED,
+        PrefixFault::MetadataSize { .. } => {
+            "Bytes were changed, or the limit is too low: --limit-metadata N"
+        }
+        PrefixFault::MetadataEnd { .. } => "The stream is too long.",
+        PrefixFault::MarkerFirst => "The stream has no schema: write one, also without batches.",
+    }
+}
+
+/// What can be done about an input that ends too early.
+fn cut_hint(part: Part, refusal: &Refusal) -> &'static str {
+    match part {
+        Part::Prefix if refusal.message.is_empty() => "The input is empty, or a part of a stream.",
+        Part::Prefix if Format::of(&refusal.message).is_some() => "This is no Arrow stream.",
+        Part::Prefix | Part::Metadata | Part::Body => {
+            "The input ends inside a message: it was cut off. Send or copy it again."
+        }
+    }
+}
+
+/// What can be done about a message's own numbers.
+fn message_hint(fault: MessageFault) -> &'static str {
+    match fault {
+        MessageFault::BodyLength { length } if length.cast_signed() < 0 => CHANGED,
+        MessageFault::BodyLength { .. } => "The limit may be too low: --limit-body N",
+        MessageFault::BodyEnd { .. } => "The stream is too long.",
+        MessageFault::Compressed { .. } => "Write the stream without compression of its bodies.",
+        MessageFault::Version { .. } => "Write the stream with metadata of version V5.",
+        MessageFault::HeaderMissing | MessageFault::Header { .. } => "",
+        MessageFault::SecondSchema => {
+            "These may be two streams without an end marker between: read each by itself."
+        }
+        MessageFault::BatchFirst { .. } => "The stream's first messages are missing.",
+        MessageFault::MessageTable | MessageFault::HeaderTable { .. } => LOST,
+        MessageFault::DataTable => LOST,
+    }
+}
+
+/// What can be done about a batch.
+fn rows_hint(fault: RowsFault) -> &'static str {
+    match fault {
+        RowsFault::UnknownId { .. } =>
+            "The batch was written for another schema than that of this stream.",
+        RowsFault::NoBase { .. } => "A batch of the dictionary is missing before it.",
+        RowsFault::BatchRows { rows } if rows < 0 => CHANGED,
+        RowsFault::NodeRows { slots, .. } if slots < 0 => CHANGED,
+        RowsFault::BatchRows { .. } | RowsFault::NodeRows { .. } => ROWS,
+        RowsFault::ValueCount { .. } => ROWS,
+    }
+}
+
+/// What is said of metadata that are not readable.
+const LOST: &str = "Bytes were changed or lost, or the writer wrote no FlatBuffer.";
+
+/// What is said of a negative number.
+const CHANGED: &str = "A negative number is written by no writer: bytes were changed or lost.";
+
+/// What can be done about a number of rows over the limit.
+const ROWS: &str = "The limit may be too low: --limit-rows N";
+
+/// What can be done about a schema.
+fn schema_hint(fault: &SchemaFault) -> &'static str {
+    match fault {
+        SchemaFault::Field {
+            fault: FieldFault::TypeNotRead {
+                code: 3 | 7 | 11 | 16 | 17,
+            },
+            ..
+        } => "This type is read with --types all.",
+        SchemaFault::Field { .. } => "",
+        SchemaFault::Endianness { .. } => "Write the stream with little-endian numbers.",
+        SchemaFault::Nested { .. } => {
+            "Write fields below a dictionary without dictionaries of their own."
+        }
+    }
+}
+
+/// What can be done about a fault of which no more is known than its kind.
+fn kind_hint(kind: Kind) -> &'static str {
+    match kind {
+        Kind::Memory => "More memory is needed.",
+        Kind::Continuation | Kind::MetadataSize | Kind::Metadata | Kind::Version => "",
+        Kind::Header | Kind::BodyLength | Kind::Order | Kind::Unsupported | Kind::Schema => "",
+        Kind::Compressed | Kind::UnknownId | Kind::NoBase | Kind::Rows => "",
+        Kind::Layout | Kind::Text | Kind::Index | Kind::NoSchema | Kind::Truncated => "",
+    }
+}

@@ -1,0 +1,253 @@
+//! What is said of a schema that is rejected.
+
+use crate::dump::Mark;
+use crate::field_fault::{FieldFault, signed};
+use crate::message_fault::header_table;
+use crate::names::push_quoted;
+use crate::places::Spot;
+use crate::schema_fault::{SchemaFault, field_at};
+use crate::slots;
+use std::alloc::AllocError;
+use std::fmt::Write;
+use std::str;
+
+/// Appends what was found of a schema, with the path to the field.
+pub(crate) fn push_schema(
+    text: &mut String,
+    message: &[u8],
+    fault: &SchemaFault,
+) -> Result<(), AllocError> {
+    match fault {
+        SchemaFault::Endianness { number } => {
+            write!(text, "endianness {}: only Little (0) is read\n", *number)
+        }
+        SchemaFault::Field { path, fault } => {
+            push_path(text, message, path)?;
+            text.push_str("\n")?;
+            push_field(text, *fault)
+        }
+        SchemaFault::Nested { path, above } => push_nested(text, message, path, *above),
+    }
+}
+
+/// Appends which dictionary-encoded field is below which other one.
+fn push_nested(
+    text: &mut String,
+    message: &[u8],
+    path: &[u32],
+    above: usize,
+) -> Result<(), AllocError> {
+    push_path(text, message, path)?;
+    text.push_str("\ndictionary-encoded below a dictionary-encoded field, ")?;
+    push_path(text, message, path.get(..above).unwrap_or(&[]))?;
+    text.push_str("\n")
+}
+
+/// Appends the indices that lead to a field, with the names of the fields on the way.
+pub(crate) fn push_path(text: &mut String, message: &[u8], path: &[u32]) -> Result<(), AllocError> {
+    let Some(schema) = header_table(message) else {
+        return Ok(());
+    };
+    for (level, index) in path.iter().enumerate() {
+        text.push_str(if level == 0 { "column " } else { " > child " })?;
+        write!(text, "{}", *index)?;
+        if let Some(field) = field_at(&schema, &path[..level + 1]) {
+            push_name(text, &field)?;
+        }
+    }
+    Ok(())
+}
+
+/// Appends the name of a field, if it has a readable one.
+fn push_name(text: &mut String, field: &Spot) -> Result<(), AllocError> {
+    let name = field.text(slots::field::NAME).unwrap_or(&[]);
+    match str::from_utf8(name) {
+        Ok(name) => push_quoted(text, name),
+        Err(_) => Ok(()),
+    }
+}
+
+/// Appends what was found of a field.
+fn push_field(text: &mut String, fault: FieldFault) -> Result<(), AllocError> {
+    match fault {
+        FieldFault::TypeNotRead { code } => {
+            push_type(text, code)?;
+            text.push_str(" is not among the types that are read\n")
+        }
+        FieldFault::DictionaryKind { number } => {
+            write!(
+                text,
+                "dictionaryKind {number}: only DenseArray (0) is read\n"
+            )
+        }
+        FieldFault::Children { code, count } => push_children(text, code, count),
+        FieldFault::BitWidth { bits } => {
+            write!(text, "Int of bitWidth {bits}: must be 8, 16, 32 or 64\n")
+        }
+        FieldFault::Precision { number } => {
+            write!(
+                text,
+                "FloatingPoint of precision {number}: must be 0 to 2\n"
+            )
+        }
+        FieldFault::Unit { code, number } => push_unit(text, code, number),
+        FieldFault::Size { code, number } => {
+            push_type(text, code)?;
+            write!(text, " of size {}: must be 0 or more\n", signed(number))
+        }
+        FieldFault::TimeWidth { unit, bits } => push_time(text, unit, bits),
+        FieldFault::Decimal {
+            bits,
+            precision,
+            scale,
+        } => push_decimal(text, bits, precision, signed(scale)),
+        FieldFault::TypeTable { code } => push_table(text, code),
+        FieldFault::Entries => {
+            text.push_str("Map: its child must be a struct of two fields without a dictionary\n")
+        }
+    }
+}
+
+/// Appends how many children a type has.
+fn push_children(text: &mut String, code: u64, count: usize) -> Result<(), AllocError> {
+    push_type(text, code)?;
+    write!(text, " with {count} children: it has ")?;
+    text.push_str(children_of(code))
+}
+
+/// Appends which units a type has.
+fn push_unit(text: &mut String, code: u64, number: u64) -> Result<(), AllocError> {
+    push_type(text, code)?;
+    write!(text, " of unit {number}: must be 0 to ")?;
+    text.push_str(greatest_unit(code))
+}
+
+/// Appends that the table of a type is not there.
+fn push_table(text: &mut String, code: u64) -> Result<(), AllocError> {
+    push_type(text, code)?;
+    text.push_str(": the type's table is required: it is absent, ")?;
+    text.push_str("or does not lie inside the metadata\n")
+}
+
+/// Appends which bits a time of this unit has.
+fn push_time(text: &mut String, unit: u64, bits: u64) -> Result<(), AllocError> {
+    write!(text, "Time of unit {unit}, {bits} bits: ")?;
+    text.push_str("must be 32 for units 0 and 1, 64 for 2 and 3\n")
+}
+
+/// Appends which decimal there is none of.
+fn push_decimal(
+    text: &mut String,
+    bits: u64,
+    precision: u64,
+    scale: i32,
+) -> Result<(), AllocError> {
+    write!(
+        text,
+        "Decimal of bitWidth {}, precision {}, ",
+        bits, precision
+    )?;
+    write!(text, "scale {}\n", scale)?;
+    text.push_str("precision: 1 to 9, 18, 38, 76 for 32, 64, 128, 256 bits; scale: -76 to 76\n")
+}
+
+/// How many children a type of this code has.
+fn children_of(code: u64) -> &'static str {
+    match code {
+        12 | 16 | 17 | 21 => "one\n",
+        13 => "any number\n",
+        // a type without children
+        _ => "none\n",
+    }
+}
+
+/// The number of the last unit of a type of this code.
+fn greatest_unit(code: u64) -> &'static str {
+    match code {
+        8 => "1\n",
+        11 => "2\n",
+        // a Time, a Timestamp or a Duration
+        _ => "3\n",
+    }
+}
+
+/// Appends the type of a code.
+fn push_type(text: &mut String, code: u64) -> Result<(), AllocError> {
+    write!(text, "{} (type {})", type_name(code), code)
+}
+
+/// The name of the type of a code (`Schema.fbs`, union `Type`).
+fn type_name(code: u64) -> &'static str {
+    match code {
+        0 => "no type",
+        1 => "Null",
+        2 => "Int",
+        3 => "FloatingPoint",
+        4 => "Binary",
+        5 => "Utf8",
+        6 => "Bool",
+        7 => "Decimal",
+        8 => "Date",
+        9 => "Time",
+        10 => "Timestamp",
+        11 => "Interval",
+        12 => "List",
+        13 => "Struct",
+        14 => "Union",
+        15 => "FixedSizeBinary",
+        16 => "FixedSizeList",
+        17 => "Map",
+        18 => "Duration",
+        19 => "LargeBinary",
+        20 => "LargeUtf8",
+        21 => "LargeList",
+        22 => "RunEndEncoded",
+        23 => "BinaryView",
+        24 => "Utf8View",
+        25 => "ListView",
+        26 => "LargeListView",
+        // a number that no type has
+        _ => "unknown type",
+    }
+}
+
+/// Which bytes a fault of a schema is in, if they are there.
+pub(crate) fn schema_mark(message: &[u8], fault: &SchemaFault) -> Option<Mark> {
+    let schema = header_table(message)?;
+    let (place, count) = match fault {
+        SchemaFault::Endianness { .. } => (schema.field(slots::schema::ENDIANNESS)?, 2),
+        SchemaFault::Field { path, fault } => field_mark(&field_at(&schema, path)?, *fault)?,
+        SchemaFault::Nested { path, .. } => {
+            (field_at(&schema, path)?.field(slots::field::DICTIONARY)?, 4)
+        }
+    };
+    Some(Mark {
+        start: place.saturating_add(8),
+        count,
+    })
+}
+
+/// The place in the metadata, and the number, of the bytes that a fault of a field is in.
+fn field_mark(field: &Spot, fault: FieldFault) -> Option<(usize, usize)> {
+    match fault {
+        FieldFault::TypeNotRead { .. } => Some((field.field(slots::field::TYPE_TYPE)?, 1)),
+        FieldFault::DictionaryKind { .. } => {
+            let dictionary = field.table(slots::field::DICTIONARY)?;
+            Some((
+                dictionary.field(slots::dictionary_encoding::DICTIONARY_KIND)?,
+                2,
+            ))
+        }
+        FieldFault::Children { .. } => Some((field.field(slots::field::CHILDREN)?, 4)),
+        FieldFault::BitWidth { .. } | FieldFault::Size { .. } => {
+            Some((field.table(slots::field::TYPE)?.field(0)?, 4))
+        }
+        FieldFault::Precision { .. } | FieldFault::Unit { .. } => {
+            Some((field.table(slots::field::TYPE)?.field(0)?, 2))
+        }
+        FieldFault::TimeWidth { .. } => Some((field.table(slots::field::TYPE)?.field(1)?, 4)),
+        FieldFault::Decimal { .. } => Some((field.field(slots::field::TYPE)?, 4)),
+        FieldFault::Entries => Some((field.field(slots::field::CHILDREN)?, 4)),
+        FieldFault::TypeTable { .. } => Some((field.field(slots::field::TYPE)?, 4)),
+    }
+}

@@ -1,0 +1,6 @@
+//! Tests of `arrowflow_explain`, in a crate of their own so that it is not proved once more with
+//! them.
+#![tactic(auto)]
+
+#[cfg(test)]
+mod tests;

@@ -1,0 +1,431 @@
+//! The texts of explanations, whole: worked out from the bytes by hand, and the dumps by Python.
+
+use arrow_test_streams::parts::{
+    ABC, DE, END, Edit, FIRST, LETTERS, NUMBERS, Part, Source, THREE, joined,
+};
+use arrow_test_streams::streams::DOUBLES;
+use arrow_types::Limits;
+use arrowflow_explain::explain;
+use std::alloc::Global;
+use std::process::Abort;
+
+// A stream of parts, with other bytes at some places, read with at most so many rows, and the lines
+// of its explanation.
+struct Told {
+    parts: &'static [Part],
+    edits: &'static [Edit],
+    max_rows: u64,
+    lines: &'static [&'static str],
+}
+
+static TEXTS: [Told; 26] = [
+    // sound
+    Told {
+        parts: &[NUMBERS, THREE, END],
+        edits: &[],
+        max_rows: 100,
+        lines: &[
+            "The stream is sound: 2 messages and an end marker.",
+            "schema: 152 bytes",
+            "batches: 1, 3 rows, 176 bytes",
+        ],
+    },
+    // a dictionary that grows and is replaced
+    Told {
+        parts: &[(Source::Growing, 0, 1376)],
+        edits: &[],
+        max_rows: 100,
+        lines: &[
+            "The stream is sound: 7 messages and an end marker.",
+            "schema: 200 bytes",
+            "batches: 3, 7 rows, 488 bytes",
+            "dictionary 0: 4 values after 3 dictionary batches, 680 bytes",
+        ],
+    },
+    // floats among the core types
+    Told {
+        parts: &[(Source::Bytes(&DOUBLES), 0, 328)],
+        edits: &[],
+        max_rows: 100,
+        lines: &[
+            "fault at byte 0: Unsupported",
+            "message 0 (schema) at byte 0: 136 bytes of metadata, 0 of body",
+            "column 0 \"d\"",
+            "FloatingPoint (type 3) is not among the types that are read",
+            "  00000050  04 00 08 00 09 00 0c 00 00 00 10 00 00 00 00 00",
+            "  00000060  14 00 00 00 10 00 00 00 01 03 00 00 14 00 00 00",
+            "                                       ^^",
+            "  00000070  18 00 00 00 01 00 00 00 64 00 06 00 06 00 04 00",
+            "  00000080  06 00 00 00 02 00 00 00 00 00 00 00 00 00 00 00",
+            "This type is read with --types all.",
+        ],
+    },
+    // cut off in the metadata
+    Told {
+        parts: &[(Source::Growing, 0, 600)],
+        edits: &[],
+        max_rows: 100,
+        lines: &[
+            "fault at byte 592: Truncated",
+            "message 3 at byte 592",
+            "the input ends inside the metadata of the message: 8 bytes of 200 are there",
+            "The input ends inside a message: it was cut off. Send or copy it again.",
+        ],
+    },
+    // no bytes
+    Told {
+        parts: &[],
+        edits: &[],
+        max_rows: 100,
+        lines: &[
+            "fault at byte 0: NoSchema",
+            "message 0 at byte 0",
+            "the input ends inside the prefix of the message: 0 bytes of 8 are there",
+            "no schema message is whole",
+            "The input is empty, or a part of a stream.",
+        ],
+    },
+    // an Arrow file
+    Told {
+        parts: &[(Source::Bytes(b"ARROW1\x00\x00"), 0, 8), NUMBERS],
+        edits: &[],
+        max_rows: 100,
+        lines: &[
+            "fault at byte 0: Continuation",
+            "message 0 at byte 0",
+            "continuation 41 52 52 4F is found: a message begins with FF FF FF FF",
+            "  00000000  41 52 52 4f 57 31 00 00 ff ff ff ff 90 00 00 00",
+            "            ^^ ^^ ^^ ^^",
+            "  00000010  10 00 00 00 0c 00 18 00 04 00 06 00 08 00 10 00",
+            "  00000020  0c 00 00 00 04 00 01 00 18 00 00 00 00 00 00 00",
+            "  00000030  00 00 00 00 00 00 00 00 08 00 0c 00 04 00 08 00",
+            "This is an Arrow file: its stream begins at byte 8, and ends before the footer.",
+        ],
+    },
+    // a Parquet file
+    Told {
+        parts: &[(Source::Bytes(b"PAR1\x15\x04\x15\x10\x15\x14"), 0, 10)],
+        edits: &[],
+        max_rows: 100,
+        lines: &[
+            "fault at byte 0: Continuation",
+            "message 0 at byte 0",
+            "continuation 50 41 52 31 is found: a message begins with FF FF FF FF",
+            "  00000000  50 41 52 31 15 04 15 10 15 14",
+            "            ^^ ^^ ^^ ^^",
+            "This is a Parquet file, and no Arrow stream.",
+        ],
+    },
+    // gzip
+    Told {
+        parts: &[(
+            Source::Bytes(b"\x1f\x8b\x08\x00\x00\x00\x00\x00\x00\x03"),
+            0,
+            10,
+        )],
+        edits: &[],
+        max_rows: 100,
+        lines: &[
+            "fault at byte 0: Continuation",
+            "message 0 at byte 0",
+            "continuation 1F 8B 08 00 is found: a message begins with FF FF FF FF",
+            "  00000000  1f 8b 08 00 00 00 00 00 00 03",
+            "            ^^ ^^ ^^ ^^",
+            "These bytes are compressed by gzip: decompress them first.",
+        ],
+    },
+    // HTML
+    Told {
+        parts: &[(
+            Source::Bytes(b"<html><body>502 Bad Gateway</body></html>"),
+            0,
+            41,
+        )],
+        edits: &[],
+        max_rows: 100,
+        lines: &[
+            "fault at byte 0: Continuation",
+            "message 0 at byte 0",
+            "continuation 3C 68 74 6D is found: a message begins with FF FF FF FF",
+            "  00000000  3c 68 74 6d 6c 3e 3c 62 6f 64 79 3e 35 30 32 20",
+            "            ^^ ^^ ^^ ^^",
+            "  00000010  42 61 64 20 47 61 74 65 77 61 79 3c 2f 62 6f 64",
+            "  00000020  79 3e 3c 2f 68 74 6d 6c 3e",
+            "This is a page of HTML or XML, as servers send with an error.",
+        ],
+    },
+    // an end marker first
+    Told {
+        parts: &[END],
+        edits: &[],
+        max_rows: 100,
+        lines: &[
+            "fault at byte 0: NoSchema",
+            "message 0 at byte 0: 0 bytes of metadata",
+            "end marker: no schema message came before it",
+            "  00000000  ff ff ff ff 00 00 00 00",
+            "                        ^^ ^^ ^^ ^^",
+            "The stream has no schema: write one, also without batches.",
+        ],
+    },
+    // version V3
+    Told {
+        parts: &[NUMBERS],
+        edits: &[(28, b"\x02")],
+        max_rows: 100,
+        lines: &[
+            "fault at byte 0: Version",
+            "message 0 (schema) at byte 0: 144 bytes of metadata, 0 of body",
+            "version V3: only V4 (number 3) and V5 (number 4) are read",
+            "  00000000  ff ff ff ff 90 00 00 00 10 00 00 00 0c 00 18 00",
+            "  00000010  04 00 06 00 08 00 10 00 0c 00 00 00 02 00 01 00",
+            "                                                ^^ ^^",
+            "  00000020  18 00 00 00 00 00 00 00 00 00 00 00 00 00 00 00",
+            "  00000030  08 00 0c 00 04 00 08 00 08 00 00 00 00 00 00 00",
+            "Write the stream with metadata of version V5.",
+        ],
+    },
+    // a second schema
+    Told {
+        parts: &[NUMBERS, NUMBERS],
+        edits: &[],
+        max_rows: 100,
+        lines: &[
+            "fault at byte 152: Order",
+            "message 1 (schema) at byte 152: 144 bytes of metadata, 0 of body",
+            "schema message: the stream has one already, and may have no other",
+            "  00000098  ff ff ff ff 90 00 00 00 10 00 00 00 0c 00 18 00",
+            "  000000a8  04 00 06 00 08 00 10 00 0c 00 00 00 04 00 01 00",
+            "                                                      ^^",
+            "  000000b8  18 00 00 00 00 00 00 00 00 00 00 00 00 00 00 00",
+            "  000000c8  08 00 0c 00 04 00 08 00 08 00 00 00 00 00 00 00",
+            "These may be two streams without an end marker between: read each by itself.",
+        ],
+    },
+    // a body compressed by Zstandard
+    Told {
+        parts: &[NUMBERS, THREE],
+        edits: &[
+            (200, b"\x0c"),
+            (206, b"\x00\x00"),
+            (210, b"\x04\x00"),
+            (220, b"\x18\x00\x00\x00"),
+            (
+                244,
+                b"\xf8\xff\xff\xff\x01\x00\x00\x00\x06\x00\x05\x00\x04\x00",
+            ),
+        ],
+        max_rows: 100,
+        lines: &[
+            "fault at byte 152: Compressed",
+            "message 1 (record batch) at byte 152: 144 bytes of metadata, 24 of body",
+            "compression of the body: ZSTD; only bodies without compression are read",
+            "  000000c8  0c 00 18 00 08 00 00 00 14 00 04 00 00 00 00 00",
+            "  000000d8  10 00 00 00 18 00 00 00 03 00 00 00 00 00 00 00",
+            "                        ^^ ^^ ^^ ^^",
+            "  000000e8  0c 00 00 00 20 00 00 00 00 00 00 00 f8 ff ff ff",
+            "  000000f8  01 00 00 00 06 00 05 00 04 00 00 00 00 00 00 00",
+            "Write the stream without compression of its bodies.",
+        ],
+    },
+    // an id that no field has
+    Told {
+        parts: &[LETTERS, ABC],
+        edits: &[(272, b"\x07")],
+        max_rows: 100,
+        lines: &[
+            "fault at byte 200: UnknownId",
+            "message 1 (dictionary batch) at byte 200: 192 bytes of metadata, 24 of body",
+            "dictionary id 7: no field of the schema has it",
+            "The batch was written for another schema than that of this stream.",
+        ],
+    },
+    // a delta without a dictionary
+    Told {
+        parts: &[LETTERS, DE],
+        edits: &[],
+        max_rows: 100,
+        lines: &[
+            "fault at byte 200: NoBase",
+            "message 1 (dictionary batch) at byte 200: 192 bytes of metadata, 24 of body",
+            "dictionary id 0: the batch is a delta, and no dictionary of the id came before",
+            "A batch of the dictionary is missing before it.",
+        ],
+    },
+    // rows over the limit
+    Told {
+        parts: &[NUMBERS, THREE],
+        edits: &[],
+        max_rows: 2,
+        lines: &[
+            "fault at byte 152: Rows",
+            "message 1 (record batch) at byte 152: 144 bytes of metadata, 24 of body",
+            "row count 3: must be 0 or more, at most 2",
+            "The limit may be too low: --limit-rows N",
+        ],
+    },
+    // a negative number of rows
+    Told {
+        parts: &[NUMBERS, THREE],
+        edits: &[(224, b"\xff\xff\xff\xff\xff\xff\xff\xff")],
+        max_rows: 100,
+        lines: &[
+            "fault at byte 152: Rows",
+            "message 1 (record batch) at byte 152: 144 bytes of metadata, 24 of body",
+            "row count -1: must be 0 or more, at most 100",
+            "A negative number is written by no writer: bytes were changed or lost.",
+        ],
+    },
+    // a message without its table
+    Told {
+        parts: &[NUMBERS],
+        edits: &[(8, b"\xf0")],
+        max_rows: 100,
+        lines: &[
+            "fault at byte 0: Metadata",
+            "message 0 at byte 0: 144 bytes of metadata",
+            "the Message table does not lie inside the metadata",
+            "  00000000  ff ff ff ff 90 00 00 00 f0 00 00 00 0c 00 18 00",
+            "                                    ^^ ^^ ^^ ^^",
+            "  00000010  04 00 06 00 08 00 10 00 0c 00 00 00 04 00 01 00",
+            "  00000020  18 00 00 00 00 00 00 00 00 00 00 00 00 00 00 00",
+            "  00000030  08 00 0c 00 04 00 08 00 08 00 00 00 00 00 00 00",
+            "Bytes were changed or lost, or the writer wrote no FlatBuffer.",
+        ],
+    },
+    // a type without its table
+    Told {
+        parts: &[NUMBERS],
+        edits: &[(108, b"\x00")],
+        max_rows: 100,
+        lines: &[
+            "fault at byte 0: Metadata",
+            "message 0 (schema) at byte 0: 144 bytes of metadata, 0 of body",
+            "column 0 \"n\"",
+            "Int (type 2): the type's table is required: it is absent, or does not lie inside",
+            "  the metadata",
+            "  00000050  04 00 08 00 09 00 0c 00 00 00 10 00 00 00 00 00",
+            "  00000060  14 00 00 00 10 00 00 00 01 02 00 00 00 00 00 00",
+            "                                                ^^ ^^ ^^ ^^",
+            "  00000070  24 00 00 00 01 00 00 00 6e 00 08 00 09 00 04 00",
+            "  00000080  08 00 00 00 00 00 00 00 0e 00 00 00 20 00 00 00",
+        ],
+    },
+    // an Int of 24 bits
+    Told {
+        parts: &[NUMBERS],
+        edits: &[(140, b"\x18")],
+        max_rows: 100,
+        lines: &[
+            "fault at byte 0: Schema",
+            "message 0 (schema) at byte 0: 144 bytes of metadata, 0 of body",
+            "column 0 \"n\"",
+            "Int of bitWidth 24: must be 8, 16, 32 or 64",
+            "  00000070  24 00 00 00 01 00 00 00 6e 00 08 00 09 00 04 00",
+            "  00000080  08 00 00 00 00 00 00 00 0e 00 00 00 18 00 00 00",
+            "                                                ^^ ^^ ^^ ^^",
+            "  00000090  01 00 00 00 00 00 00 00",
+        ],
+    },
+    // an offset past the texts
+    Told {
+        parts: &[LETTERS, ABC],
+        edits: &[(404, b"\x05")],
+        max_rows: 100,
+        lines: &[
+            "fault at byte 200: Layout",
+            "message 1 (dictionary batch) at byte 200: 192 bytes of metadata, 24 of body",
+            "the body does not have what its nodes and buffers say",
+            "values of dictionary 0",
+            "field node 0, buffer 1: slot 0: offsets 0 and 5: they must rise, up to 3 at most",
+        ],
+    },
+    // a text that is not UTF-8
+    Told {
+        parts: &[LETTERS, ABC],
+        edits: &[(417, b"\xff")],
+        max_rows: 100,
+        lines: &[
+            "fault at byte 200: Text",
+            "message 1 (dictionary batch) at byte 200: 192 bytes of metadata, 24 of body",
+            "a text is not UTF-8",
+            "values of dictionary 0",
+            "field node 0, buffer 2: slot 1: not UTF-8: 1 bytes from byte 17 of the body on",
+        ],
+    },
+    // an index past the dictionary
+    Told {
+        parts: &[LETTERS, ABC, FIRST],
+        edits: &[(584, b"\x03")],
+        max_rows: 100,
+        lines: &[
+            "fault at byte 424: Index",
+            "message 2 (record batch) at byte 424: 144 bytes of metadata, 16 of body",
+            "an index has no value in its dictionary",
+            "column 0 \"k\"",
+            "field node 0, buffer 1: slot 2: index 3: the dictionary has 3 values",
+        ],
+    },
+    // a buffer past the body
+    Told {
+        parts: &[NUMBERS, THREE],
+        edits: &[(296, b"\x7f")],
+        max_rows: 100,
+        lines: &[
+            "fault at byte 152: Layout",
+            "message 1 (record batch) at byte 152: 144 bytes of metadata, 24 of body",
+            "the body does not have what its nodes and buffers say",
+            "column 0 \"n\"",
+            "field node 0, buffer 1: 127 bytes from byte 8 on, of a body of 24 bytes",
+        ],
+    },
+    // a buffer that is too short
+    Told {
+        parts: &[NUMBERS, THREE],
+        edits: &[(296, b"\x08")],
+        max_rows: 100,
+        lines: &[
+            "fault at byte 152: Layout",
+            "message 1 (record batch) at byte 152: 144 bytes of metadata, 24 of body",
+            "the body does not have what its nodes and buffers say",
+            "column 0 \"n\"",
+            "field node 0, buffer 1: 8 bytes: 3 slots need 12",
+        ],
+    },
+    // a wrong number of nulls
+    Told {
+        parts: &[NUMBERS, THREE],
+        edits: &[(256, b"\x02")],
+        max_rows: 100,
+        lines: &[
+            "fault at byte 152: Layout",
+            "message 1 (record batch) at byte 152: 144 bytes of metadata, 24 of body",
+            "the body does not have what its nodes and buffers say",
+            "column 0 \"n\"",
+            "field node 0: length 3, which its null count or its children do not fit",
+        ],
+    },
+];
+
+fn assert_text(rt: &impl Abort, alloc: Global, told: &Told) {
+    let bytes = joined(alloc, told.parts, told.edits).expect(rt, "the stream");
+    let limits = Limits::new(4096, 65_536, told.max_rows).expect(rt, "the limits");
+    let answer = explain(alloc, &mut bytes.as_slice(), &limits);
+    let Ok(explanation) = answer else {
+        return assert!(rt; false);
+    };
+    let text = explanation.text(alloc).expect(rt, "the text");
+    let mut expected = String::new(alloc);
+    for line in told.lines {
+        expected.push_str(line).expect(rt, "memory");
+        expected.push_str("\n").expect(rt, "memory");
+    }
+    assert_eq!(rt; text.as_str(), expected.as_str());
+}
+
+#[test]
+fn texts(rt: HostRuntime) {
+    for told in &TEXTS {
+        assert_text(&rt, rt.alloc(), told);
+    }
+}

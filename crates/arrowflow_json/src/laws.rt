@@ -1,0 +1,21 @@
+//! Laws over definitions alone.
+
+ghost use Rattle.arrowflow_json.specs.Laws.{ColumnsReadBack, EndReadsBack, FaultReadsBack};
+ghost use Rattle.arrowflow_json.specs.Laws.{MessageReadsBack};
+
+/// The text of each column of a schema is one JSON value, and reads back as the JSON of the column,
+/// however its fields nest, since a schema has at most 32 levels.
+pub fn columns_read_back()
+    ensures reads { ColumnsReadBack }
+{}
+
+/// So does the text of a message.
+pub fn message_reads_back()
+    ensures reads { MessageReadsBack }
+{}
+
+/// So do those of the end of an input, and of a fault.
+pub fn ends_read_back()
+    ensures end { EndReadsBack }
+    ensures fault { FaultReadsBack }
+{}

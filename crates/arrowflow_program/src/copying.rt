@@ -1,0 +1,185 @@
+//! The command `copy`: a stream written again.
+
+use crate::calls::Ends;
+use crate::ends::{Destination, Source, create, is_same_file, is_standard, open};
+use crate::terminals::Terminals;
+use crate::watched::Watched;
+use crate::{FAILED, FINE, out_of_memory, progress_of, status_of, tell};
+use arrowflow::{CopyOptions, Limits, ToolFault};
+use std::alloc::AllocError;
+use std::fs::{File, OpenFile};
+use std::io::{ErrorKind, Input, Write};
+use std::rt::Files;
+use std::time::Clock;
+use std::{fs, io};
+
+/// What is copied where, and how.
+#[derive(Clone, Copy)]
+pub(crate) struct Copying<'a> {
+    pub(crate) from: &'a str,
+    pub(crate) to: &'a str,
+    pub(crate) options: CopyOptions,
+    pub(crate) limits: &'a Limits,
+}
+
+impl<'a> Copying<'a> {
+    /// What a plan asks for: without an output the file is replaced by its copy.
+    pub(crate) fn planned(
+        from: &'a str,
+        output: &'a Option<String>,
+        options: CopyOptions,
+        limits: &'a Limits,
+    ) -> Copying<'a> {
+        let to = match output {
+            Some(name) => name.as_str(),
+            None => from,
+        };
+        let atomic = options.atomic || output.is_none();
+        let options = CopyOptions { atomic, ..options };
+        Copying {
+            from,
+            to,
+            options,
+            limits,
+        }
+    }
+}
+
+/// Writes a stream again, and gives the exit status.
+pub(crate) fn copy_file<R>(rt: &R, copying: Copying<'_>) -> u8
+where
+    R: AllocGlobal + Files + Input + Print + Eprint + Clock + Terminals,
+    R::File: Drop,
+{
+    let Copying { from, to, .. } = copying;
+    let input = match open(rt, 0, from) {
+        Ok(input) => input,
+        Err(fault) => return tell(rt, &fault, from, to),
+    };
+    if copying.options.atomic {
+        return replace(rt, input, copying);
+    }
+    if is_same_file(rt, from, to) {
+        let _ = eprintln!(rt; "{from} and {to} are the same file");
+        return FAILED;
+    }
+    match create(rt, to, copying.options.no_clobber) {
+        Ok(output) => copy_into(rt, input, output, copying),
+        Err(error) => not_created(rt, &error, from, to),
+    }
+}
+
+/// Reports that the output of this name was not created.
+fn not_created<R: AllocGlobal + Eprint>(rt: &R, error: &io::Error, from: &str, to: &str) -> u8 {
+    if error.kind() == ErrorKind::AlreadyExists {
+        let _ = eprintln!(rt; "{to} exists");
+        return FAILED;
+    }
+    tell(rt, &ToolFault::Output, from, to)
+}
+
+/// Writes the stream of an input again into an output, and gives the exit status.
+fn copy_into<R, W>(rt: &R, input: Source<R::File, R::Reader>, output: W, copying: Copying<'_>) -> u8
+where
+    R: AllocGlobal + Files + Input + Print + Eprint + Clock + Terminals,
+    R::File: Drop,
+    W: Write + Drop,
+{
+    let Copying { from, to, .. } = copying;
+    let input = Watched::new(input, progress_of(rt, "copy", from, is_standard(to)));
+    let Ok(ends) = Ends::new(rt.alloc(), input, output) else {
+        return out_of_memory(rt);
+    };
+    let (input, ended) = ends.copy(rt.alloc(), copying.options, copying.limits);
+    input.clear();
+    status_of(rt, ended.answer, (from, to), ended.is_closed)
+}
+
+/// Writes the stream of an input again into a file beside the output's, which takes the output's
+/// place once all is written; gives the exit status.
+fn replace<R>(rt: &R, input: Source<R::File, R::Reader>, copying: Copying<'_>) -> u8
+where
+    R: AllocGlobal + Files + Input + Print + Eprint + Clock + Terminals,
+    R::File: Drop,
+{
+    let Copying { from, to, .. } = copying;
+    if !is_replaceable(rt, to) {
+        let _ = eprintln!(rt; "{to} is no file that can be replaced");
+        return FAILED;
+    }
+    if copying.options.no_clobber && fs::metadata(rt, to).is_ok() {
+        let _ = eprintln!(rt; "{to} exists");
+        return FAILED;
+    }
+    let (Ok(place), Ok(part)) = (place_of(rt, to), part_of(rt, to)) else {
+        return out_of_memory(rt);
+    };
+    let output = match File::create_new(rt, part.as_str()) {
+        Ok(output) => output,
+        Err(error) => return not_created(rt, &error, from, &part),
+    };
+    let written = output.try_clone();
+    let status = copy_into(rt, input, output, copying);
+    let Ok(file) = written else {
+        let _ = fs::remove_file(rt, part.as_str());
+        return tell(rt, &ToolFault::Output, from, to);
+    };
+    if status == FINE
+        && put_in_place(rt, &file, (&part, &place), copying.options.no_clobber).is_ok()
+    {
+        return FINE;
+    }
+    let _ = fs::remove_file(rt, part.as_str());
+    if status == FINE {
+        tell(rt, &ToolFault::Output, from, to)
+    } else {
+        status
+    }
+}
+
+/// The name of the file that is replaced: of a link to a file, the one that it leads to.
+fn place_of<R: AllocGlobal + Files>(rt: &R, name: &str) -> Result<String, AllocError> {
+    match fs::canonicalize(rt, name) {
+        Ok(path) => String::from_str(rt.alloc(), path.as_str()),
+        Err(_) => String::from_str(rt.alloc(), name),
+    }
+}
+
+/// The name of the file beside it.
+fn part_of<R: AllocGlobal + Files>(rt: &R, name: &str) -> Result<String, AllocError> {
+    let mut part = place_of(rt, name)?;
+    part.push_str(".part")?;
+    Ok(part)
+}
+
+/// Whether the name is of a regular file, or of none so far.
+fn is_replaceable<R: Files>(rt: &R, name: &str) -> bool {
+    if is_standard(name) {
+        return false;
+    }
+    match fs::metadata(rt, name) {
+        Ok(found) => found.is_file(),
+        Err(_) => true,
+    }
+}
+
+/// Gives a file that was written whole the place of another, with the permissions that the other had.
+fn put_in_place<R: Files>(
+    rt: &R,
+    file: &R::File,
+    (part, place): (&str, &str),
+    no_clobber: bool,
+) -> io::Result<()>
+where
+    R::File: Drop,
+{
+    if let Ok(found) = fs::metadata(rt, place) {
+        file.set_permissions(found.permissions())?;
+    }
+    file.sync_all()?;
+    if no_clobber {
+        fs::hard_link(rt, part, place)?;
+        return fs::remove_file(rt, part);
+    }
+    fs::rename(rt, part, place)
+}

@@ -1,0 +1,58 @@
+//! The command `explain`: why a stream is refused, or what it has.
+
+use crate::coloured::{coloured, has_colours};
+use crate::ends::open;
+use crate::terminals::Terminals;
+use crate::watched::Watched;
+use crate::{named_or_standard, out_of_memory, print_text, progress_of, tell};
+use arrowflow::{Explanation, Limits, explain};
+use std::io::Input;
+use std::rt::{Env, Files};
+use std::time::Clock;
+
+/// The exit status of a stream that is refused.
+const REFUSED: u8 = 1;
+
+/// Says why the stream in the file of this name, or of standard input, is refused, or what it has.
+pub(crate) fn explain_file<R>(rt: &R, name: &Option<String>, limits: &Limits) -> u8
+where
+    R: AllocGlobal + Env + Files + Input + Print + Eprint + Clock + Terminals,
+    R::File: Drop,
+{
+    let name = match named_or_standard(rt, name.as_ref().map(|name| name.as_str())) {
+        Ok(name) => name,
+        Err(status) => return status,
+    };
+    let file = match open(rt, 0, name) {
+        Ok(file) => file,
+        Err(fault) => return tell(rt, &fault, name, "-"),
+    };
+    let mut input = Watched::new(file, progress_of(rt, "explain", name, false));
+    let answer = explain(rt.alloc(), &mut input, limits);
+    input.clear();
+    let explanation = match answer {
+        Ok(explanation) => explanation,
+        Err(fault) => return tell(rt, &fault, name, "-"),
+    };
+    let Ok(text) = explanation.text(rt.alloc()) else {
+        return out_of_memory(rt);
+    };
+    match explanation {
+        Explanation::Sound(_) => print_text(rt, &text),
+        Explanation::Rejected(_) => print_refusal(rt, &text).max(REFUSED),
+    }
+}
+
+/// Prints why a stream is refused, and gives the exit status of the printing.
+fn print_refusal<R>(rt: &R, text: &str) -> u8
+where
+    R: AllocGlobal + Env + Print + Eprint + Terminals,
+{
+    if !has_colours(rt) {
+        return print_text(rt, text);
+    }
+    match coloured(rt.alloc(), text) {
+        Ok(text) => print_text(rt, &text),
+        Err(_) => out_of_memory(rt),
+    }
+}

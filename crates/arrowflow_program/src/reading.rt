@@ -1,0 +1,189 @@
+//! The commands that read any number of files, one after the other.
+
+use crate::calls::Ends;
+use crate::ends::{input_name, open};
+use crate::labelled::Labelled;
+use crate::terminals::Terminals;
+use crate::watched::Watched;
+use crate::{
+    FAILED, FINE, named_or_standard, out_of_memory, print_lines, progress_of, status_of, tell,
+};
+use arrowflow::{Files as FileNames, Limits, ToolFault, check_quietly, schema_text};
+use std::io;
+use std::io::Input;
+use std::rt::Files;
+use std::time::Clock;
+
+/// What is printed of each file.
+#[derive(Clone, Copy)]
+pub(crate) enum Reading {
+    /// Its schema.
+    Schema,
+    /// A line for each of its messages.
+    Messages,
+    /// Nothing: the exit status says whether it is sound.
+    Nothing,
+}
+
+/// A file that is read, whether its lines have its name, and whether they are JSON.
+#[derive(Clone, Copy)]
+struct Named<'a> {
+    name: &'a str,
+    is_labelled: bool,
+    json: bool,
+}
+
+impl<'a> Named<'a> {
+    /// The name that its lines have.
+    fn label(self) -> Option<&'a str> {
+        if self.is_labelled {
+            Some(input_name(self.name))
+        } else {
+            None
+        }
+    }
+}
+
+/// Reads files, standard input if none is named, and gives the worst exit status. The lines of several
+/// begin with their names.
+pub(crate) fn read_files<R>(rt: &R, reading: Reading, files: &FileNames, limits: &Limits) -> u8
+where
+    R: AllocGlobal + Files + Input + Print + Eprint + Clock + Terminals,
+    R::File: Drop,
+{
+    let names = &files.names;
+    let is_labelled = files.with_filename || names.len() > 1;
+    let json = files.json;
+    if names.is_empty() {
+        let name = match named_or_standard(rt, None) {
+            Ok(name) => name,
+            Err(status) => return status,
+        };
+        let named = Named {
+            name,
+            is_labelled,
+            json,
+        };
+        return read_file(rt, reading, named, limits);
+    }
+    let mut worst = FINE;
+    for name in names {
+        let named = Named {
+            name,
+            is_labelled,
+            json,
+        };
+        worst = worst.max(read_file(rt, reading, named, limits));
+    }
+    worst
+}
+
+/// Reads one file, and gives the exit status.
+fn read_file<R>(rt: &R, reading: Reading, named: Named<'_>, limits: &Limits) -> u8
+where
+    R: AllocGlobal + Files + Input + Print + Eprint + Clock + Terminals,
+    R::File: Drop,
+{
+    match reading {
+        Reading::Schema if named.json => print_objects(rt, reading, named, limits),
+        Reading::Schema => print_schema(rt, named, limits),
+        Reading::Messages if named.json => print_objects(rt, reading, named, limits),
+        Reading::Messages => print_messages(rt, named, limits),
+        Reading::Nothing => check_file(rt, named, limits),
+    }
+}
+
+/// Prints the schema of the stream in a file.
+fn print_schema<R>(rt: &R, named: Named<'_>, limits: &Limits) -> u8
+where
+    R: AllocGlobal + Files + Input + Print + Eprint,
+    R::File: Drop,
+{
+    let mut file = match open(rt, 0, named.name) {
+        Ok(file) => file,
+        Err(fault) => return tell_of(rt, &fault, named),
+    };
+    match schema_text(rt.alloc(), &mut file, limits) {
+        Ok(text) => print_lines(rt, &text, named.label()),
+        Err(fault) => tell_of(rt, &fault, named),
+    }
+}
+
+/// Prints a line for each message of the stream in a file.
+fn print_messages<R>(rt: &R, named: Named<'_>, limits: &Limits) -> u8
+where
+    R: AllocGlobal + Files + Input + Print + Eprint + Clock + Terminals,
+    R::File: Drop,
+{
+    let file = match open(rt, 0, named.name) {
+        Ok(file) => file,
+        Err(fault) => return tell_of(rt, &fault, named),
+    };
+    let input = Watched::new(file, progress_of(rt, "check", named.name, true));
+    let output = Labelled::new(io::writer(rt), named.label());
+    let Ok(ends) = Ends::new(rt.alloc(), input, output) else {
+        return out_of_memory(rt);
+    };
+    let (input, ended) = ends.check(rt.alloc(), limits);
+    input.clear();
+    match ended.answer {
+        Ok(()) => FINE,
+        Err(fault) if ended.is_closed => fault.status(),
+        Err(fault) => tell_of(rt, &fault, named),
+    }
+}
+
+/// Prints the columns or the messages of the stream in a file as JSON objects, one a line.
+fn print_objects<R>(rt: &R, reading: Reading, named: Named<'_>, limits: &Limits) -> u8
+where
+    R: AllocGlobal + Files + Input + Print + Eprint + Clock + Terminals,
+    R::File: Drop,
+{
+    let file = match open(rt, 0, named.name) {
+        Ok(file) => file,
+        Err(fault) => return tell_of(rt, &fault, named),
+    };
+    let input = Watched::new(file, progress_of(rt, "check", named.name, true));
+    let Ok(ends) = Ends::new(rt.alloc(), input, io::writer(rt)) else {
+        return out_of_memory(rt);
+    };
+    let (input, ended) = match reading {
+        Reading::Schema => ends.schema_json(rt.alloc(), limits, named.label()),
+        Reading::Messages | Reading::Nothing => {
+            ends.check_json(rt.alloc(), limits, named.label())
+        }
+    };
+    input.clear();
+    match ended.answer {
+        Ok(()) => FINE,
+        Err(fault) if ended.is_closed => fault.status(),
+        Err(fault) => tell_of(rt, &fault, named),
+    }
+}
+
+/// Reads the stream in a file, and prints the line of its fault alone.
+fn check_file<R>(rt: &R, named: Named<'_>, limits: &Limits) -> u8
+where
+    R: AllocGlobal + Files + Input + Eprint + Clock + Terminals,
+    R::File: Drop,
+{
+    let file = match open(rt, 0, named.name) {
+        Ok(file) => file,
+        Err(fault) => return tell_of(rt, &fault, named),
+    };
+    let mut input = Watched::new(file, progress_of(rt, "check", named.name, false));
+    let answer = check_quietly(rt.alloc(), &mut input, limits);
+    input.clear();
+    match answer {
+        Ok(()) => FINE,
+        Err(fault) => tell_of(rt, &fault, named),
+    }
+}
+
+/// Prints the line of a fault, after the name of a labelled file if the line does not have it.
+fn tell_of<R: AllocGlobal + Eprint>(rt: &R, fault: &ToolFault, named: Named<'_>) -> u8 {
+    if let (Some(label), ToolFault::Stream(_)) = (named.label(), fault) {
+        let _ = eprint!(rt; "{label}:");
+    }
+    tell(rt, fault, named.name, "-")
+}

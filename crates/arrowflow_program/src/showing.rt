@@ -1,0 +1,121 @@
+//! The command `show`: the rows of a stream.
+
+ghost use Rattle.std.specs.Prelude.{◌≡◌};
+
+use crate::calls::Ends;
+use crate::ends::open;
+use crate::terminals::Terminals;
+use crate::watched::Watched;
+use crate::{FAILED, named_or_standard, out_of_memory, progress_of, status_of, tell};
+use arrowflow::{Layout, Limits, Selection, ShowOptions};
+use std::io;
+use std::io::Input;
+use std::rt::Files;
+use std::time::Clock;
+
+/// Prints the rows of the stream in the file of this name, or of standard input.
+pub(crate) fn show_file<R>(
+    rt: &R,
+    name: &Option<String>,
+    options: &ShowOptions,
+    limits: &Limits,
+) -> u8
+where
+    R: AllocGlobal + Files + Input + Print + Eprint + Clock + Terminals,
+    R::File: Drop,
+{
+    let name = match named_or_standard(rt, name.as_ref().map(|name| name.as_str())) {
+        Ok(name) => name,
+        Err(status) => return status,
+    };
+    if !options.json {
+        return print_rows(rt, name, options, limits);
+    }
+    if is_partial(options) {
+        let _ = eprintln!(rt; "--json prints all rows and columns: no other option goes with it");
+        return FAILED;
+    }
+    print_json(rt, name, limits)
+}
+
+/// Prints each row of the stream in the file of this name as a JSON object on a line.
+fn print_json<R>(rt: &R, name: &str, limits: &Limits) -> u8
+where
+    R: AllocGlobal + Files + Input + Print + Eprint + Clock + Terminals,
+    R::File: Drop,
+{
+    let file = match open(rt, 0, name) {
+        Ok(file) => file,
+        Err(fault) => return tell(rt, &fault, name, "-"),
+    };
+    let input = Watched::new(file, progress_of(rt, "show", name, true));
+    let Ok(ends) = Ends::new(rt.alloc(), input, io::writer(rt)) else {
+        return out_of_memory(rt);
+    };
+    let (input, ended) = ends.show_json(rt.alloc(), limits);
+    input.clear();
+    status_of(rt, ended.answer, (name, "-"), ended.is_closed)
+}
+
+/// Prints the rows of the stream in the file of this name that are asked for.
+fn print_rows<R>(rt: &R, name: &str, options: &ShowOptions, limits: &Limits) -> u8
+where
+    R: AllocGlobal + Files + Input + Print + Eprint + Clock + Terminals,
+    R::File: Drop,
+{
+    let asked = options
+        .columns
+        .as_ref()
+        .map_or(&[] as &[String], |columns| columns);
+    let Ok(names) = asked
+        .iter()
+        .map(|column| column.as_str())
+        .collect::<Vec<&str>>(rt.alloc())
+    else {
+        return out_of_memory(rt);
+    };
+    let layout = Layout {
+        columns: options.columns.as_ref().map(|_| names.as_slice()),
+        null: options.null.as_ref().map(|null| null.as_str()),
+        numbers: !options.no_batch,
+    };
+    let selection = Selection {
+        layout,
+        batch: options.batch,
+        skip: options.skip.unwrap_or(0),
+        rows: options.rows,
+    };
+    let file = match open(rt, 0, name) {
+        Ok(file) => file,
+        Err(fault) => return tell(rt, &fault, name, "-"),
+    };
+    let input = Watched::new(file, progress_of(rt, "show", name, true));
+    let Ok(ends) = Ends::new(rt.alloc(), input, io::writer(rt)) else {
+        return out_of_memory(rt);
+    };
+    let (input, ended) = ends.show(rt.alloc(), &selection, limits);
+    input.clear();
+    match ended {
+        Ok(ended) => status_of(rt, ended.answer, (name, "-"), ended.is_closed),
+        Err(place) => no_column(rt, names.get(place)),
+    }
+}
+
+/// Whether another option than that of JSON is given.
+fn is_partial(options: &ShowOptions) -> bool {
+    options.columns.is_some()
+        || options.batch.is_some()
+        || options.skip.is_some()
+        || options.rows.is_some()
+        || options.null.is_some()
+        || options.no_batch
+}
+
+/// Tells of a column that the schema lacks.
+fn no_column<R: Eprint>(rt: &R, name: Option<&&str>) -> u8
+    ensures { result ≡ FAILED }
+{
+    let name = name.copied().unwrap_or("");
+    let _ = eprintln!(rt; "no column {name}");
+    FAILED
+}

@@ -1,0 +1,185 @@
+-- How a call ends that shows the rows in a window of a stream.
+use Rattle.std.proofs.Common.{◌≡◌, ℕ, ◌+◌, List, [], ◌++◌, Option, Result, Ok, Err, inl, inr, refl, sym, ap, ◌∙◌, subst, append_assoc, append-nil}
+use Rattle.std.specs.Io.KnownBytes.{Appends}
+use Rattle.std.proofs.KnownBytes.{Appends-trans}
+use Rattle.arrow_types.specs.Limits.{LimitNumbers}
+use Rattle.arrow_csv.specs.Layouts.{Form}
+use Rattle.arrow_csv.specs.Named.{Choice}
+use Rattle.arrow_sink.specs.Sinks.{AcceptsBeginning}
+use Rattle.arrow_stream_reader.specs.Front.{Entry, Standing, FrontOf}
+use Rattle.arrow_stream_reader.specs.Stream.{ReaderView}
+use Rattle.arrow_stream_reader.specs.declared.fault.Fault.{Fault}
+use Rattle.arrow_stream_reader.specs.declared.reader.Verdict.TheVariants.{Open}
+use Rattle.arrowflow_report.specs.Chosen.{AreRows, choice_of, form_of}
+use Rattle.arrowflow_report.specs.Windows.{HaveAll, IsEnoughTold, AreBegun, IsPartCut, IsPartTold, IsShortAt, IsShortOf, ShowsWindow}
+use Rattle.arrowflow_report.specs.Reports.{EndsBadly, EndsWell, IsEnding, SendsText}
+use Rattle.arrowflow_report.specs.declared.report.Report.{Report}
+use Rattle.arrowflow_report.specs.declared.report.Report.TheVariants.{Messages, Rows}
+use Rattle.arrowflow_report.specs.declared.tool_fault.ToolFault.{ToolFault}
+use Rattle.arrowflow_report.specs.declared.tool_fault.ToolFault.TheVariants.{Input, Output, Stream, Refused, Memory}
+use Rattle.arrowflow_report.specs.declared.window.Window.{Window}
+use Rattle.arrowflow_report.proofs.Windows.{not_there}
+use Rattle.arrowflow_report.proofs.Driving.{standing_of}
+use Rattle.arrowflow_report.proofs.Sent.{begun_all, begun_behind}
+
+-- nothing stands behind rows
+pub no_ending : (report : Report) → AreRows report → (place : ℕ) (text : List ℕ) → IsEnding report place text → text ≡ []
+no_ending (Rows layout) e place text is = is
+no_ending Messages e place text is = absurd e
+
+-- the reader stands behind all the bytes that were read, and more rows are wanted
+module _ (w : Window) (report : Report) (is_rows : AreRows report) (limits : LimitNumbers) (bytes : List ℕ) (left first : Option (List ℕ)) (start : ℕ) (held : Option (List ℕ)) (number failed : ℕ) (window : Option Window) (r : ReaderView)
+    (same : r.limits ≡ limits) (count : failed ≡ start) (es : List Entry) (x : IsPartTold (form_of report) (choice_of report) w first held number window r bytes es) where
+  abbrev e : Standing
+  e = standing_of r x.stands.rest
+
+  front_at : FrontOf limits bytes es e
+  front_at = subst (λ l. FrontOf l bytes es e) same x.stands.front
+
+  short_of : HaveAll w r.at.state.schema es → ⊥
+  short_of = not_there w window x.stands.front x.left_are
+
+  written_by : (held' : Option (List ℕ)) → Appends first held' x.text → IsShortOf (form_of report) (choice_of report) w limits bytes e first held'
+  written_by held' h = record {
+    written = record { entries = es; front = front_at; has = x.has; text = x.text; is = x.is; wrote = h };
+    short = short_of;
+  }
+
+  begun_by : (held' : Option (List ℕ)) → AcceptsBeginning first held' x.text → AreBegun (form_of report) (choice_of report) w limits bytes first held'
+  begun_by held' h = record {
+    taken = bytes;
+    rest = [];
+    whole = append-nil bytes;
+    standing = e;
+    entries = es;
+    front = front_at;
+    has = x.has;
+    text = x.text;
+    is = x.is;
+    wrote = h;
+  }
+
+  -- the stream goes on, and more rows are wanted
+  pub first_open : r.at.verdict ≡ Open → IsShortAt w limits bytes
+  first_open goes_on = record {
+    open_at = record { entries = es; standing = e; front = front_at; goes_on = goes_on };
+    short = short_of;
+  }
+
+  -- a read failed
+  pub first_input : r.at.verdict ≡ Open → ShowsWindow (form_of report) (choice_of report) w limits bytes left first start (Err (Input 0)) held failed
+  first_input goes_on = (refl, (e, goes_on, written_by held x.wrote), count)
+
+  -- memory was wanting
+  pub first_memory : ShowsWindow (form_of report) (choice_of report) w limits bytes left first start (Err Memory) held failed
+  first_memory = (begun_by held (begun_all first held x.text x.wrote), count)
+
+  -- the last flush
+  pub flushed_by : (held' held'' : Option (List ℕ)) (failed' failed'' : ℕ) (answer : Result (Unit {0}) ToolFault) → Appends first held' x.text → EndsWell left e → failed' ≡ start → SendsText held' failed' [] answer held'' failed''
+      → ShowsWindow (form_of report) (choice_of report) w limits bytes left first start answer held'' failed''
+  flushed_by held' held'' failed' failed'' (Ok done) h well so sent =
+      (inr (e, written_by held'' (subst (Appends first held'') (append-nil x.text) (Appends-trans first held' held'' x.text [] h sent.0)), well), sent.1 ∙ so)
+  flushed_by held' held'' failed' failed'' (Err Output) h well so sent =
+      (begun_by held'' (subst (AcceptsBeginning first held'') (append-nil x.text) (begun_behind first held' held'' x.text [] h sent.0)), sent.1 ∙ ap (λ k. k + 1) so)
+  flushed_by held' held'' failed' failed'' (Err Memory) h well so sent =
+      (begun_by held'' (subst (AcceptsBeginning first held'') (append-nil x.text) (begun_behind first held' held'' x.text [] h sent.0)), sent.1 ∙ so)
+  flushed_by held' held'' failed' failed'' (Err (Input k)) h well so sent = absurd sent
+  flushed_by held' held'' failed' failed'' (Err (Stream f)) h well so sent = absurd sent
+  flushed_by held' held'' failed' failed'' (Err (Refused what kind)) h well so sent = absurd sent
+
+  -- the stream ended badly
+  pub first_badly : (fault : Fault) → EndsBadly left e fault → ShowsWindow (form_of report) (choice_of report) w limits bytes left first start (Err (Stream fault)) held failed
+  first_badly fault badly = ((e, written_by held x.wrote, badly), count)
+
+  -- what stands behind the last message was not told to its end: nothing stands behind rows
+  pub ending_cut : (ending : List ℕ) → IsEnding report r.at.place ending → (held' : Option (List ℕ)) → AcceptsBeginning held held' ending → AreBegun (form_of report) (choice_of report) w limits bytes first held'
+  ending_cut ending is held' h =
+      let none = no_ending report is_rows r.at.place ending is in
+      begun_by held' (subst (AcceptsBeginning first held') (ap (λ z. x.text ++ z) none ∙ append-nil x.text) (begun_behind first held held' x.text ending x.wrote h))
+
+  -- it was
+  pub ending_told : (ending : List ℕ) → IsEnding report r.at.place ending → (held' : Option (List ℕ)) → Appends held held' ending → Appends first held' x.text
+  ending_told ending is held' h =
+      let none = no_ending report is_rows r.at.place ending is in
+      subst (Appends first held') (ap (λ z. x.text ++ z) none ∙ append-nil x.text) (Appends-trans first held held' x.text ending x.wrote h)
+
+-- what ends inside of a piece
+module _ (form : Form) (choice : Choice) (w : Window) (limits : LimitNumbers) (bytes piece : List ℕ) (left first held : Option (List ℕ)) (start failed failed' : ℕ) (r : ReaderView) (same : r.limits ≡ limits) (count : failed ≡ start) where
+  pub begun_so : (c : IsPartCut form choice w first held r bytes piece) → AreBegun form choice w limits (bytes ++ piece) first held
+  begun_so c = record {
+    taken = bytes ++ c.taken;
+    rest = c.rest;
+    whole = append_assoc bytes c.taken c.rest ∙ ap (λ y. bytes ++ y) c.whole;
+    standing = standing_of r c.stands.rest;
+    entries = c.entries;
+    front = subst (λ l. FrontOf l (bytes ++ c.taken) c.entries (standing_of r c.stands.rest)) same c.stands.front;
+    has = c.has;
+    text = c.text;
+    is = c.is;
+    wrote = c.wrote;
+  }
+
+  -- the rows are there, and the output was flushed
+  pub first_enough_flushed : IsEnoughTold form choice w first held r bytes piece → failed' ≡ failed → (held' : Option (List ℕ)) (failed'' : ℕ) (answer : Result (Unit {0}) ToolFault) → SendsText held failed' [] answer held' failed''
+      → ShowsWindow form choice w limits (bytes ++ piece) left first start answer held' failed''
+  first_enough_flushed x so held' failed'' answer sent = by answer sent
+    where
+      front_at : FrontOf limits (bytes ++ x.taken) x.entries (standing_of r x.stands.rest)
+      front_at = subst (λ l. FrontOf l (bytes ++ x.taken) x.entries (standing_of r x.stands.rest)) same x.stands.front
+
+      whole : (bytes ++ x.taken) ++ x.rest ≡ bytes ++ piece
+      whole = append_assoc bytes x.taken x.rest ∙ ap (λ y. bytes ++ y) x.whole
+
+      begun : AcceptsBeginning held held' [] → AreBegun form choice w limits (bytes ++ piece) first held'
+      begun h = record {
+        taken = bytes ++ x.taken;
+        rest = x.rest;
+        whole = whole;
+        standing = standing_of r x.stands.rest;
+        entries = x.entries;
+        front = front_at;
+        has = x.has;
+        text = x.text;
+        is = x.is;
+        wrote = subst (AcceptsBeginning first held') (append-nil x.text) (begun_behind first held held' x.text [] x.wrote h);
+      }
+
+      by : (answer : Result (Unit {0}) ToolFault) → SendsText held failed' [] answer held' failed'' → ShowsWindow form choice w limits (bytes ++ piece) left first start answer held' failed''
+      by (Ok done) sent = (
+        inl (record {
+          taken = bytes ++ x.taken;
+          rest = x.rest;
+          whole = whole;
+          standing = standing_of r x.stands.rest;
+          written = record {
+            entries = x.entries;
+            front = front_at;
+            has = x.has;
+            text = x.text;
+            is = x.is;
+            wrote = subst (Appends first held') (append-nil x.text) (Appends-trans first held held' x.text [] x.wrote sent.0);
+          };
+          there = x.there;
+        }),
+        sent.1 ∙ so ∙ count,
+      )
+      by (Err Output) sent = (begun sent.0, sent.1 ∙ ap (λ k. k + 1) (so ∙ count))
+      by (Err Memory) sent = (begun sent.0, sent.1 ∙ so ∙ count)
+      by (Err (Input k)) sent = absurd sent
+      by (Err (Stream f)) sent = absurd sent
+      by (Err (Refused what kind)) sent = absurd sent
+
+-- what was begun of a beginning of bytes was begun of all of them
+pub first_longer : (form : Form) (choice : Choice) (w : Window) (limits : LimitNumbers) (taken rest bytes : List ℕ) (first held : Option (List ℕ)) → taken ++ rest ≡ bytes → AreBegun form choice w limits taken first held → AreBegun form choice w limits bytes first held
+first_longer form choice w limits taken rest bytes first held whole begun = record {
+  taken = begun.taken;
+  rest = begun.rest ++ rest;
+  whole = sym (append_assoc begun.taken begun.rest rest) ∙ ap (λ y. y ++ rest) begun.whole ∙ whole;
+  standing = begun.standing;
+  entries = begun.entries;
+  front = begun.front;
+  has = begun.has;
+  text = begun.text;
+  is = begun.is;
+  wrote = begun.wrote;
+}
