@@ -30,6 +30,7 @@ use crate::showing::show_file;
 use crate::terminals::Terminals;
 use crate::watched::Progress;
 use arrowflow::{ArgFault, Plan, Task, ToolFault, plan};
+use std::alloc::Global;
 use std::io::{ErrorKind, Input, Write};
 use std::process::ExitCode;
 use std::rt::{Env, Files};
@@ -42,6 +43,10 @@ pub(crate) const FINE: u8 = 0;
 /// The arguments, a file or memory failed.
 pub(crate) const FAILED: u8 = 2;
 
+/// The size of a block that is taken and given back before all others: after it glibc keeps twice
+/// as much that is free for the blocks to come.
+const FIRST_BLOCK: usize = 4 << 20;
+
 fn main(rt: HostRuntime) -> ExitCode {
     ExitCode::from(run(&rt))
 }
@@ -52,6 +57,7 @@ where
     R::File: Drop,
 {
     let alloc = rt.alloc();
+    keep_free_memory(alloc);
     let words = match env::args(rt) {
         Ok(words) => words,
         Err(error) if error.kind() == ErrorKind::OutOfMemory => return out_of_memory(rt),
@@ -79,6 +85,14 @@ where
         }
         Err(ArgFault::Memory) => out_of_memory(rt),
     }
+}
+
+/// Has free memory kept for the blocks to come. Else glibc gives it back to the system once as much
+/// is free as twice the largest block that it had from the system alone: what a batch of some
+/// thousand columns frees is just so much, and the next batch is given all its pages anew. Where the
+/// block is refused, that is so.
+fn keep_free_memory(alloc: Global) {
+    let _ = Vec::<u8>::with_capacity(alloc, FIRST_BLOCK);
 }
 
 /// Makes the call that a plan asks for, and gives the exit status.
