@@ -3,7 +3,7 @@ pub mod Written
 mod Chunked
 mod Digits
 mod Numerals
-mod LastDigits
+pub mod LastDigits
 mod DecimalTexts
 mod WideNumbers
 mod UnitTexts

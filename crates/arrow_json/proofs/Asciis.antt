@@ -1,22 +1,20 @@
--- Texts of decimals and of bytes are ASCII, and so UTF-8.
-use Rattle.std.proofs.Common.{◌&&◌, nat_lt, ltb-true, ◌≡◌, ◌<◌, ◌+◌, ◌-◌, ℕ, ℤ, zero, suc, pos, negsuc, Bool, true, false, List, [], ◌∷◌, ◌++◌, length, take, drop, codes, unsigned_abs, refl, to_z, of_z, sym, ap, ap₂, ◌∙◌, subst, append_assoc, arith}
+-- Texts of decimals, of bytes and of intervals are ASCII, and so UTF-8.
+use Rattle.std.proofs.Common.{◌&&◌, nat_lt, ltb-true, ◌≡◌, ◌<◌, ◌+◌, ◌-◌, ◌/◌, ◌%◌, ◌==◌, if◌then◌else◌, ℕ, ℤ, zero, suc, pos, negsuc, Bool, true, false, List, [], ◌∷◌, ◌++◌, length, take, drop, codes, unsigned_abs, refl, sym, ◌∙◌, subst, arith}
 use Rattle.std.proofs.lemmas.Bool.{and_parts}
-use Rattle.std.proofs.lemmas.Int.{to_z-of_z}
 use Rattle.std.proofs.lemmas.Str.Ascii.{IsAscii-cons, IsAscii-nil}
 use Rattle.std.proofs.lemmas.Fmt.{IsAscii-from_digits}
 use Rattle.std.proofs.lemmas.Str.{IsAscii-append, IsUtf8-append, IsUtf8-from_ascii}
-use Rattle.std.specs.Fmt.{sign_text, signed_decimal}
-use Rattle.std.specs.Int.{is_negative, w128}
-use Rattle.std.specs.Prelude.{FitsSigned}
+use Rattle.std.specs.Fmt.{decimal, digit_glyph, digits, digits_onto, sign_text, signed_decimal}
+use Rattle.std.specs.Int.{is_negative}
 use Rattle.std.specs.Str.{IsAscii, IsUtf8}
 use Rattle.std.specs.Str.Parse.{AllDigits}
 use Rattle.hex.proofs.HexLemmas.{IsAscii-encode_with}
 use Rattle.hex.specs.Hex.{encode_lower, lower_digits}
 use Rattle.arrow_data.specs.declared.intervals.Interval.{Interval}
-use Rattle.arrow_data.specs.declared.intervals.Interval.TheVariants.{DayTime, MonthDayNano}
+use Rattle.arrow_data.specs.declared.intervals.Interval.TheVariants.{DayTime, MonthDayNano, YearMonth}
 use Rattle.arrow_csv.specs.Intervals.{counted, interval_text, months_text}
 use Rattle.arrow_csv.specs.Decimals.{decimal_text, numeral, scaled, zero_filled}
-use Rattle.arrow_json.specs.Written.{Puts}
+use Rattle.arrow_csv.specs.Texts.{Appends, IsPlain}
 use Rattle.arrow_json.proofs.DecimalNumbers.{drop_digits, filled_digits, numeral_digits, take_digits}
 
 -- whether each byte is below 128
@@ -63,32 +61,45 @@ all_ascii (b ∷ bytes) h = let both = and_parts (nat_lt b 128) (all_below bytes
 pub hex_utf8 : (bytes : List ℕ) → IsUtf8 (encode_lower bytes)
 hex_utf8 bytes = IsUtf8-from_ascii (encode_lower bytes) (IsAscii-encode_with lower_digits bytes (all_ascii lower_digits refl))
 
--- two texts, one after the other
-pub puts_both : (front back old mid new : List ℕ) → Puts front old mid → Puts back mid new → Puts (front ++ back) old new
-puts_both front back old mid new first second =
-    (second.0 ∙ ap (λ t. t ++ back) first.0 ∙ append_assoc old front back, IsUtf8-append front back first.1 second.1)
+-- a digit is ASCII, and so are the digits of a number before a text that is
+glyph_low : (b : Bool) (d : ℕ) → d < 10 → (if b then 48 + d else 87 + d) < 128
+glyph_low true d h = omega (arith, h)
+glyph_low false d h = omega (arith, h)
+
+one_of_both : (b : Bool) (xs ys : List ℕ) → IsAscii xs → IsAscii ys → IsAscii (if b then xs else ys)
+one_of_both true xs ys h k = h
+one_of_both false xs ys h k = k
+
+digits_ascii : (count n : ℕ) (rest : List ℕ) → IsAscii rest → IsAscii (digits_onto count 10 false n rest)
+digits_ascii zero n rest h = h
+digits_ascii (suc count) n rest h =
+    let digit = digit_glyph false (n % 10) in
+    let more : IsAscii (digit ∷ rest) = IsAscii-cons digit rest (glyph_low (nat_lt (n % 10) 10) (n % 10) (omega arith)) h in
+    one_of_both (n / 10 == 0) (digit ∷ rest) (digits_onto count 10 false (n / 10) (digit ∷ rest)) more (digits_ascii count (n / 10) (digit ∷ rest) more)
+
+-- a whole number
+signed_ascii : (z : ℤ) → IsAscii (signed_decimal z)
+unfolding digits
+signed_ascii (pos n) = digits_ascii 64 n [] IsAscii-nil
+signed_ascii (negsuc n) = IsAscii-cons 45 (decimal (suc n)) (omega arith) (digits_ascii 64 (suc n) [] IsAscii-nil)
 
 -- a number and its unit
-pub counted_text : (z : ℤ) (unit old mid new : List ℕ) → FitsSigned w128 z → Puts (signed_decimal (to_z w128 (of_z w128 z))) old mid → new ≡ mid ++ unit → IsUtf8 unit → Puts (counted z unit) old new
-counted_text z unit old mid new fits front back is =
-    let same = to_z-of_z w128 z fits in
-    let number = subst (λ y. Puts (signed_decimal y) old mid) same front in
-    puts_both (signed_decimal z) unit old mid new number (back, is)
+counted_utf8 : (z : ℤ) (unit : List ℕ) → all_below unit ≡ true → IsUtf8 (counted z unit)
+counted_utf8 z unit h = IsUtf8-from_ascii (counted z unit) (IsAscii-append (signed_decimal z) unit (signed_ascii z) (all_ascii unit h))
 
--- days and milliseconds
-pub day_time_text : (interval : Interval) (days milliseconds x y : ℤ) (old mid new : List ℕ) → interval ≡ DayTime days milliseconds → x ≡ days → y ≡ milliseconds
-    → Puts (counted x (codes "d")) old mid → Puts (counted y (codes "ms")) mid new → Puts (interval_text interval) old new
-day_time_text interval days milliseconds x y old mid new is first second front back =
-    let whole = puts_both (counted x (codes "d")) (counted y (codes "ms")) old mid new front back in
-    let same : counted x (codes "d") ++ counted y (codes "ms") ≡ interval_text interval = ap₂ (λ a b. counted a (codes "d") ++ counted b (codes "ms")) first second ∙ ap interval_text (sym is) in
-    subst (λ text. Puts text old new) same whole
+-- so many months
+pub months_utf8 : (months : ℤ) → IsUtf8 (months_text months)
+months_utf8 months = counted_utf8 months (codes "M") refl
 
--- months, days and nanoseconds
-pub month_day_nano_text : (interval : Interval) (months days nanoseconds x y z : ℤ) (old one two new : List ℕ) → interval ≡ MonthDayNano months days nanoseconds → x ≡ months → y ≡ days → z ≡ nanoseconds
-    → Puts (months_text x) old one → Puts (counted y (codes "d")) one two → Puts (counted z (codes "ns")) two new → Puts (interval_text interval) old new
-month_day_nano_text interval months days nanoseconds x y z old one two new is first second third front middle back =
-    let part = puts_both (months_text x) (counted y (codes "d")) old one two front middle in
-    let whole = puts_both (months_text x ++ counted y (codes "d")) (counted z (codes "ns")) old two new part back in
-    let parts = ap₂ (λ a b. months_text a ++ counted b (codes "d")) first second in
-    let same : months_text x ++ counted y (codes "d") ++ counted z (codes "ns") ≡ interval_text interval = ap₂ (λ front c. front ++ counted c (codes "ns")) parts third ∙ ap interval_text (sym is) in
-    subst (λ text. Puts text old new) same whole
+-- an interval
+pub interval_utf8 : (interval : Interval) → IsUtf8 (interval_text interval)
+interval_utf8 (YearMonth months) = months_utf8 months
+interval_utf8 (DayTime days milliseconds) =
+    IsUtf8-append (counted days (codes "d")) (counted milliseconds (codes "ms")) (counted_utf8 days (codes "d") refl) (counted_utf8 milliseconds (codes "ms") refl)
+interval_utf8 (MonthDayNano months days nanoseconds) =
+    IsUtf8-append (months_text months ++ counted days (codes "d")) (counted nanoseconds (codes "ns"))
+    (IsUtf8-append (months_text months) (counted days (codes "d")) (months_utf8 months) (counted_utf8 days (codes "d") refl)) (counted_utf8 nanoseconds (codes "ns") refl)
+
+-- what holds of a text that was appended to nothing
+pub in_room : (P : List ℕ → Type 0) (old new whole : List ℕ) → old ≡ [] → Appends (IsPlain (λ text. text ≡ whole)) old new → P whole → P new
+in_room P old new whole none put holds = subst P (sym (put.2 ∙ (λ i. none i ++ put.1.0 i))) holds

@@ -12,7 +12,7 @@ use Rattle.std.specs.Str.Parse.{AllDigits}
 use Rattle.json.specs.Print.{IsNumber}
 use Rattle.json.specs.Word.{after_digits, after_exponent, after_fraction, after_number, after_whole, head}
 use Rattle.arrow_csv.specs.Decimals.{decimal_text, numeral, scaled, zero_filled}
-use Rattle.arrow_json.proofs.LastDigits.{decimal_numeral, numeral_by_steps}
+use Rattle.arrow_csv.proofs.LastDigits.{decimal_numeral, numeral_by_steps}
 
 -- ---- digits are passed
 

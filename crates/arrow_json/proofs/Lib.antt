@@ -1,5 +1,3 @@
-mod LastDigits
-mod DecimalTexts
 mod DecimalNumbers
 mod Asciis
 mod Reals

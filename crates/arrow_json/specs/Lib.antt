@@ -3,5 +3,4 @@ pub mod Scalars
 pub mod Values
 pub mod Lines
 pub mod Written
-pub mod Wide
 pub mod Laws

@@ -1,5 +1,5 @@
 -- What is written of values, token by token. Only the crate's private clauses cite these.
-use Rattle.std.specs.Prelude.{◌≡◌, ◌++◌, ℕ, List, IsUtf8}
+use Rattle.std.specs.Prelude.{◌≡◌, ◌++◌}
 use Rattle.json.specs.Json.{Json}
 use Rattle.json.specs.Tree.{json_tokens}
 use Rattle.json.specs.Written.{Written}
@@ -7,7 +7,3 @@ use Rattle.json.specs.Written.{Written}
 -- the tokens of a JSON value with this property were appended
 abbrev pub Adds : (Json → Type 0) → Written → Written → Type 0
 Adds P old new = (json : Json) × P json × (new.tokens ≡ old.tokens ++ json_tokens json) × (new.before ≡ old.before)
-
--- a text was appended, which is UTF-8
-abbrev pub Puts : List ℕ → List ℕ → List ℕ → Type 0
-Puts text old new = (new ≡ old ++ text) × IsUtf8 text

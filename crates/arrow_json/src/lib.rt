@@ -27,22 +27,18 @@
 //! | lines of rows, of the first of them | `specs/Lines.antt`: `AreLines`, `AreFirstLines` |
 //! | that the text of a row reads back | `specs/Laws.antt`: `RowReadsBack` |
 //! | that it is one line | `specs/Laws.antt`: `RowIsOneLine` |
-//! | tokens that were written, texts that were appended | `specs/Written.antt`: `Adds`, `Puts` |
-//! | numbers of 256 bits | `specs/Wide.antt`: `wide_number` |
+//! | tokens that were written | `specs/Written.antt`: `Adds` |
 //!
 //! Of the proofs, `Joining` shows how arrays and objects are written item by item, `DecimalNumbers`
-//! that the text of a decimal is a number of JSON, `Rows` how lines follow one another, `ReadBack`
-//! and `OneLine` the laws. `DecimalTexts` and `LastDigits` are about decimal digits.
+//! that the text of a decimal is a number of JSON, `Asciis` that texts are UTF-8, `Rows` how lines
+//! follow one another, `ReadBack` and `OneLine` the laws.
 #![tactic(auto)]
 
-mod decimals;
-mod intervals;
 mod kind;
 pub mod laws;
 mod lines;
 mod pen;
 mod scalars;
 mod values;
-mod wide;
 
 pub use lines::lines_of;

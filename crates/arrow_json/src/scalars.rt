@@ -13,10 +13,9 @@ ghost use Rattle.arrow_csv.specs.Intervals.{interval_text, months_text};
 ghost use Rattle.arrow_json.specs.Scalars.{IsFloatJson, IsNumberJson, bytes_json};
 ghost use Rattle.arrow_json.specs.Written.{Adds};
 
-use crate::decimals::{push_decimal, push_wide_decimal};
-use crate::intervals::{push_bytes, push_interval, push_months};
 use crate::kind::Kind;
 use crate::pen::Pen;
+use arrow_csv::{push_bytes, push_decimal, push_interval, push_months, push_wide_decimal};
 use arrow_data::floats::bits_in;
 use arrow_data::{Decimal, Interval, decimals, half, intervals};
 use arrow_types::Precision;
