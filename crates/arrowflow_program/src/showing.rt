@@ -32,7 +32,7 @@ where
         return print_rows(rt, name, options, limits);
     }
     if is_partial(options) {
-        let _ = eprintln!(rt; "--json prints all rows and columns: no other option goes with it");
+        let _ = eprintln!(rt; "--json prints all rows and columns: --columns, --rows and the like do not go with it");
         return FAILED;
     }
     print_json(rt, name, limits)
