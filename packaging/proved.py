@@ -12,6 +12,8 @@ import crates
 # What a library says of itself: the logic that it was proved in, and the sum of what it states.
 NOTED = re.compile(r"^(logic|sum) ([0-9a-f]+)$", re.M)
 GATE = f"{crates.TOP}/out/gate.txt"
+# What stands after a commit where other files than its own are there.
+CHANGED = " and changes that are in no commit"
 
 
 def of_git(*words):
@@ -30,8 +32,7 @@ def of_commit(what):
 
 def commit():
     """The commit that is checked out, and whether there are changes beside it."""
-    changed = " and changes that are in no commit" if of_git("status", "--porcelain") else ""
-    return f"{of_commit('%H') or 'none is known'}{changed}"
+    return f"{of_commit('%H') or 'none is known'}{CHANGED if of_git('status', '--porcelain') else ''}"
 
 
 def kit():
@@ -65,8 +66,8 @@ def of_gate():
             of, *lines = it.read().splitlines()
     except (OSError, ValueError):
         return ["no gate was seen"]
-    if of != f"commit {commit()}":
-        return [f"no gate was seen of this commit; one was seen of {of.removeprefix('commit ')}"]
+    if not of_commit("%H") or of != f"commit {commit()}" or of.endswith(CHANGED):
+        return [f"no gate was seen of just these files; one was seen of {of}"]
     ended = lines and re.match(r"\d+ passed, \d+ failed$", lines[-1])
     return lines if ended else [*lines, "it had not ended when this was written"]
 

@@ -114,7 +114,7 @@ def write(file, files):
 
 
 def make(prefix, folder):
-    """Makes the wheel in this folder, with the library that was built into prefix/lib, and prints its name."""
+    """Makes the wheel in this folder, with the library that was built into prefix/lib; returns its name."""
     its_version = crates.version()
     library = f"{prefix}/lib/libarrowflow.so.{its_version.split('.')[0]}"
     tag = f"py3-none-{platform_of(library)}"
@@ -123,4 +123,4 @@ def make(prefix, folder):
     os.makedirs(folder, exist_ok=True)
     made = f"{folder}/{NAME}-{its_version}-{tag}.whl"
     write(made, [*sorted(found.items()), (record, "".join([*lines, f"{record},,\n"]).encode())])
-    print(made)
+    return made
