@@ -19,7 +19,6 @@ TEMPLATES = f"{crates.TOP}/packaging/debian"
 MACHINE, LIB, REVISION = "amd64", "lib/x86_64-linux-gnu", "1"
 # Who made the packages, where Debian's own variables do not say it.
 MAINTAINER = ("Atticoregano maintainers", "maintainers@users.noreply.atticoregano.example")
-DOCS = ("usr/share/doc/{}/THIRD_PARTY.md", "share/doc/arrowflow/THIRD_PARTY.md")
 
 
 def template(name, fields):
@@ -148,6 +147,7 @@ def make(prefix, room, out, fields, build):
     made = [program(prefix, room, fields), library(prefix, room, fields, build.calls(*build.HEADERS)),
             development(prefix, room, fields, build.package(LIB))]
     for it in made:
-        it.add_from(f"{prefix}/{DOCS[1]}", DOCS[0].format(it.name))
+        # the licence itself is where Debian has it
+        it.add_from(f"{prefix}/share/doc/arrowflow/THIRD_PARTY.md", f"usr/share/doc/{it.name}/THIRD_PARTY.md")
         it.finish(out)
     module(room, fields).finish(out, "all")

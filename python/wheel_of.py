@@ -24,6 +24,8 @@ import crates
 NAME = "arrowflow"
 # The libraries that the policy lets a wheel link (PEP 600 and the profiles of auditwheel), of those that C and Rust code links.
 ALLOWED = {"libc.so.6", "libm.so.6", "libdl.so.2", "librt.so.1", "libpthread.so.0", "libgcc_s.so.1", "ld-linux-x86-64.so.2"}
+# The licence, and those of what the library has of others, where there is such a list.
+LICENCES = tuple(it for it in ("LICENSE", "THIRD_PARTY.md") if os.path.isfile(f"{TOP}/{it}"))
 # No tag of manylinux is for an earlier glibc.
 FIRST_GLIBC = (2, 5)
 METADATA = """Metadata-Version: 2.1
@@ -36,7 +38,7 @@ Classifier: Operating System :: POSIX :: Linux
 Classifier: Programming Language :: Python :: 3
 Classifier: Typing :: Typed
 Requires-Python: >=3.9
-License-File: LICENSE
+{licences}
 Description-Content-Type: text/plain
 
 {description}"""
@@ -78,7 +80,8 @@ def platform_of(library):
 
 def metadata(its_version):
     """What pip and the like read of the package."""
-    return METADATA.format(name=NAME, version=its_version, description=description()).encode()
+    licences = "\n".join(f"License-File: {it}" for it in LICENCES)
+    return METADATA.format(name=NAME, version=its_version, licences=licences, description=description()).encode()
 
 
 def description():
@@ -92,7 +95,7 @@ def parts(prefix, its_version, tag):
     found = {f"{NAME}/{os.path.basename(it)}": read(it) for it in glob.glob(f"{HERE}/{NAME}/*.py")}
     found[f"{NAME}/py.typed"] = read(f"{HERE}/{NAME}/py.typed")
     found[f"{NAME}/{library}"] = read(f"{prefix}/lib/{library}")
-    found[f"{info}/LICENSE"] = read(f"{TOP}/LICENSE")
+    found.update({f"{info}/{it}": read(f"{TOP}/{it}") for it in LICENCES})
     found[f"{info}/METADATA"] = metadata(its_version)
     found[f"{info}/WHEEL"] = WHEEL.format(name=NAME, tag=tag).encode()
     return found, f"{info}/RECORD"
