@@ -1,5 +1,5 @@
-"""The crates of this repository, for the scripts that check and measure them: which there are, what they use and read, a
-copy of them with one program more, and what earlier runs on this machine saw of the same files."""
+"""The crates of this repository, for the scripts that check and measure them: the version, which there are, what they use and
+read, a copy of them with one program more, and what earlier runs on this machine saw of the same files."""
 import hashlib
 import json
 import os
@@ -13,7 +13,13 @@ KIT = os.path.dirname(subprocess.run(["rt", "doc"], capture_output=True, text=Tr
 PARTS = ("src", "specs", "proofs")
 
 
-# ---- which crates there are
+# ---- the version, and which crates there are
+
+
+def version():
+    """The version, as the file VERSION has it: three numbers with dots between them. checks/version compares the rest with it."""
+    with open(f"{TOP}/VERSION", encoding="utf-8") as it:
+        return re.fullmatch(r"(\d+\.\d+\.\d+)\n", it.read())[1]
 
 
 def listed(top=TOP):

@@ -12,14 +12,20 @@ import os
 import platform
 import re
 import subprocess
+import sys
 import time
 import zipfile
 
 HERE = os.path.dirname(os.path.abspath(__file__))
 TOP = os.path.dirname(HERE)
+sys.path.insert(0, f"{TOP}/checks")
+import crates
+
 NAME = "arrowflow"
 # The libraries that the policy lets a wheel link (PEP 600 and the profiles of auditwheel), of those that C and Rust code links.
 ALLOWED = {"libc.so.6", "libm.so.6", "libdl.so.2", "librt.so.1", "libpthread.so.0", "libgcc_s.so.1", "ld-linux-x86-64.so.2"}
+# The licence, and those of what the library has of others, where there is such a list.
+LICENCES = tuple(it for it in ("LICENSE", "THIRD_PARTY.md") if os.path.isfile(f"{TOP}/{it}"))
 # No tag of manylinux is for an earlier glibc.
 FIRST_GLIBC = (2, 5)
 METADATA = """Metadata-Version: 2.1
@@ -32,7 +38,7 @@ Classifier: Operating System :: POSIX :: Linux
 Classifier: Programming Language :: Python :: 3
 Classifier: Typing :: Typed
 Requires-Python: >=3.9
-License-File: LICENSE
+{licences}
 Description-Content-Type: text/plain
 
 {description}"""
@@ -48,29 +54,34 @@ def read(path):
         return it.read()
 
 
-def version():
-    """The version of the package, which has to be that of the header."""
-    found = re.search(rb'^VERSION = "([^"]+)"$', read(f"{HERE}/{NAME}/_version.py"), re.M)[1]
-    header = re.search(rb'^#define ARROWFLOW_VERSION "([^"]+)"$', read(f"{TOP}/c/arrowflow.h"), re.M)[1]
-    if found != header:
-        raise SystemExit(f"the package is of version {found.decode()}, and arrowflow.h of version {header.decode()}")
-    return found.decode()
-
-
 def told(*words):
     return subprocess.run(words, check=True, capture_output=True, text=True).stdout
+
+
+def needed_by(file):
+    """The names of the libraries that a program or a library links."""
+    return set(re.findall(r"^\s*NEEDED\s+(\S+)$", told("objdump", "-p", file), re.M))
+
+
+def glibc_of(file):
+    """The earliest glibc that has all that a program or a library asks of it, as two numbers."""
+    symbols = re.findall(r"\bGLIBC_(\d+)\.(\d+)", told("objdump", "-T", file))
+    return max([FIRST_GLIBC, *((int(major), int(minor)) for major, minor in symbols)])
 
 
 def platform_of(library):
     """The platform that a library is for, as the tag of a wheel names it."""
     machine = platform.machine()
-    dynamic = told("objdump", "-p", library)
-    needed = set(re.findall(r"^\s*NEEDED\s+(\S+)$", dynamic, re.M))
-    symbols = re.findall(r"\bGLIBC_(\d+)\.(\d+)", told("objdump", "-T", library))
-    if machine != "x86_64" or not needed <= ALLOWED or re.search(r"\b(GCC|GLIBCXX|CXXABI)_\d", dynamic):
+    if machine != "x86_64" or not needed_by(library) <= ALLOWED or re.search(r"\b(GCC|GLIBCXX|CXXABI)_\d", told("objdump", "-p", library)):
         return f"linux_{machine}"
-    major, minor = max([FIRST_GLIBC, *((int(major), int(minor)) for major, minor in symbols)])
+    major, minor = glibc_of(library)
     return f"manylinux_{major}_{minor}_{machine}"
+
+
+def metadata(its_version):
+    """What pip and the like read of the package."""
+    licences = "\n".join(f"License-File: {it}" for it in LICENCES)
+    return METADATA.format(name=NAME, version=its_version, licences=licences, description=description()).encode()
 
 
 def description():
@@ -84,8 +95,8 @@ def parts(prefix, its_version, tag):
     found = {f"{NAME}/{os.path.basename(it)}": read(it) for it in glob.glob(f"{HERE}/{NAME}/*.py")}
     found[f"{NAME}/py.typed"] = read(f"{HERE}/{NAME}/py.typed")
     found[f"{NAME}/{library}"] = read(f"{prefix}/lib/{library}")
-    found[f"{info}/LICENSE"] = read(f"{TOP}/LICENSE")
-    found[f"{info}/METADATA"] = METADATA.format(name=NAME, version=its_version, description=description()).encode()
+    found.update({f"{info}/{it}": read(f"{TOP}/{it}") for it in LICENCES})
+    found[f"{info}/METADATA"] = metadata(its_version)
     found[f"{info}/WHEEL"] = WHEEL.format(name=NAME, tag=tag).encode()
     return found, f"{info}/RECORD"
 
@@ -106,8 +117,8 @@ def write(file, files):
 
 
 def make(prefix, folder):
-    """Makes the wheel in this folder, with the library that was built into prefix/lib, and prints its name."""
-    its_version = version()
+    """Makes the wheel in this folder, with the library that was built into prefix/lib; returns its name."""
+    its_version = crates.version()
     library = f"{prefix}/lib/libarrowflow.so.{its_version.split('.')[0]}"
     tag = f"py3-none-{platform_of(library)}"
     found, record = parts(prefix, its_version, tag)
@@ -115,4 +126,4 @@ def make(prefix, folder):
     os.makedirs(folder, exist_ok=True)
     made = f"{folder}/{NAME}-{its_version}-{tag}.whl"
     write(made, [*sorted(found.items()), (record, "".join([*lines, f"{record},,\n"]).encode())])
-    print(made)
+    return made

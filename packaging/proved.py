@@ -1,0 +1,82 @@
+"""What is known of the proofs of what is released: the file PROVED, for the script `release`.
+
+It hangs on what lies in the checkout: on the commit, on what the kit left in crates/*/out, and on out/gate.txt, where the script
+`gate` notes what it saw. The kit writes a library, a program or a program of tests once its proof is whole, and not before; what it
+did not leave, or left before a source changed, is said to be not known.
+"""
+import os
+import re
+import subprocess
+import crates
+
+# What a library says of itself: the logic that it was proved in, and the sum of what it states.
+NOTED = re.compile(r"^(logic|sum) ([0-9a-f]+)$", re.M)
+GATE = f"{crates.TOP}/out/gate.txt"
+# What stands after a commit where other files than its own are there.
+CHANGED = " and changes that are in no commit"
+
+
+def of_git(*words):
+    """What git says of this checkout, or nothing."""
+    try:
+        ran = subprocess.run(["git", *words], cwd=crates.TOP, stdin=subprocess.DEVNULL, capture_output=True, text=True)
+    except FileNotFoundError:
+        return ""
+    return ran.stdout.strip() if ran.returncode == 0 else ""
+
+
+def of_commit(what):
+    """A part of the commit that is checked out, by the letter that `git log` has for it, or nothing where there is none."""
+    return of_git("log", "-1", f"--format={what}")
+
+
+def commit():
+    """The commit that is checked out, and whether there are changes beside it."""
+    return f"{of_commit('%H') or 'none is known'}{CHANGED if of_git('status', '--porcelain') else ''}"
+
+
+def kit():
+    with open(f"{crates.KIT}/KIT-ID", encoding="utf-8") as it:
+        return it.read().strip()
+
+
+def is_newer(made, name, listed):
+    """Whether what was built of a crate is there, and was built after the last change of it and of the crates below it."""
+    files = [file for it in (*crates.below(name, listed), name) for file in crates.sources(name=it)]
+    return os.path.exists(made) and os.path.getmtime(made) > max(map(os.path.getmtime, files))
+
+
+def of_crate(name, listed):
+    """What is known of a crate."""
+    out, known = f"{crates.TOP}/crates/{name}/out", []
+    if crates.is_built(name) and os.path.isfile(f"{crates.rlib(name)}/format"):
+        with open(f"{crates.rlib(name)}/format", encoding="utf-8") as it:
+            noted = dict(NOTED.findall(it.read()))
+        known.append(f"library proved: logic {noted.get('logic', 'unknown')[:16]}, sum {noted.get('sum', 'unknown')}")
+    for file, what in ((f"lib{name}.a", "static library proved"), (name, "program proved"), (f"{name}_tests", "tests proved")):
+        if is_newer(f"{out}/{file}", name, listed):
+            known.append(what)
+    return "; ".join(known) or "not known"
+
+
+def of_gate():
+    """What the gate saw of this commit, line by line: its verdicts, and its last line if it has ended."""
+    try:
+        with open(GATE, encoding="utf-8") as it:
+            of, *lines = it.read().splitlines()
+    except (OSError, ValueError):
+        return ["no gate was seen"]
+    if not of_commit("%H") or of != f"commit {commit()}" or of.endswith(CHANGED):
+        return [f"no gate was seen of just these files; one was seen of {of}"]
+    ended = lines and re.match(r"\d+ passed, \d+ failed$", lines[-1])
+    return lines if ended else [*lines, "it had not ended when this was written"]
+
+
+def text(glibc):
+    """The text of PROVED, with the earliest glibc that the program and the library run with."""
+    listed = crates.listed()
+    lines = [f"version    {crates.version()}", f"commit     {commit()}", f"kit        {kit()}",
+             f"runs on    Linux, x86-64-v2; the program with glibc {glibc[0]}, the library with glibc {glibc[1]}, or later", "",
+             "The kit's verdict on each crate, as what it left of it says:", "",
+             *(f"{name:26} {of_crate(name, listed)}" for name in listed), "", "The gate:", "", *of_gate()]
+    return "".join(f"{it}\n" for it in lines)
