@@ -58,7 +58,8 @@ def notes(command):
     """What help says after the options: that of the exit status, and the rest."""
     sentences = re.split(r"(?<=\.) (?=[A-Z])", " ".join(command.notes))
     status = [it for it in sentences if it.startswith(STATUS)]
-    return [[roff.paragraph(" ".join(its))] if any(its) else [] for its in (status, [it for it in sentences if it not in status])]
+    rest = [it for it in sentences if it not in status]
+    return [[roff.paragraph(" ".join(its))] if any(its) else [] for its in (status, rest)]
 
 
 def of_table(command):
@@ -82,26 +83,33 @@ def of_program(its_table):
     }
 
 
-def page(command, own, texts, others, version):
-    """A page: each section has its part of prose.txt after that of the table, but for kinds of faults."""
-    name, about = name_of(command), f"{command.about[0].lower()}{command.about[1:]}"
-    sections = []
-    for title in ORDER:
-        its, told = [*own.get(title, [])], [laid(it) for it in texts.pop((name, title), [])]
-        sections.append(roff.section(title, *(told + its if title == "DIAGNOSTICS" else its + told)))
-    head = roff.section("NAME", f"{roff.code(name)} \\- {roff.plain(about)}\n"), roff.section("SYNOPSIS", usage(command))
-    made_of = f"{table.PAGES}, {calls.HEADERS[0]} and {PROSE}"
-    return roff.page(name, 1, version, made_of, *head, *sections, roff.see_also(*others))
+class Book:
+    """The pages: the table, the texts of prose.txt that are in no page yet, and the version of all."""
+
+    def __init__(self, version):
+        self.table, self.texts, self.version = table.read(table.text_of(table.PAGES)), prose(table.text_of(PROSE)), version
+        self.names = [(name_of(it), 1) for it in (self.table.program, *self.table.commands)]
+
+    def page(self, command, own):
+        """A page: each section has its part of prose.txt after that of the table, but for kinds of faults."""
+        name, about = name_of(command), f"{command.about[0].lower()}{command.about[1:]}"
+        sections = [
+            roff.section("NAME", f"{roff.code(name)} \\- {roff.plain(about)}\n"),
+            roff.section("SYNOPSIS", usage(command)),
+        ]
+        for title in ORDER:
+            its, more = [*own.get(title, [])], [laid(it) for it in self.texts.pop((name, title), [])]
+            sections.append(roff.section(title, *(more + its if title == "DIAGNOSTICS" else its + more)))
+        others = [it for it in self.names if it[0] != name] + ([] if command.name else [(table.PROGRAM, 3)])
+        made_of = f"{table.PAGES}, {calls.HEADERS[0]} and {PROSE}"
+        return roff.page(name, 1, self.version, made_of, *sections, roff.see_also(*others))
 
 
 def pages(version):
     """The pages by their places."""
-    its_table, texts = table.read(table.text_of(table.PAGES)), prose(table.text_of(PROSE))
-    program, commands = its_table.program, its_table.commands
-    names = [(name_of(it), 1) for it in (program, *commands)]
-    found = {table.PROGRAM: page(program, of_program(its_table), texts, [*names[1:], (table.PROGRAM, 3)], version)}
-    for it in commands:
-        found[name_of(it)] = page(it, of_table(it), texts, [other for other in names if other[0] != name_of(it)], version)
-    for name, title in texts:
+    book = Book(version)
+    found = {table.PROGRAM: book.page(book.table.program, of_program(book.table))}
+    found.update((name_of(it), book.page(it, of_table(it))) for it in book.table.commands)
+    for name, title in book.texts:
         raise SystemExit(f"{PROSE}: there is no page {name}, which has {title}")
     return {f"man/man1/{name}.1": text for name, text in found.items()}

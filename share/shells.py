@@ -39,7 +39,7 @@ FISH = "source {}; while read -l line; complete -C $line | string split -f1 \\t;
 
 
 def place(room, name):
-    """An empty folder but for one file, and what a shell is told so that it reads no settings of a user."""
+    """An empty folder but for one file, and what a shell gets so that it reads no settings of a user."""
     folder = f"{room}/in-{name}"
     os.makedirs(folder)
     open(f"{folder}/{FILE}", "wb").close()
@@ -56,13 +56,13 @@ def asked(room, name, words, lines):
 def bash(room, lines):
     # bash takes = for a word
     its = [it.replace("=", " = ") for it in lines]
-    told = asked(room, "bash", ["bash", "--norc", "-c", BASH, "bash", f"{room}/bash-completion/completions/arrowflow"], its)
-    return dict(zip(lines, (set(it.split()) for it in told.split("\n"))))
+    found = asked(room, "bash", ["bash", "--norc", "-c", BASH, "bash", f"{room}/bash-completion/completions/arrowflow"], its)
+    return dict(zip(lines, (set(it.split()) for it in found.split("\n"))))
 
 
 def fish(room, lines):
-    told = asked(room, "fish", ["fish", "--no-config", "-c", FISH.format(f"{room}/fish/vendor_completions.d/arrowflow.fish", END)], lines)
-    return {line: {word.rpartition("=")[2] for word in it.split()} for line, it in zip(lines, told.split(f"{END}\n"))}
+    found = asked(room, "fish", ["fish", "--no-config", "-c", FISH.format(f"{room}/fish/vendor_completions.d/arrowflow.fish", END)], lines)
+    return {line: {word.rpartition("=")[2] for word in it.split()} for line, it in zip(lines, found.split(f"{END}\n"))}
 
 
 def zsh(room, lines):
@@ -75,8 +75,8 @@ def zsh(room, lines):
     os.close(other)
     try:
         printed(own, f"source {room}/setup; print -r -- -' 'end\n")
-        told = {it: printed(own, f"{it}\t") for it in lines}
-        return {line: {word.rstrip("=") for word in re.findall(rf"{MATCH}(\S+)", it)} for line, it in told.items()}
+        found = {it: printed(own, f"{it}\t") for it in lines}
+        return {line: {word.rstrip("=") for word in re.findall(rf"{MATCH}(\S+)", it)} for line, it in found.items()}
     finally:
         ran.kill()
         ran.wait()

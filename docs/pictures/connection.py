@@ -3,6 +3,7 @@
 Places, rows and dictionaries are those that the model in fuzz/ reads in the bytes of the stream, whole for the writer, and for the reader
 as many as are delivered. The stream is laid out as `arrowflow drill --align 8` sends it, so each frame has just these places.
 """
+import dataclasses
 import os
 import sys
 
@@ -17,13 +18,18 @@ LEFT, WIDE, TOP_OF_BOXES, HIGH, RIGHT = 168, 100, 96, 58, 40
 # The rows under the boxes.
 WRITER, CUT, READER, HANDED = 186, 216, 252, 282
 HEIGHT = 336
+ROWS = ((TOP_OF_BOXES - 12, "at byte"), (TOP_OF_BOXES + 34, "sent"), (WRITER, "the writer's dictionary"),
+        (READER, "the reader's dictionary"), (HANDED, "handed out"))
 
 
+@dataclasses.dataclass(frozen=True)
 class Message:
     """A message: where it begins and ends, what it is, in a word and more, and the dictionary after it."""
-
-    def __init__(self, start, end, kind, more, dictionary):
-        self.start, self.end, self.kind, self.more, self.dictionary = start, end, kind, more, dictionary
+    start: int
+    end: int
+    kind: str
+    more: str
+    dictionary: str
 
 
 def values(columns):
@@ -72,8 +78,7 @@ def picture():
     width = LEFT + WIDE * len(sent) + RIGHT
     cut = LEFT + WIDE * (len(got) + (DELIVERED - broken.start) / (broken.end - broken.start))
     parts = [svg.text(24, 34, f"{DELIVERED} of {len(held)} bytes are delivered", size=15, anchor="start", is_bold=True)]
-    parts += [svg.text(24, y, words, "faint", anchor="start") for y, words in ((TOP_OF_BOXES - 12, "at byte"), (TOP_OF_BOXES + 34, "sent"),
-        (WRITER, "the writer's dictionary"), (READER, "the reader's dictionary"), (HANDED, "handed out"))]
+    parts += [svg.text(24, y, words, "faint", anchor="start") for y, words in ROWS]
     for at, it in enumerate(sent):
         x, is_there = LEFT + WIDE * at, at < len(got)
         middle = x + WIDE / 2

@@ -55,11 +55,12 @@ class Graph:
             self.rows[layer(name, uses)].append(name)
         for name, its in direct(uses).items():
             for it in its:
-                self.join(name, it, layer(name, uses), layer(it, uses))
+                self.join(name, it, range(layer(name, uses) - 1, layer(it, uses), -1))
 
-    def join(self, name, used, high, low):
-        points = [name, *(((name, used), at) for at in range(high - 1, low, -1)), used]
-        for at, point in zip(range(high - 1, low, -1), points[1:-1]):
+    def join(self, name, used, between):
+        """Draws a line from a crate to one that it uses, past the layers between them."""
+        points = [name, *(((name, used), at) for at in between), used]
+        for at, point in zip(between, points[1:-1]):
             self.rows[at].append(point)
         for one, other in zip(points, points[1:]):
             self.down.setdefault(one, []).append(other)
