@@ -155,7 +155,7 @@ def parted(lines):
 
 
 def sentences(lines):
-    return re.split(r"(?<=\.) (?=[A-Z])", joined(parted(lines)[0]).strip())
+    return re.split(r"(?<=\.) (?=[A-Z`])", joined(parted(lines)[0]).strip())
 
 
 def about(lines):
