@@ -4,10 +4,10 @@ import table
 NOTE = f"Made by share/make of {table.PAGES}."
 BASH = """# {note}
 _arrowflow() {{
-    local word=${{COMP_WORDS[COMP_CWORD]}} before=${{COMP_WORDS[COMP_CWORD - 1]}} command= options= values= at
+    local word=${{COMP_WORDS[COMP_CWORD]}} before=${{COMP_WORDS[COMP_CWORD - 1]}} command="" options="" values="" at
     # of --types=all bash makes three words
     if [ "$word" = = ]; then
-        word=
+        word=""
     elif [ "$before" = = ]; then
         before=${{COMP_WORDS[COMP_CWORD - 2]}}
     fi
@@ -31,7 +31,7 @@ _arrowflow() {{
                 compopt -o default
             fi ;;
     esac
-    COMPREPLY=($(compgen -W "$values" -- "$word"))
+    mapfile -t COMPREPLY < <(compgen -W "$values" -- "$word")
 }}
 complete -F _arrowflow arrowflow
 """
