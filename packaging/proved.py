@@ -1,7 +1,7 @@
 """What is known of the proofs of what is released: the file PROVED, for the script `release`.
 
-It hangs on what lies in the checkout: on the commit, on what the kit left in crates/*/out, and on out/gate.txt, where the script
-`gate` notes what it saw. The kit makes a library, a program or a program of tests once its proof is whole, and not before. A library
+It depends on the commit that is checked out, on what the kit left in crates/*/out, and on out/gate.txt, where the script `gate` notes
+what it saw. The kit makes a library, a program or a program of tests once its proof is whole, and not before. A library
 names the logic that it was proved in; of the others there is the file alone, which does not say who made it, so they are said to be
 built, and proved where c/build noted the verdict beside. What is not there, or is older than a source, is not known.
 """
@@ -14,7 +14,7 @@ import crates
 # What a library says of itself: the logic that it was proved in, and the sum of what it states.
 NOTED = re.compile(r"^(logic|sum) ([0-9a-f]+)$", re.M)
 GATE = f"{crates.TOP}/out/gate.txt"
-# What stands after a commit where other files than its own are there.
+# What is written after a commit if other files than its own are there.
 CHANGED = " and changes that are in no commit"
 
 
