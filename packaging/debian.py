@@ -87,7 +87,7 @@ class Package:
                 os.utime(f"{at}/{it}", (time, time), follow_symlinks=False)
         os.utime(self.root, (time, time))
         made = f"{out}/{self.name}_{self.fields['debian']}_{architecture}.deb"
-        # one thread, since the bytes hang on their number
+        # one thread, since the bytes depend on their number
         env = {**os.environ, "DPKG_DEB_THREADS_MAX": "1"}
         subprocess.run(["dpkg-deb", "--root-owner-group", "-Zxz", "--build", self.root, made], check=True, stdout=subprocess.DEVNULL, env=env)
 

@@ -1,9 +1,11 @@
 """What is known of the proofs of what is released: the file PROVED, for the script `release`.
 
-It hangs on what lies in the checkout: on the commit, on what the kit left in crates/*/out, and on out/gate.txt, where the script
-`gate` notes what it saw. The kit writes a library, a program or a program of tests once its proof is whole, and not before; what it
-did not leave, or left before a source changed, is said to be not known.
+It depends on the commit that is checked out, on what the kit left in crates/*/out, and on out/gate.txt, where the script `gate` notes
+what it saw. The kit makes a library, a program or a program of tests once its proof is whole, and not before. A library
+names the logic that it was proved in; of the others there is the file alone, which does not say who made it, so they are said to be
+built, and proved where c/build noted the verdict beside. What is not there, or is older than a source, is not known.
 """
+import hashlib
 import os
 import re
 import subprocess
@@ -12,7 +14,7 @@ import crates
 # What a library says of itself: the logic that it was proved in, and the sum of what it states.
 NOTED = re.compile(r"^(logic|sum) ([0-9a-f]+)$", re.M)
 GATE = f"{crates.TOP}/out/gate.txt"
-# What stands after a commit where other files than its own are there.
+# What is written after a commit if other files than its own are there.
 CHANGED = " and changes that are in no commit"
 
 
@@ -43,7 +45,7 @@ def kit():
 def is_newer(made, name, listed):
     """Whether what was built of a crate is there, and was built after the last change of it and of the crates below it."""
     files = [file for it in (*crates.below(name, listed), name) for file in crates.sources(name=it)]
-    return os.path.exists(made) and os.path.getmtime(made) > max(map(os.path.getmtime, files))
+    return os.path.isfile(made) and os.path.getmtime(made) > max(map(os.path.getmtime, files))
 
 
 def of_crate(name, listed):
@@ -53,10 +55,25 @@ def of_crate(name, listed):
         with open(f"{crates.rlib(name)}/format", encoding="utf-8") as it:
             noted = dict(NOTED.findall(it.read()))
         known.append(f"library proved: logic {noted.get('logic', 'unknown')[:16]}, sum {noted.get('sum', 'unknown')}")
-    for file, what in ((f"lib{name}.a", "static library proved"), (name, "program proved"), (f"{name}_tests", "tests proved")):
+    for file, what in ((f"lib{name}.a", "static library"), (name, "program"), (f"{name}_tests", "tests")):
         if is_newer(f"{out}/{file}", name, listed):
-            known.append(what)
+            known.append(f"{what} built, sha256 {sum_of(f'{out}/{file}')}{verdict_on(out, file)}")
     return "; ".join(known) or "not known"
+
+
+def sum_of(file):
+    with open(file, "rb") as it:
+        return hashlib.sha256(it.read()).hexdigest()
+
+
+def verdict_on(out, file):
+    """The verdict that c/build noted of just this archive, if it did."""
+    try:
+        with open(f"{out}/{file.removesuffix('.a')}.verdict", encoding="utf-8") as it:
+            sum, verdict = it.read().strip().split(" ", maxsplit=1)
+    except (OSError, ValueError):
+        return ""
+    return f", {verdict}" if sum == sum_of(f"{out}/{file}") else ""
 
 
 def of_gate():
@@ -77,6 +94,6 @@ def text(glibc):
     listed = crates.listed()
     lines = [f"version    {crates.version()}", f"commit     {commit()}", f"kit        {kit()}",
              f"runs on    Linux, x86-64-v2; the program with glibc {glibc[0]}, the library with glibc {glibc[1]}, or later", "",
-             "The kit's verdict on each crate, as what it left of it says:", "",
+             "What the kit left of each crate, which makes what it has proved and nothing else:", "",
              *(f"{name:26} {of_crate(name, listed)}" for name in listed), "", "The gate:", "", *of_gate()]
     return "".join(f"{it}\n" for it in lines)
