@@ -21,6 +21,9 @@
 #![tactic(auto)]
 
 mod body_spot;
+mod copied;
+mod counter;
+mod cursor;
 mod cut;
 mod diagnosis;
 mod dump;
@@ -39,11 +42,13 @@ mod rejected;
 mod rows_fault;
 mod schema_fault;
 mod schema_text;
+mod sizes;
 mod slots;
 mod summary;
 mod text;
 
 pub use body_spot::BodySpot;
+pub use copied::Copied;
 pub use cut::{Cut, Part};
 pub use diagnosis::{Diagnosis, diagnose};
 pub use explaining::explain;
@@ -56,4 +61,4 @@ pub use prefix::PrefixFault;
 pub use rejected::Rejected;
 pub use rows_fault::RowsFault;
 pub use schema_fault::SchemaFault;
-pub use summary::{DictionaryCount, Summary};
+pub use summary::{ColumnCount, DictionaryCount, Summary};
