@@ -1,8 +1,10 @@
 -- How many bytes buffers have (Message.fbs, struct "Buffer").
-use Rattle.std.specs.Prelude.{ℕ, ℤ, pos, List, map, sum}
+use Rattle.std.specs.Prelude.{ℕ, ◌+◌, ℤ, pos, List, Bool, if◌then◌else◌}
+use Rattle.std.specs.List.{sum_by}
 use Rattle.arrow_types.specs.declared.node.Buffer.{Buffer}
+use Rattle.arrowflow_explain.specs.declared.summary.Summary.{Summary}
 
--- a number without a sign, and 0 for a negative one
+-- a number, and 0 in place of a negative one
 abbrev pub natural_or_none : ℤ → ℕ
 natural_or_none (pos n) = n
 natural_or_none _ = 0
@@ -13,4 +15,12 @@ bytes_in buffer = natural_or_none buffer.length
 
 -- how many they have together
 abbrev pub buffer_bytes : List Buffer → ℕ
-buffer_bytes buffers = sum (map bytes_in buffers)
+buffer_bytes buffers = sum_by bytes_in buffers
+
+-- how many bytes an end marker has (Columnar Format, "IPC Streaming Format")
+abbrev pub marker_bytes : Bool → ℕ
+marker_bytes marked = if marked then 8 else 0
+
+-- how many the messages of a stream and its end marker have together
+abbrev pub stream_bytes : Summary → ℕ
+stream_bytes summary = summary.schema_bytes + summary.dictionary_bytes + summary.batch_bytes + marker_bytes summary.marked

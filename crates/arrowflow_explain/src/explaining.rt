@@ -24,7 +24,8 @@ const PIECE: usize = 65_536;
 ///
 /// The input is read as by a check that writes nothing, in pieces of 65,536 bytes, up to an end
 /// marker, to its end or to the piece in which the stream is rejected. Of the bytes those of the
-/// message in work are kept, so that memory is bounded by one message.
+/// message in work are kept, and each batch is laid out as a copy would write it: so memory is
+/// bounded by a message, the dictionaries, and a count for each column and dictionary.
 ///
 /// `Rejected` where a check answers `Stream`, with the same fault; `Sound` where it answers `Ok`.
 /// `Input(0)` where a read failed, an interrupted one included; `Memory` where an allocation failed.

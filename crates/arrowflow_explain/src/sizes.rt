@@ -9,7 +9,7 @@ use std::alloc::{AllocError, Global};
 /// How many bytes these buffers have together, at most 2^64 - 1. A buffer that two of them have is
 /// counted twice.
 pub(crate) fn bytes_of(buffers: &[Buffer]) -> u64
-    ensures { result ≡ min (2 ^ 64 - 1) (buffer_bytes buffers.now) }
+    ensures { result ≡ min (buffer_bytes buffers.now) (2 ^ 64 - 1) }
 {
     let mut bytes = 0u64;
     for buffer in buffers {

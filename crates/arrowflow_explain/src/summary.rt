@@ -1,5 +1,8 @@
 //! What a stream has, counted as it is read.
 
+ghost use Rattle.std.specs.Prelude.{◌≡◌, ◌-◌, ◌^◌, min};
+ghost use Rattle.arrowflow_explain.specs.Sizes.{stream_bytes};
+
 use crate::copied::Copied;
 use crate::cursor::{START, after};
 use crate::sizes::bytes_of;
@@ -83,8 +86,10 @@ impl Summary {
         }
     }
 
-    /// The bytes of the stream: of all messages, and of the end marker.
-    pub fn bytes(&self) -> u64 {
+    /// The bytes of the stream: of all messages, and of the end marker. It takes no memory.
+    pub fn bytes(&self) -> u64
+        ensures { result ≡ min (stream_bytes self.now) (2 ^ 64 - 1) }
+    {
         let marker = if self.marked { 8 } else { 0 };
         self.schema_bytes
             .saturating_add(self.dictionary_bytes)
