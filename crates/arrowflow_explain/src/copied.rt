@@ -52,7 +52,11 @@ pub(crate) enum Copying {
 
 impl Copying {
     /// Starts the copy with a schema.
-    pub(crate) fn start(alloc: Global, schema: &Schema, limits: Limits) -> Result<Copying, AllocError> {
+    pub(crate) fn start(
+        alloc: Global,
+        schema: &Schema,
+        limits: Limits,
+    ) -> Result<Copying, AllocError> {
         let sink = Tally { bytes: 0 };
         match StreamWriter::start(alloc, sink, schema, Options::default(), limits) {
             Ok(writer) => Ok(Copying::Writing(writer)),
