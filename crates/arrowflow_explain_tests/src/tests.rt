@@ -1,13 +1,13 @@
 //! The texts of explanations, whole: worked out from the bytes by hand, and the dumps by Python.
 
 use crate::summed;
+use arrow_sink::probe::Trickle;
 use arrow_test_streams::parts::{
     ABC, DE, END, Edit, FIRST, LETTERS, NUMBERS, Part, Source, THREE, joined,
 };
 use arrow_test_streams::streams::DOUBLES;
 use arrow_types::{Limits, TypeSet};
 use arrowflow_explain::explain;
-use std::alloc::Global;
 use std::process::Abort;
 
 // A stream of parts, with other bytes at some places, read with at most so many rows, and the lines
@@ -560,22 +560,31 @@ static SUMMARIES: [Summed; 9] = [
     },
 ];
 
-fn assert_text(rt: &impl Abort, alloc: Global, told: &Told) {
-    let bytes = joined(alloc, told.parts, told.edits).expect(rt, "the stream");
+fn assert_text(rt: &(impl Abort + AllocGlobal), told: &Told) {
+    let bytes = joined(rt.alloc(), told.parts, told.edits).expect(rt, "the stream");
     let limits = Limits::new(4096, 65_536, told.max_rows).expect(rt, "the limits");
-    assert_explained(rt, alloc, (&bytes, &limits), told.lines);
+    assert_explained(rt, (&bytes, 65_536), &limits, told.lines);
 }
 
-fn assert_summary(rt: &impl Abort, alloc: Global, summed: &Summed) {
+// However a stream is cut, its summary is the same.
+fn assert_summary(rt: &(impl Abort + AllocGlobal), summed: &Summed) {
     let limits = Limits::new(summed.most.0, summed.most.1, 100).expect(rt, "the limits");
     let limits = limits.with_types(TypeSet::All);
-    assert_explained(rt, alloc, (summed.bytes, &limits), summed.lines);
+    for at_once in [65_536, 7] {
+        assert_explained(rt, (summed.bytes, at_once), &limits, summed.lines);
+    }
 }
 
-// The bytes with these limits are explained by these lines.
-fn assert_explained(rt: &impl Abort, alloc: Global, given: (&[u8], &Limits), lines: &[&str]) {
-    let (mut bytes, limits) = given;
-    let Ok(explanation) = explain(alloc, &mut bytes, limits) else {
+// The bytes, of which so many come at once, are explained by these lines.
+fn assert_explained(
+    rt: &(impl Abort + AllocGlobal),
+    given: (&[u8], usize),
+    limits: &Limits,
+    lines: &[&str],
+) {
+    let alloc = rt.alloc();
+    let mut input = Trickle::new(given.0, given.1, None);
+    let Ok(explanation) = explain(alloc, &mut input, limits) else {
         return assert!(rt; false);
     };
     let text = explanation.text(alloc).expect(rt, "the text");
@@ -590,13 +599,13 @@ fn assert_explained(rt: &impl Abort, alloc: Global, given: (&[u8], &Limits), lin
 #[test]
 fn texts(rt: HostRuntime) {
     for told in &TEXTS {
-        assert_text(&rt, rt.alloc(), told);
+        assert_text(&rt, told);
     }
 }
 
 #[test]
 fn summaries(rt: HostRuntime) {
     for summed in &SUMMARIES {
-        assert_summary(&rt, rt.alloc(), summed);
+        assert_summary(&rt, summed);
     }
 }
