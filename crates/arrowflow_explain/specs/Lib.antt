@@ -9,4 +9,5 @@ pub mod Rejection
 pub mod Counting
 pub mod Holds
 pub mod Bodies
+pub mod Sizes
 pub mod Explains

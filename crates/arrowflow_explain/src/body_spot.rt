@@ -7,6 +7,7 @@ ghost use Rattle.arrow_meta_reader.specs.Means.{batch_view};
 ghost use Rattle.arrowflow_explain.specs.Bodies.{FindingHolds, SpotHolds};
 ghost use Rattle.arrowflow_explain.specs.Rejection.{situation_of};
 
+use crate::cursor::{Cursor, START, after, children_of, inside};
 use crate::finding::{Content, Finding, IndexNode, Need, OffsetNode, TextNode};
 use crate::message::body_of;
 use crate::names::push_quoted;
@@ -25,12 +26,6 @@ use std::slice;
 
 /// The most levels of fields.
 const LEVELS: u32 = 32;
-
-/// More than the most fields of a schema.
-const FIELDS: u32 = 65_537;
-
-/// Where those of the first field begin.
-const START: Cursor = Cursor { node: 0, buffer: 0 };
 
 /// A field with its index among the fields of its level.
 #[derive(Clone, Copy)]
@@ -60,13 +55,6 @@ struct Batch<'a> {
     id: Option<i64>,
     dictionaries: &'a [(i64, Dictionary)],
     fault: BodyFault,
-}
-
-/// Where the nodes and the buffers of a field begin.
-#[derive(Clone, Copy)]
-struct Cursor {
-    node: usize,
-    buffer: usize,
 }
 
 /// Where the body of a message is at fault, if the kind is one of a body and this is found. `None`
@@ -357,51 +345,6 @@ fn offsets_need(width: OffsetWidth) -> Need {
         OffsetWidth::Small => Need::Offsets(4),
         OffsetWidth::Large => Need::Offsets(8),
     }
-}
-
-/// The fields below one whose nodes come with its own: none of a dictionary-encoded field.
-fn children_of(field: &Field) -> &[Field] {
-    match field.dictionary {
-        Some(_) => &[],
-        None => field.children(),
-    }
-}
-
-/// Where the nodes and buffers of the children of a field begin.
-fn inside(field: &Field, cursor: Cursor) -> Cursor {
-    let own = node_form(&field.data_type, field.dictionary).buffers();
-    Cursor {
-        node: cursor.node.saturating_add(1),
-        buffer: cursor.buffer.saturating_add(own),
-    }
-}
-
-/// Where the nodes and buffers after those of a field begin; `None` where an allocation failed.
-fn after(alloc: Global, field: &Field, start: Cursor) -> Option<Cursor> {
-    let mut waiting = Vec::new(alloc);
-    waiting.push(slice::from_ref(field)).ok()?;
-    let mut cursor = start;
-    for _ in 0..FIELDS {
-        let Some(fields) = waiting.pop() else {
-            return Some(cursor);
-        };
-        cursor = over_level(fields, cursor, &mut waiting)?;
-    }
-    None
-}
-
-/// Goes over the own nodes and buffers of fields, and notes the fields below them.
-fn over_level<'f>(
-    fields: &'f [Field],
-    start: Cursor,
-    waiting: &mut Vec<&'f [Field]>,
-) -> Option<Cursor> {
-    let mut cursor = start;
-    for field in fields {
-        cursor = inside(field, cursor);
-        waiting.push(children_of(field)).ok()?;
-    }
-    Some(cursor)
 }
 
 /// Appends the index of a field among those of its level, and its name.

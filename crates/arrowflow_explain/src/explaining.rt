@@ -7,6 +7,7 @@ ghost use Rattle.arrowflow_report.specs.Blame.{BlamesOnly};
 ghost use Rattle.arrowflow_explain.specs.Explains.{ExplainsInput, IsKept, IsMadeOf, KeepsOn};
 
 use crate::body_spot::body_spot;
+use crate::counter::{Counter, Counting};
 use crate::diagnosis::diagnose;
 use crate::explanation::{Explanation, Refusal};
 use crate::rejected::Rejected;
@@ -23,7 +24,8 @@ const PIECE: usize = 65_536;
 ///
 /// The input is read as by a check that writes nothing, in pieces of 65,536 bytes, up to an end
 /// marker, to its end or to the piece in which the stream is rejected. Of the bytes those of the
-/// message in work are kept, so that memory is bounded by one message.
+/// message in work are kept, and each batch is laid out as a copy would write it: so memory is
+/// bounded by a message, the dictionaries, and a count for each column and dictionary.
 ///
 /// `Rejected` where a check answers `Stream`, with the same fault; `Sound` where it answers `Ok`.
 /// `Input(0)` where a read failed, an interrupted one included; `Memory` where an allocation failed.
@@ -45,7 +47,7 @@ pub fn explain<R: Input>(
         kept: Vec::new(alloc),
         limits: *limits,
     };
-    explain_pieces(input, work, Summary::new(alloc), &mut room)
+    explain_pieces(input, work, Counter::new(alloc, *limits), &mut room)
 }
 
 /// Reads the pieces of an input, one by one. No stream is longer than the last place allows, so that
@@ -53,7 +55,7 @@ pub fn explain<R: Input>(
 fn explain_pieces<R: Input>(
     input: &mut R,
     mut work: Work,
-    mut summary: Summary,
+    mut counter: Counter,
     room: &mut [u8],
 ) -> Result<Explanation, ToolFault>
     requires start { ReaderStands work.reader [] [] }
@@ -72,17 +74,17 @@ fn explain_pieces<R: Input>(
         };
         if count == 0 {
             return match work.reader.end() {
-                Ok(()) => Ok(Explanation::Sound(summary)),
-                Err(fault) => Ok(Explanation::Rejected(work.refusal(fault, summary))),
+                Ok(()) => Ok(Explanation::Sound(counter.ended())),
+                Err(fault) => Ok(Explanation::Rejected(work.refusal(fault, counter.so_far()))),
             };
         }
-        let (next, progress) = work.take(summary, &room[..count]);
+        let (next, progress) = work.take(counter, &room[..count]);
         match progress {
-            Ok(Progress::GoesOn) => summary = next,
-            Ok(Progress::Marker) => return Ok(Explanation::Sound(next)),
-            Ok(Progress::Stopped) => return Ok(Explanation::Sound(next)),
+            Ok(Progress::GoesOn) => counter = next,
+            Ok(Progress::Marker) => return Ok(Explanation::Sound(next.ended())),
+            Ok(Progress::Stopped) => return Ok(Explanation::Sound(next.ended())),
             Err(ToolFault::Stream(fault)) => {
-                return Ok(Explanation::Rejected(work.refusal(fault, next)));
+                return Ok(Explanation::Rejected(work.refusal(fault, next.so_far())));
             }
             // `take` fails with no other fault than these
             Err(ToolFault::Memory | ToolFault::Input(_) | ToolFault::Output) => {
@@ -104,7 +106,7 @@ struct Work {
 
 impl Work {
     /// Gives the reader a piece, and counts the messages that are whole with it.
-    fn take(&mut self, summary: Summary, piece: &[u8]) -> (Summary, Result<Progress, ToolFault>)
+    fn take(&mut self, counter: Counter, piece: &[u8]) -> (Counter, Result<Progress, ToolFault>)
         ensures keeps { KeepsOn self.old.reader self.old.kept.items piece.now result.1
             self.new.reader self.new.kept.items }
         ensures limits { self.new.reader.limits ≡ self.old.reader.limits }
@@ -112,13 +114,19 @@ impl Work {
     {
         let before = self.reader.place();
         let Ok(()) = self.kept.extend_from_slice(piece) else {
-            return (summary, Err(ToolFault::Memory));
+            return (counter, Err(ToolFault::Memory));
         };
-        let (next, progress) = take_piece(&mut self.reader, summary, piece);
+        let counting = Counting {
+            counter,
+            bytes: &self.kept,
+            place: before,
+        };
+        let (next, progress) = take_piece(&mut self.reader, counting, piece);
+        let counter = next.counter;
         let passed = self.reader.place().saturating_sub(before);
         match forget(self.alloc, &mut self.kept, passed as usize) {
-            Ok(()) => (next, progress),
-            Err(_) => (next, Err(ToolFault::Memory)),
+            Ok(()) => (counter, progress),
+            Err(_) => (counter, Err(ToolFault::Memory)),
         }
     }
 

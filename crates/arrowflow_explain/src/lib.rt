@@ -6,6 +6,12 @@
 //! says holds of the bytes, and so does what is found of a body ([`BodySpot`]). Which field that is,
 //! hints, dumps and the texts are tested, and not proved.
 //!
+//! Of a sound stream a [`Summary`] has how many bytes its parts take, and how many a copy would
+//! have: each batch is given to a writer too, over a sink that counts and keeps nothing. That a sum
+//! over buffers is their sum, and that of a stream that of its messages, is proved
+//! (`specs/Sizes.antt`). Which buffers are those of a column, what is padding, how messages are
+//! counted and the length of the copy are tested.
+//!
 //! | Notion | Definition |
 //! |---|---|
 //! | the message at fault, and what was read before it | `specs/Rejection.antt`: `Situation` |
@@ -17,10 +23,14 @@
 //! | of a schema and its fields | `specs/Fields.antt`: `SchemaFails`, `FieldFails` |
 //! | of a body | `specs/Bodies.antt`: `SpotHolds`, `FindingHolds` |
 //! | where the tables of a metadata are | `specs/Places.antt` |
+//! | how many bytes buffers and a stream have | `specs/Sizes.antt`: `buffer_bytes`, `stream_bytes` |
 //! | what an input is answered with | `specs/Explains.antt`: `ExplainsInput` |
 #![tactic(auto)]
 
 mod body_spot;
+mod copied;
+mod counter;
+mod cursor;
 mod cut;
 mod diagnosis;
 mod dump;
@@ -39,11 +49,13 @@ mod rejected;
 mod rows_fault;
 mod schema_fault;
 mod schema_text;
+mod sizes;
 mod slots;
 mod summary;
 mod text;
 
 pub use body_spot::BodySpot;
+pub use copied::Copied;
 pub use cut::{Cut, Part};
 pub use diagnosis::{Diagnosis, diagnose};
 pub use explaining::explain;
@@ -56,4 +68,4 @@ pub use prefix::PrefixFault;
 pub use rejected::Rejected;
 pub use rows_fault::RowsFault;
 pub use schema_fault::SchemaFault;
-pub use summary::{DictionaryCount, Summary};
+pub use summary::{ColumnCount, DictionaryCount, Summary};

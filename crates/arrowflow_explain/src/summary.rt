@@ -1,11 +1,25 @@
 //! What a stream has, counted as it is read.
 
-ghost use Rattle.std.specs.Prelude.{◌≡◌};
-ghost use Rattle.arrowflow_report.specs.declared.tool_fault.ToolFault.TheVariants.{Memory};
+ghost use Rattle.std.specs.Prelude.{◌≡◌, ◌-◌, ◌^◌, min};
+ghost use Rattle.arrowflow_explain.specs.Sizes.{stream_bytes};
 
-use arrow_stream_reader::{Item, StreamReader};
-use arrowflow_report::{Consumer, ToolFault, Wants};
+use crate::copied::Copied;
+use crate::cursor::{START, after};
+use crate::sizes::bytes_of;
+use arrow_types::{Buffer, Field};
 use std::alloc::{AllocError, Global};
+
+/// A column of a stream.
+#[derive(Debug, Drop)]
+pub struct ColumnCount {
+    /// Its name.
+    pub name: String,
+    /// The bytes of its buffers and of those below it, in all batches. Of a dictionary-encoded field
+    /// they are those of its indices.
+    pub bytes: u64,
+    /// How many buffers a batch has of it, those below it among them.
+    buffers: usize,
+}
 
 /// A dictionary of a stream.
 #[derive(Clone, Copy, Debug, PartialEq, Eq)]
@@ -18,10 +32,12 @@ pub struct DictionaryCount {
     pub values: u64,
     /// The bytes of their messages.
     pub bytes: u64,
+    /// The bytes of their buffers.
+    pub buffer_bytes: u64,
 }
 
-/// How many messages, batches and rows a stream has, or the whole messages before a fault. No count
-/// passes 2^64 - 1.
+/// How many messages, batches and rows a stream has, or the whole messages before a fault, and how
+/// many bytes its parts have. No count passes 2^64 - 1.
 #[derive(Debug, Drop)]
 pub struct Summary {
     /// All messages, without the end marker.
@@ -36,10 +52,19 @@ pub struct Summary {
     pub dictionary_bytes: u64,
     /// The bytes of all record batches' messages.
     pub batch_bytes: u64,
+    /// The bytes of all messages that are not of their bodies, and of the end marker: prefixes, and
+    /// metadata with their padding.
+    pub metadata_bytes: u64,
+    /// The bytes of bodies that no buffer of a column or of a dictionary has.
+    pub padding: u64,
+    /// The columns.
+    pub columns: Vec<ColumnCount>,
     /// The dictionaries, in the order in which their first batches came.
     pub dictionaries: Vec<DictionaryCount>,
     /// Whether the stream ended with its end marker.
     pub marked: bool,
+    /// What a copy of the stream has, if it was read to its end.
+    pub copied: Option<Copied>,
 }
 
 impl Summary {
@@ -52,87 +77,81 @@ impl Summary {
             schema_bytes: 0,
             dictionary_bytes: 0,
             batch_bytes: 0,
+            metadata_bytes: 0,
+            padding: 0,
+            columns: Vec::new(alloc),
             dictionaries: Vec::new(alloc),
             marked: false,
+            copied: None,
         }
     }
 
-    /// Counts a message of this size that was just read.
-    fn count(&mut self, reader: &StreamReader, size: u64, item: &Item) -> Result<(), AllocError> {
-        match item {
-            Item::Schema => self.schema_bytes = size,
-            Item::Dictionary(id) => {
-                self.dictionary_bytes = self.dictionary_bytes.saturating_add(size);
-                self.count_dictionary(*id, values_of(reader, *id), size)?;
-            }
-            Item::Batch(batch) => {
-                self.batches = self.batches.saturating_add(1);
-                self.rows = self.rows.saturating_add(batch.rows() as u64);
-                self.batch_bytes = self.batch_bytes.saturating_add(size);
-            }
-            Item::End => {
-                self.marked = true;
-                return Ok(());
-            }
+    /// The bytes of the stream: of all messages, and of the end marker. It takes no memory.
+    pub fn bytes(&self) -> u64
+        ensures { result ≡ min (stream_bytes self.now) (2 ^ 64 - 1) }
+    {
+        let marker = if self.marked { 8 } else { 0 };
+        self.schema_bytes
+            .saturating_add(self.dictionary_bytes)
+            .saturating_add(self.batch_bytes)
+            .saturating_add(marker)
+    }
+
+    /// Begins to count the columns of a schema.
+    pub(crate) fn add_columns(
+        &mut self,
+        alloc: Global,
+        fields: &[Field],
+    ) -> Result<(), AllocError> {
+        for field in fields {
+            self.columns.push(ColumnCount {
+                name: field.name.clone()?,
+                bytes: 0,
+                buffers: buffers_of(alloc, field)?,
+            })?;
         }
-        self.messages = self.messages.saturating_add(1);
         Ok(())
     }
 
-    /// Counts a dictionary batch of this size, after which the dictionary of its id has so many
-    /// values.
-    fn count_dictionary(&mut self, id: i64, values: u64, size: u64) -> Result<(), AllocError> {
+    /// Counts the buffers of a record batch, and answers how many of them its columns have.
+    pub(crate) fn count_columns(&mut self, buffers: &[Buffer]) -> usize {
+        let mut place = 0usize;
+        for column in &mut self.columns {
+            let end = place.saturating_add(column.buffers);
+            let own = buffers.get(place..end).unwrap_or(&[]);
+            column.bytes = column.bytes.saturating_add(bytes_of(own));
+            place = end;
+        }
+        place
+    }
+
+    /// Counts a dictionary batch.
+    pub(crate) fn count_dictionary(&mut self, batch: DictionaryCount) -> Result<(), AllocError> {
         for dictionary in &mut self.dictionaries {
-            if dictionary.id == id {
-                dictionary.batches = dictionary.batches.saturating_add(1);
-                dictionary.values = values;
-                dictionary.bytes = dictionary.bytes.saturating_add(size);
+            if dictionary.id == batch.id {
+                dictionary.add(batch);
                 return Ok(());
             }
         }
-        self.dictionaries.push(DictionaryCount {
-            id,
-            batches: 1,
-            values,
-            bytes: size,
-        })?;
+        self.dictionaries.push(batch)?;
         Ok(())
     }
 }
 
-/// How many values the dictionary of this id has.
-fn values_of(reader: &StreamReader, id: i64) -> u64 {
-    match reader.dictionaries().get(id) {
-        Some(dictionary) => dictionary.len() as u64,
-        None => 0,
+impl DictionaryCount {
+    /// Counts what came later for the same dictionary.
+    fn add(&mut self, later: DictionaryCount) {
+        self.batches = self.batches.saturating_add(later.batches);
+        self.values = later.values;
+        self.bytes = self.bytes.saturating_add(later.bytes);
+        self.buffer_bytes = self.buffer_bytes.saturating_add(later.buffer_bytes);
     }
 }
 
-/// A summary is a consumer that counts all messages of its stream. It fails with `Memory` alone.
-impl Consumer for Summary {
-    ghost use Rattle.std.specs.Prelude.{⊤};
-    ghost use Rattle.arrowflow_explain.specs.Counting.{HasCounted};
-
-    ghost Start = { Unit {0} };
-
-    ghost keeps = { λ _ _ _ _ _. ⊤ };
-
-    ghost answers = { λ _ _. HasCounted };
-
-    fn item(
-        mut self,
-        reader: &StreamReader,
-        place: u64,
-        item: Item,
-    ) -> (Self, Result<Wants, ToolFault>) {
-        let size = reader.place().saturating_sub(place);
-        match self.count(reader, size, &item) {
-            Ok(()) => (self, Ok(Wants::More)),
-            Err(_) => (self, Err(ToolFault::Memory)),
-        }
-    }
-
-    fn end(self, _reader: &StreamReader, _marked: bool) -> (Self, Result<(), ToolFault>) {
-        (self, Ok(()))
+/// How many buffers a field and those below it have.
+pub(crate) fn buffers_of(alloc: Global, field: &Field) -> Result<usize, AllocError> {
+    match after(alloc, field, START) {
+        Some(cursor) => Ok(cursor.buffer),
+        None => Err(AllocError),
     }
 }

@@ -1,6 +1,7 @@
 //! Explanations as text for a person, in lines of at most 80 characters.
 
 use crate::body_spot::BodySpot;
+use crate::copied::Copied;
 use crate::cut::{Cut, Part};
 use crate::diagnosis::Diagnosis;
 use crate::dump::{Mark, push_dump};
@@ -9,6 +10,7 @@ use crate::finding::{Finding, Need};
 use crate::hints::hint_of;
 use crate::message::{body_length, message_table, metadata_of};
 use crate::message_fault::{MessageFault, batch_table, message_number};
+use crate::names::push_quoted;
 use crate::prefix::PrefixFault;
 use crate::rows_fault::RowsFault;
 use crate::schema_text::{push_schema, schema_mark};
@@ -16,6 +18,7 @@ use crate::slots;
 use crate::summary::Summary;
 use arrow_stream_reader::Kind;
 use arrow_types::Limits;
+use arrowflow_report::What;
 use std::alloc::{AllocError, Global};
 use std::fmt::Write;
 
@@ -484,6 +487,28 @@ fn push_summary(text: &mut String, summary: &Summary) -> Result<(), AllocError> 
         summary.batches, summary.rows
     )?;
     write!(text, "{} bytes\n", summary.batch_bytes)?;
+    push_columns(text, summary)?;
+    push_dictionaries(text, summary)?;
+    write!(text, "metadata: {} bytes\n", summary.metadata_bytes)?;
+    write!(text, "padding of bodies: {} bytes\n", summary.padding)?;
+    match summary.copied {
+        Some(copied) => push_copied(text, copied, summary.bytes()),
+        None => Ok(()),
+    }
+}
+
+/// Appends how many bytes the columns have.
+fn push_columns(text: &mut String, summary: &Summary) -> Result<(), AllocError> {
+    for (index, column) in summary.columns.iter().enumerate() {
+        write!(text, "column {}", index)?;
+        push_quoted(text, &column.name)?;
+        write!(text, ": {} bytes\n", column.bytes)?;
+    }
+    Ok(())
+}
+
+/// Appends what the dictionaries have.
+fn push_dictionaries(text: &mut String, summary: &Summary) -> Result<(), AllocError> {
     for dictionary in &summary.dictionaries {
         write!(
             text,
@@ -491,7 +516,33 @@ fn push_summary(text: &mut String, summary: &Summary) -> Result<(), AllocError> 
             dictionary.id, dictionary.values
         )?;
         write!(text, "after {} dictionary batches, ", dictionary.batches)?;
-        write!(text, "{} bytes\n", dictionary.bytes)?;
+        write!(text, "{} bytes, ", dictionary.bytes)?;
+        write!(text, "{} in buffers\n", dictionary.buffer_bytes)?;
     }
     Ok(())
+}
+
+/// Appends what a copy of a stream of so many bytes has.
+fn push_copied(text: &mut String, copied: Copied, bytes: u64) -> Result<(), AllocError> {
+    match copied {
+        Copied::Bytes(copied) => {
+            write!(text, "copy: {} bytes, ", copied)?;
+            if copied < bytes {
+                write!(text, "{} fewer\n", bytes - copied)
+            } else if bytes < copied {
+                write!(text, "{} more\n", copied - bytes)
+            } else {
+                text.push_str("as many\n")
+            }
+        }
+        Copied::Refused(what, kind) => {
+            text.push_str("copy: refused ")?;
+            match what {
+                What::Start => text.push_str("schema")?,
+                What::Batch(number) => write!(text, "batch {}", number)?,
+                What::Finish => text.push_str("end")?,
+            }
+            write!(text, ": {}\n", kind)
+        }
+    }
 }

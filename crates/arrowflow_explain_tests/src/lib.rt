@@ -3,4 +3,6 @@
 #![tactic(auto)]
 
 #[cfg(test)]
+mod summed;
+#[cfg(test)]
 mod tests;

@@ -1,12 +1,13 @@
 //! The texts of explanations, whole: worked out from the bytes by hand, and the dumps by Python.
 
+use crate::summed;
+use arrow_sink::probe::Trickle;
 use arrow_test_streams::parts::{
     ABC, DE, END, Edit, FIRST, LETTERS, NUMBERS, Part, Source, THREE, joined,
 };
 use arrow_test_streams::streams::DOUBLES;
-use arrow_types::Limits;
+use arrow_types::{Limits, TypeSet};
 use arrowflow_explain::explain;
-use std::alloc::Global;
 use std::process::Abort;
 
 // A stream of parts, with other bytes at some places, read with at most so many rows, and the lines
@@ -28,6 +29,10 @@ static TEXTS: [Told; 26] = [
             "The stream is sound: 2 messages and an end marker.",
             "schema: 152 bytes",
             "batches: 1, 3 rows, 176 bytes",
+            "column 0 \"n\": 13 bytes",
+            "metadata: 312 bytes",
+            "padding of bodies: 11 bytes",
+            "copy: 520 bytes, 184 more",
         ],
     },
     // a dictionary that grows and is replaced
@@ -39,7 +44,11 @@ static TEXTS: [Told; 26] = [
             "The stream is sound: 7 messages and an end marker.",
             "schema: 200 bytes",
             "batches: 3, 7 rows, 488 bytes",
-            "dictionary 0: 4 values after 3 dictionary batches, 680 bytes",
+            "column 0 \"k\": 28 bytes",
+            "dictionary 0: 4 values after 3 dictionary batches, 680 bytes, 57 in buffers",
+            "metadata: 1264 bytes",
+            "padding of bodies: 27 bytes",
+            "copy: 2184 bytes, 808 more",
         ],
     },
     // floats among the core types
@@ -407,16 +416,180 @@ static TEXTS: [Told; 26] = [
     },
 ];
 
-fn assert_text(rt: &impl Abort, alloc: Global, told: &Told) {
-    let bytes = joined(alloc, told.parts, told.edits).expect(rt, "the stream");
+// A sound stream, with how many bytes of metadata and of a body it may have, and the lines of its
+// summary, which `examples/explained.py` prints too.
+struct Summed {
+    bytes: &'static [u8],
+    most: (u64, u64),
+    lines: &'static [&'static str],
+}
+
+const MOST: (u64, u64) = (4096, 65_536);
+
+static SUMMARIES: [Summed; 9] = [
+    // lists of structs
+    Summed {
+        bytes: summed::NESTED,
+        most: MOST,
+        lines: &[
+            "The stream is sound: 2 messages and an end marker.",
+            "schema: 344 bytes",
+            "batches: 1, 3 rows, 384 bytes",
+            "column 0 \"g\": 51 bytes",
+            "metadata: 648 bytes",
+            "padding of bodies: 37 bytes",
+            "copy: 1224 bytes, 488 more",
+        ],
+    },
+    // a dictionary below lists and structs
+    Summed {
+        bytes: summed::BELOW,
+        most: MOST,
+        lines: &[
+            "The stream is sound: 3 messages and an end marker.",
+            "schema: 448 bytes",
+            "batches: 1, 2 rows, 328 bytes",
+            "column 0 \"l\": 21 bytes",
+            "column 1 \"s\": 9 bytes",
+            "dictionary 0: 3 values after 1 dictionary batches, 224 bytes, 19 in buffers",
+            "metadata: 936 bytes",
+            "padding of bodies: 23 bytes",
+            "copy: 1480 bytes, 472 more",
+        ],
+    },
+    // gaps, and a buffer of no field
+    Summed {
+        bytes: summed::GAPS,
+        most: MOST,
+        lines: &[
+            "The stream is sound: 2 messages.",
+            "schema: 152 bytes",
+            "batches: 1, 3 rows, 1192 bytes",
+            "column 0 \"n\": 13 bytes",
+            "metadata: 320 bytes",
+            "padding of bodies: 1011 bytes",
+            "copy: 520 bytes, 824 fewer",
+        ],
+    },
+    // buffers that overlap
+    Summed {
+        bytes: summed::OVERLAP,
+        most: MOST,
+        lines: &[
+            "The stream is sound: 2 messages and an end marker.",
+            "schema: 224 bytes",
+            "batches: 1, 2 rows, 216 bytes",
+            "column 0 \"a\": 8 bytes",
+            "column 1 \"b\": 8 bytes",
+            "metadata: 432 bytes",
+            "padding of bodies: 4 bytes",
+            "copy: 648 bytes, 200 more",
+        ],
+    },
+    // a schema with a body
+    Summed {
+        bytes: summed::SCHEMA_BODY,
+        most: MOST,
+        lines: &[
+            "The stream is sound: 1 messages.",
+            "schema: 176 bytes",
+            "batches: 0, 0 rows, 0 bytes",
+            "column 0 \"n\": 0 bytes",
+            "metadata: 152 bytes",
+            "padding of bodies: 24 bytes",
+            "copy: 200 bytes, 24 more",
+        ],
+    },
+    // a dictionary that is replaced before a batch needs it, and a long name
+    Summed {
+        bytes: summed::UNUSED,
+        most: MOST,
+        lines: &[
+            "The stream is sound: 4 messages and an end marker.",
+            "schema: 304 bytes",
+            "batches: 1, 2 rows, 224 bytes",
+            "column 0 \"a rather long name of letters,..\": 9 bytes",
+            "column 1 \"n\": 8 bytes",
+            "dictionary -7: 2 values after 2 dictionary batches, 496 bytes, 81 in buffers",
+            "metadata: 912 bytes",
+            "padding of bodies: 22 bytes",
+            "copy: 1160 bytes, 128 more",
+        ],
+    },
+    // floats, a type of `all`
+    Summed {
+        bytes: &DOUBLES,
+        most: MOST,
+        lines: &[
+            "The stream is sound: 2 messages and an end marker.",
+            "schema: 144 bytes",
+            "batches: 1, 2 rows, 176 bytes",
+            "column 0 \"d\": 17 bytes",
+            "metadata: 304 bytes",
+            "padding of bodies: 7 bytes",
+            "copy: 520 bytes, 192 more",
+        ],
+    },
+    // a body that has no room for more padding
+    Summed {
+        bytes: &DOUBLES,
+        most: (4096, 127),
+        lines: &[
+            "The stream is sound: 2 messages and an end marker.",
+            "schema: 144 bytes",
+            "batches: 1, 2 rows, 176 bytes",
+            "column 0 \"d\": 17 bytes",
+            "metadata: 304 bytes",
+            "padding of bodies: 7 bytes",
+            "copy: refused batch 0: past a limit",
+        ],
+    },
+    // metadata that have none
+    Summed {
+        bytes: &DOUBLES,
+        most: (144, 127),
+        lines: &[
+            "The stream is sound: 2 messages and an end marker.",
+            "schema: 144 bytes",
+            "batches: 1, 2 rows, 176 bytes",
+            "column 0 \"d\": 17 bytes",
+            "metadata: 304 bytes",
+            "padding of bodies: 7 bytes",
+            "copy: refused schema: past a limit",
+        ],
+    },
+];
+
+fn assert_text(rt: &(impl Abort + AllocGlobal), told: &Told) {
+    let bytes = joined(rt.alloc(), told.parts, told.edits).expect(rt, "the stream");
     let limits = Limits::new(4096, 65_536, told.max_rows).expect(rt, "the limits");
-    let answer = explain(alloc, &mut bytes.as_slice(), &limits);
-    let Ok(explanation) = answer else {
+    assert_explained(rt, (&bytes, 65_536), &limits, told.lines);
+}
+
+// However a stream is cut, its summary is the same.
+fn assert_summary(rt: &(impl Abort + AllocGlobal), summed: &Summed) {
+    let limits = Limits::new(summed.most.0, summed.most.1, 100).expect(rt, "the limits");
+    let limits = limits.with_types(TypeSet::All);
+    for at_once in [65_536, 7] {
+        assert_explained(rt, (summed.bytes, at_once), &limits, summed.lines);
+    }
+}
+
+// The bytes, of which so many come at once, are explained by these lines.
+fn assert_explained(
+    rt: &(impl Abort + AllocGlobal),
+    given: (&[u8], usize),
+    limits: &Limits,
+    lines: &[&str],
+) {
+    let alloc = rt.alloc();
+    let mut input = Trickle::new(given.0, given.1, None);
+    let Ok(explanation) = explain(alloc, &mut input, limits) else {
         return assert!(rt; false);
     };
     let text = explanation.text(alloc).expect(rt, "the text");
     let mut expected = String::new(alloc);
-    for line in told.lines {
+    for line in lines {
         expected.push_str(line).expect(rt, "memory");
         expected.push_str("\n").expect(rt, "memory");
     }
@@ -426,6 +599,13 @@ fn assert_text(rt: &impl Abort, alloc: Global, told: &Told) {
 #[test]
 fn texts(rt: HostRuntime) {
     for told in &TEXTS {
-        assert_text(&rt, rt.alloc(), told);
+        assert_text(&rt, told);
+    }
+}
+
+#[test]
+fn summaries(rt: HostRuntime) {
+    for summed in &SUMMARIES {
+        assert_summary(&rt, summed);
     }
 }
