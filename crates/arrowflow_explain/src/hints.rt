@@ -10,6 +10,7 @@ use crate::prefix::PrefixFault;
 use crate::rows_fault::RowsFault;
 use crate::schema_fault::SchemaFault;
 use arrow_stream_reader::Kind;
+use arrow_types::Limits;
 
 /// What can be done about a fault, in a sentence or two, each below 80 characters.
 pub(crate) fn hint_of(refusal: &Refusal) -> &'static str {
@@ -48,22 +49,28 @@ fn prefix_hint(fault: PrefixFault, refusal: &Refusal) -> &'static str {
 fn cut_hint(part: Part, refusal: &Refusal) -> &'static str {
     match part {
         Part::Prefix if refusal.message.is_empty() => "The input is empty, or a part of a stream.",
-        Part::Prefix if Format::of(&refusal.message).is_some() => "This is no Arrow stream.",
+        Part::Prefix if !may_be_stream(refusal) => "This is no Arrow stream.",
         Part::Prefix | Part::Metadata | Part::Body => {
             "The input ends inside a message: it was cut off. Send or copy it again."
         }
     }
 }
 
+/// Whether the few bytes of an input may begin a stream, or a message of one.
+fn may_be_stream(refusal: &Refusal) -> bool {
+    refusal.fault.place != 0 || refusal.message.first() == Some(&0xFF)
+}
+
 /// What can be done about a message's own numbers.
 fn message_hint(fault: MessageFault) -> &'static str {
     match fault {
         MessageFault::BodyLength { length } if length.cast_signed() < 0 => CHANGED,
+        MessageFault::BodyLength { length } if length > Limits::BODY_CEILING => OVER_ALL,
         MessageFault::BodyLength { .. } => "The limit may be too low: --limit-body N",
         MessageFault::BodyEnd { .. } => "The stream is too long.",
         MessageFault::Compressed { .. } => "Write the stream without compression of its bodies.",
         MessageFault::Version { .. } => "Write the stream with metadata of version V5.",
-        MessageFault::HeaderMissing | MessageFault::Header { .. } => "",
+        MessageFault::HeaderMissing | MessageFault::Header { .. } => AGAIN,
         MessageFault::SecondSchema => {
             "These may be two streams without an end marker between: read each by itself."
         }
@@ -81,6 +88,8 @@ fn rows_hint(fault: RowsFault) -> &'static str {
         RowsFault::NoBase { .. } => "A batch of the dictionary is missing before it.",
         RowsFault::BatchRows { rows } if rows < 0 => CHANGED,
         RowsFault::NodeRows { slots, .. } if slots < 0 => CHANGED,
+        RowsFault::BatchRows { rows } if rows.cast_unsigned() > Limits::ROWS_CEILING => OVER_ALL,
+        RowsFault::NodeRows { slots, .. } if slots.cast_unsigned() > Limits::ROWS_CEILING => OVER_ALL,
         RowsFault::BatchRows { .. } | RowsFault::NodeRows { .. } => ROWS,
         RowsFault::ValueCount { .. } => ROWS,
     }
@@ -91,6 +100,12 @@ const LOST: &str = "Bytes were changed or lost, or the writer wrote no FlatBuffe
 
 /// What is said of a negative number.
 const CHANGED: &str = "A negative number is written by no writer: bytes were changed or lost.";
+
+/// What is said of a number that no option allows.
+const OVER_ALL: &str = "No limit may be so high: bytes were changed or lost.";
+
+/// What is said of all else that a writer should not have written.
+const AGAIN: &str = "Bytes were changed, or the writer is at fault: send or write it again.";
 
 /// What can be done about a number of rows over the limit.
 const ROWS: &str = "The limit may be too low: --limit-rows N";
@@ -104,7 +119,11 @@ fn schema_hint(fault: &SchemaFault) -> &'static str {
             },
             ..
         } => "This type is read with --types all.",
-        SchemaFault::Field { .. } => "",
+        SchemaFault::Field {
+            fault: FieldFault::TypeNotRead { .. },
+            ..
+        } => "No option reads this type: write the stream without it.",
+        SchemaFault::Field { .. } => AGAIN,
         SchemaFault::Endianness { .. } => "Write the stream with little-endian numbers.",
         SchemaFault::Nested { .. } => {
             "Write fields below a dictionary without dictionaries of their own."
@@ -116,9 +135,9 @@ fn schema_hint(fault: &SchemaFault) -> &'static str {
 fn kind_hint(kind: Kind) -> &'static str {
     match kind {
         Kind::Memory => "More memory is needed.",
-        Kind::Continuation | Kind::MetadataSize | Kind::Metadata | Kind::Version => "",
-        Kind::Header | Kind::BodyLength | Kind::Order | Kind::Unsupported | Kind::Schema => "",
-        Kind::Compressed | Kind::UnknownId | Kind::NoBase | Kind::Rows => "",
-        Kind::Layout | Kind::Text | Kind::Index | Kind::NoSchema | Kind::Truncated => "",
+        Kind::Continuation | Kind::MetadataSize | Kind::Metadata | Kind::Version => AGAIN,
+        Kind::Header | Kind::BodyLength | Kind::Order | Kind::Unsupported | Kind::Schema => AGAIN,
+        Kind::Compressed | Kind::UnknownId | Kind::NoBase | Kind::Rows => AGAIN,
+        Kind::Layout | Kind::Text | Kind::Index | Kind::NoSchema | Kind::Truncated => AGAIN,
     }
 }

@@ -111,7 +111,7 @@ fn push_field(text: &mut String, fault: FieldFault) -> Result<(), AllocError> {
 /// Appends how many children a type has.
 fn push_children(text: &mut String, code: u64, count: usize) -> Result<(), AllocError> {
     push_type(text, code)?;
-    write!(text, " with {count} children: it has ")?;
+    write!(text, " with {count} children: it must have ")?;
     text.push_str(children_of(code))
 }
 

@@ -19,7 +19,7 @@ struct Told {
     lines: &'static [&'static str],
 }
 
-static TEXTS: [Told; 26] = [
+static TEXTS: [Told; 28] = [
     // sound
     Told {
         parts: &[NUMBERS, THREE, END],
@@ -92,6 +92,19 @@ static TEXTS: [Told; 26] = [
             "the input ends inside the prefix of the message: 0 bytes of 8 are there",
             "no schema message is whole",
             "The input is empty, or a part of a stream.",
+        ],
+    },
+    // a line of text
+    Told {
+        parts: &[(Source::Bytes(b"hello"), 0, 5)],
+        edits: &[],
+        max_rows: 100,
+        lines: &[
+            "fault at byte 0: NoSchema",
+            "message 0 at byte 0",
+            "the input ends inside the prefix of the message: 5 bytes of 8 are there",
+            "no schema message is whole",
+            "This is no Arrow stream.",
         ],
     },
     // an Arrow file
@@ -273,6 +286,18 @@ static TEXTS: [Told; 26] = [
             "The limit may be too low: --limit-rows N",
         ],
     },
+    // rows over all limits
+    Told {
+        parts: &[NUMBERS, THREE],
+        edits: &[(224, b"\x00\x00\x00\x80\x00\x00\x00\x00")],
+        max_rows: 100,
+        lines: &[
+            "fault at byte 152: Rows",
+            "message 1 (record batch) at byte 152: 144 bytes of metadata, 24 of body",
+            "row count 2147483648: must be 0 or more, at most 100",
+            "No limit may be so high: bytes were changed or lost.",
+        ],
+    },
     // a negative number of rows
     Told {
         parts: &[NUMBERS, THREE],
@@ -318,6 +343,7 @@ static TEXTS: [Told; 26] = [
             "                                                ^^ ^^ ^^ ^^",
             "  00000070  24 00 00 00 01 00 00 00 6e 00 08 00 09 00 04 00",
             "  00000080  08 00 00 00 00 00 00 00 0e 00 00 00 20 00 00 00",
+            "Bytes were changed, or the writer is at fault: send or write it again.",
         ],
     },
     // an Int of 24 bits
@@ -334,6 +360,7 @@ static TEXTS: [Told; 26] = [
             "  00000080  08 00 00 00 00 00 00 00 0e 00 00 00 18 00 00 00",
             "                                                ^^ ^^ ^^ ^^",
             "  00000090  01 00 00 00 00 00 00 00",
+            "Bytes were changed, or the writer is at fault: send or write it again.",
         ],
     },
     // an offset past the texts
@@ -347,6 +374,7 @@ static TEXTS: [Told; 26] = [
             "the body does not have what its nodes and buffers say",
             "values of dictionary 0",
             "field node 0, buffer 1: slot 0: offsets 0 and 5: they must rise, up to 3 at most",
+            "Bytes were changed, or the writer is at fault: send or write it again.",
         ],
     },
     // a text that is not UTF-8
@@ -360,6 +388,7 @@ static TEXTS: [Told; 26] = [
             "a text is not UTF-8",
             "values of dictionary 0",
             "field node 0, buffer 2: slot 1: not UTF-8: 1 bytes from byte 17 of the body on",
+            "Bytes were changed, or the writer is at fault: send or write it again.",
         ],
     },
     // an index past the dictionary
@@ -373,6 +402,7 @@ static TEXTS: [Told; 26] = [
             "an index has no value in its dictionary",
             "column 0 \"k\"",
             "field node 0, buffer 1: slot 2: index 3: the dictionary has 3 values",
+            "Bytes were changed, or the writer is at fault: send or write it again.",
         ],
     },
     // a buffer past the body
@@ -386,6 +416,7 @@ static TEXTS: [Told; 26] = [
             "the body does not have what its nodes and buffers say",
             "column 0 \"n\"",
             "field node 0, buffer 1: 127 bytes from byte 8 on, of a body of 24 bytes",
+            "Bytes were changed, or the writer is at fault: send or write it again.",
         ],
     },
     // a buffer that is too short
@@ -399,6 +430,7 @@ static TEXTS: [Told; 26] = [
             "the body does not have what its nodes and buffers say",
             "column 0 \"n\"",
             "field node 0, buffer 1: 8 bytes: 3 slots need 12",
+            "Bytes were changed, or the writer is at fault: send or write it again.",
         ],
     },
     // a wrong number of nulls
@@ -412,6 +444,7 @@ static TEXTS: [Told; 26] = [
             "the body does not have what its nodes and buffers say",
             "column 0 \"n\"",
             "field node 0: length 3, which its null count or its children do not fit",
+            "Bytes were changed, or the writer is at fault: send or write it again.",
         ],
     },
 ];
