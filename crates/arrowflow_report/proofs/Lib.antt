@@ -17,6 +17,7 @@ pub mod Told
 pub mod Messages
 mod Chosen
 mod Quiet
+pub mod Cutting
 pub mod Reading
 pub mod Reporting
 pub mod OfFront

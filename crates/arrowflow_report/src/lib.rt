@@ -38,8 +38,12 @@
 #![tactic(auto)]
 
 mod batches;
+mod bounded;
+mod bounds;
+mod capped;
 mod columns;
 mod consumer;
+mod counting;
 mod driver;
 mod escapes;
 mod input;
@@ -59,8 +63,11 @@ mod type_names;
 mod type_words;
 mod what;
 mod window;
+mod within;
 
 pub use arrow_csv::Layout;
+pub use bounded::Bounded;
+pub use bounds::{Excess, Measure, WholeLimits};
 pub use columns::{ColumnsFault, Selection};
 pub use consumer::{Consumer, Wants};
 pub use driver::{Progress, drive, take_piece};
@@ -71,3 +78,4 @@ pub use schema_lines::schema_lines_of;
 pub use tool_fault::ToolFault;
 pub use type_words::{TypeWords, format_width, int_words, words_of};
 pub use what::What;
+pub use within::drive_within;
