@@ -15,6 +15,7 @@ use Rattle.arrowflow_report.specs.Consumer.{Comes, HasEnded, OfInput, OfMessages
 use Rattle.arrowflow_report.specs.Counted.{AreCounted, GoesOn, HasCounted, HasCountedOn, IsCounting, IsCutBy, IsCutIn, StandsWithin}
 use Rattle.arrowflow_report.specs.Driver.{AreGiven, CallForMore, Driven}
 use Rattle.arrowflow_report.specs.Reads.{IsReadWhile}
+use Rattle.arrowflow_report.specs.Within.{DrivenWithin}
 use Rattle.arrowflow_report.specs.declared.bounds.Excess.{Excess}
 use Rattle.arrowflow_report.specs.declared.bounds.Measure.TheVariants.{Rows, Messages, Bytes}
 use Rattle.arrowflow_report.specs.declared.bounds.WholeLimits.{WholeLimits}
@@ -255,3 +256,27 @@ module _ (keeps : OfMessages) (answers : OfInput) (whole : WholeLimits) (excess 
 pub goes_on_by : (next : Option ℕ) (rest : Option (List ℕ)) → is_longer_by next ≡ true → GoesOn (prepend_known (waiting next) rest)
 goes_on_by None rest longer = absurd (cc)
 goes_on_by (Some byte) rest longer = (byte, rest, refl)
+
+-- ---- a call over an input with bounds
+
+module _ {C : Type 0} (keeps : C → OfMessages) (answers : C → OfInput) (c : C) (whole : WholeLimits) (excess : Option Excess) (counts : Counts) (limits : LimitNumbers) (had left : Option (List ℕ)) (r : ReaderView) (same : r.limits ≡ limits)
+    (calls : List ℕ → Type 0) (answer : Result (Unit {0}) ToolFault) (bytes : List ℕ) (consumes : Consumes had left bytes) (reads : IsReadWhile calls bytes)
+    (driven : Driven (IsCounting whole counts excess (keeps c)) (HasCountedOn whole excess (keeps c) (answers c)) bytes left r answer) where
+  -- a message passed a bound
+  pub within_out : (passed : Excess) (end : Result (Unit {0}) ToolFault) → excess ≡ Some passed → DrivenWithin (keeps c) (answers c) calls whole limits had left (Some passed) end r
+  within_out passed end some =
+      let cut = driven_out (keeps c) (answers c) whole excess counts bytes left r answer passed some driven in
+      (cut.taken, cut.more, subst (Consumes had left) (sym cut.joined) consumes, subst (IsReadWhile calls) (sym cut.joined) reads, subst (λ l. IsCutBy (keeps c) whole l passed cut.taken cut.more left) same cut.cut)
+
+  -- the input had more bytes
+  pub within_longer : (passed : Excess) (end : Result (Unit {0}) ToolFault) → excess ≡ None → IsLongerSo whole.bytes passed r.at answer → GoesOn left → DrivenWithin (keeps c) (answers c) calls whole limits had left (Some passed) end r
+  within_longer passed end none longer more =
+      let failed = subst (Driven (IsCounting whole counts excess (keeps c)) (HasCountedOn whole excess (keeps c) (answers c)) bytes left r) longer.failed driven in
+      let cut = driven_longer (keeps c) (answers c) whole excess counts bytes left r passed longer.number none failed longer.of_bytes longer.bounded longer.place longer.size more in
+      (bytes, [], subst (Consumes had left) (sym (append-nil bytes)) consumes, subst (IsReadWhile calls) (sym (append-nil bytes)) reads, subst (λ l. IsCutBy (keeps c) whole l passed bytes [] left) same cut)
+
+  -- no bound was passed
+  pub within_all : excess ≡ None → DrivenWithin (keeps c) (answers c) calls whole limits had left None answer r
+  within_all none =
+      let inside = driven_inside (keeps c) (answers c) whole excess counts bytes left r answer none driven in
+      (bytes, consumes, reads, inside.0, inside.1)

@@ -22,3 +22,5 @@ pub mod Reading
 pub mod Reporting
 pub mod OfFront
 mod Wanting
+pub mod Through
+mod Bounding

@@ -25,3 +25,5 @@ pub mod Bounds
 pub mod Capped
 pub mod Counted
 pub mod Within
+pub mod Through
+pub mod WithinCalls

@@ -32,11 +32,19 @@ impl Counts {
         let whole = self.whole;
         let messages = match counted(whole.messages, self.messages, messages_of(item)) {
             Ok(messages) => messages,
-            Err(limit) => return Err(Excess { place, measure: Measure::Messages, limit }),
+            Err(limit) => return Err(Excess {
+                place,
+                measure: Measure::Messages,
+                limit,
+            }),
         };
         let rows = match counted(whole.rows, self.rows, rows_of(item)) {
             Ok(rows) => rows,
-            Err(limit) => return Err(Excess { place, measure: Measure::Rows, limit }),
+            Err(limit) => return Err(Excess {
+                place,
+                measure: Measure::Rows,
+                limit,
+            }),
         };
         match counted(whole.bytes, 0, reader.place()) {
             Ok(_) => Ok(Counts {
@@ -44,7 +52,11 @@ impl Counts {
                 rows,
                 messages,
             }),
-            Err(limit) => Err(Excess { place, measure: Measure::Bytes, limit }),
+            Err(limit) => Err(Excess {
+                place,
+                measure: Measure::Bytes,
+                limit,
+            }),
         }
     }
 }

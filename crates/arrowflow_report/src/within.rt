@@ -1,6 +1,6 @@
 //! An input with bounds, whose messages are given to a consumer as long as they keep them.
 
-ghost use Rattle.std.specs.Prelude.{◌≡◌, Err, IfErr, IfSome, None};
+ghost use Rattle.std.specs.Prelude.{◌≡◌, Err, IfErr, IfSome};
 ghost use Rattle.arrowflow_report.specs.Blame.{BlamesOnly};
 ghost use Rattle.arrowflow_report.specs.Within.{DrivesWithin, IsToBlame, left_of};
 ghost use Rattle.arrowflow_report.specs.declared.tool_fault.ToolFault.TheVariants.{Input as Unread};
@@ -38,12 +38,18 @@ pub fn drive_within<R: Input, C: Consumer>(
     let counting = Counting::new(consumer, input.whole);
     let (counting, answer) = drive(alloc, reader, &mut input.capped, counting);
     let (consumer, excess) = counting.into_parts();
-    input.excess = match excess {
-        Some(excess) => Some(excess),
-        None => input.longer(reader, &answer),
-    };
-    match input.excess {
-        Some(_) => (consumer, Err(ToolFault::Input(0))),
-        None => (consumer, answer),
+    if let Some(passed) = excess {
+        input.excess = Some(passed);
+        return (consumer, Err(ToolFault::Input(0)));
+    }
+    match input.longer(reader, &answer) {
+        Some(passed) => {
+            input.excess = Some(passed);
+            (consumer, Err(ToolFault::Input(0)))
+        }
+        None => {
+            input.excess = None;
+            (consumer, answer)
+        }
     }
 }
