@@ -24,16 +24,16 @@ use Rattle.arrowflow_report.proofs.Through.{call_within}
 module _ {S : Type 0} (contents : S → Option (List ℕ)) (failed : S → ℕ) (is_passed_on : S → Type 0) (teller : Teller S) (number : teller.number ≡ 0) (has : teller.lacks ≡ None) (limited : (teller.window ≡ None) ⊎ AreRows teller.report)
     (told : Teller S) (whole : WholeLimits) (limits : LimitNumbers) (had left : Option (List ℕ)) (r : ReaderView) (same : r.limits ≡ limits) (answer : Result (Unit {0}) ToolFault) (excess : Option Excess)
     (driven : DrivesWithin (HasTold contents failed) (TellsSo contents failed is_passed_on) teller whole limits had left excess answer told r) where
-  began : TellingBegan
+  abbrev began : TellingBegan
   began = record { report = teller.report; first = contents teller.output; failures = failed teller.output; window = teller.window }
 
-  keeps : OfMessages
+  abbrev keeps : OfMessages
   keeps = HasTold contents failed began told
 
-  answers : OfInput
+  abbrev answers : OfInput
   answers = TellsSo contents failed is_passed_on began told
 
-  calls : List ℕ → Type 0
+  abbrev calls : List ℕ → Type 0
   calls = CallForMore (HasTold contents failed began) limits
 
   given : DrivenWithin keeps answers calls whole limits had left excess answer r

@@ -77,12 +77,12 @@ pub record IsLongerSo (bound : Option ℕ) (x : Excess) (at : Standing) (answer 
 
 -- ---- what is said of it
 
--- the word for what a bound counts
+-- the word for what a bound counts, after a blank
 abbrev pub measure_text : Measure → List ℕ
-measure_text Rows = codes "rows"
-measure_text Messages = codes "messages"
-measure_text Bytes = codes "bytes"
+measure_text Rows = codes " rows"
+measure_text Messages = codes " messages"
+measure_text Bytes = codes " bytes"
 
 -- the line of a stream that passes a bound
 abbrev pub excess_line : Excess → List ℕ
-excess_line x = codes "limit at byte " ++ decimal x.place ++ codes ": more than " ++ decimal x.limit ++ codes " " ++ measure_text x.measure
+excess_line x = codes "limit at byte " ++ (decimal x.place ++ (codes ": more than " ++ (decimal x.limit ++ measure_text x.measure)))
