@@ -28,13 +28,17 @@ use Rattle.arrow_stream_laws.specs.Writer as writers
 use Rattle.arrowflow_report.specs.Reports.{EndsWell}
 use Rattle.arrowflow_report.specs.Consumer.{Comes, HasEnded, entry_of}
 use Rattle.arrowflow_report.specs.Driver.{Driven}
+use Rattle.arrowflow_report.specs.Session.{StandsAt}
+use Rattle.arrowflow_report.specs.Through.{IsThrough}
 use Rattle.arrowflow_report.specs.declared.tool_fault.ToolFault.{ToolFault}
 use Rattle.arrowflow_report.specs.declared.tool_fault.ToolFault.TheVariants.{Refused, Memory}
+use Rattle.arrowflow_report.specs.declared.what.What.{What}
 use Rattle.arrowflow_report.specs.declared.what.What.TheVariants.{Start, Batch, Finish}
 use Rattle.arrowflow_report.proofs.Growing.{one_table}
 use Rattle.arrowflow_report.proofs.Driving.{badly_at, standing_of, well_at}
 use Rattle.arrowflow_report.proofs.Schemas.{front_begins, front_behind, front_keeps}
 use Rattle.arrowflow_report.proofs.Sent.{begun_all}
+use Rattle.arrowflow_report.proofs.Through.{driven_so, driven_through}
 use Rattle.arrowflow_copy.specs.Copy.{Copies, IsBegun, IsClosed, IsClosedInPart, IsCopied, IsSent, IsSentOf, IsSentInPartOf, RefusesBatch}
 use Rattle.arrowflow_copy.specs.Target.{at_of, sink_in}
 use Rattle.arrowflow_copy.specs.declared.copier.Target.{Target}
@@ -557,6 +561,58 @@ module _ (began : Began) (own : LimitNumbers) (o : Options) (at : At) (number : 
         ),
         tt,
       )
+
+-- ---- answers that are of all bytes
+
+-- no writer's fault says how a stream ended
+fault_through : (what : What) (kind : WriteFault) (r : ReaderView) (bytes : List ℕ) → IsThrough ⊥ (Err (fault_of what kind)) r bytes
+fault_through what kinds.SchemaDiffers r bytes = tt
+fault_through what kinds.TooLarge r bytes = tt
+fault_through what kinds.DictionariesDiffer r bytes = tt
+fault_through what kinds.Sink r bytes = tt
+fault_through what kinds.Broken r bytes = tt
+fault_through what kinds.Finished r bytes = tt
+fault_through what kinds.Memory r bytes = tt
+
+through_by : (f : ToolFault) (what : What) (kind : WriteFault) (r : ReaderView) (bytes : List ℕ) → f ≡ fault_of what kind → IsThrough ⊥ (Err f) r bytes
+through_by f what kind r bytes is = subst (λ g. IsThrough ⊥ (Err g) r bytes) (sym is) (fault_through what kind r bytes)
+
+-- an end is written after all bytes
+pub end_through : (at : At) (answer : Result (Unit {0}) ToolFault) (at' : At) → Closes at answer at' → (r : ReaderView) (bytes : List ℕ) → StandsAt bytes r → IsThrough ⊥ answer r bytes
+end_through (waiting held failed) answer at' z r bytes here = subst (λ a. IsThrough ⊥ a r bytes) (sym z.0) (inl here)
+end_through (writing w) (Ok done) at' z r bytes here = inl here
+end_through (writing w) (Err f) at' z r bytes here = through_by f Finish z.0 r bytes z.2.0
+
+first_through : (limits : LimitNumbers) (o : Options) (schema : Option SchemaShape) (held : Option (List ℕ)) (failed : ℕ) (f : ToolFault) (at' : At) → TakesFirst limits o schema held failed (Err f) at' → (r : ReaderView) (bytes : List ℕ) → IsThrough ⊥ (Err f) r bytes
+first_through limits o None held failed f at' z r bytes = let q = z.0 in absurd (cc)
+first_through limits o (Some shape) held failed f at' z r bytes = through_by f Start z.1.0 r bytes z.1.3.0
+
+one_through : (w : writers.WriterView) (g : Given) (number : ℕ) (f : ToolFault) (at' : At) (number' : ℕ) → TakesOne w g number (Err f) at' number' → (r : ReaderView) (bytes : List ℕ) → IsThrough ⊥ (Err f) r bytes
+one_through w schema_given number f at' number' z r bytes = let q = z.0 in absurd (cc)
+one_through w (dictionary_given id) number f at' number' z r bytes = let q = z.0 in absurd (cc)
+one_through w ended number f at' number' z r bytes = let q = z.0 in absurd (cc)
+one_through w (batch_given t) number f at' number' (inl z) r bytes = subst (λ g. IsThrough ⊥ (Err g) r bytes) (sym z.0) tt
+one_through w (batch_given t) number f at' number' (inr z) r bytes = through_by f (Batch number) z.0 r bytes z.2.0
+
+-- a message that was not written says nothing of the end
+pub item_through : (limits : LimitNumbers) (o : Options) (schema : Option SchemaShape) (g : Given) (at : At) (number : ℕ) (f : ToolFault) (at' : At) (number' : ℕ) → TakesItem limits o schema g at number (Err f) at' number' → (r : ReaderView) (bytes : List ℕ) → IsThrough ⊥ (Err f) r bytes
+item_through limits o schema g (waiting held failed) number f at' number' z r bytes = first_through limits o schema held failed f at' z.0 r bytes
+item_through limits o schema g (writing w) number f at' number' z r bytes = one_through w g number f at' number' z r bytes
+
+module _ (began : Began) (own : LimitNumbers) (o : Options) (at : At) (number : ℕ) (passed : Type 0) (bytes : List ℕ) (left : Option (List ℕ)) (r : ReaderView) where
+  -- what the consumer answers, and of which bytes
+  abbrev full : Result (Unit {0}) ToolFault → ReaderView → List ℕ → Option (List ℕ) → Type 0
+  full answer q t rest = HasAnswered began at answer t rest × OnOk answer passed × IsThrough ⊥ answer q t
+
+  abbrev short : Result (Unit {0}) ToolFault → ReaderView → List ℕ → Option (List ℕ) → Type 0
+  short answer q t rest = HasAnswered began at answer t rest × OnOk answer passed
+
+  -- so it is said of the call
+  pub call_through : (answer : Result (Unit {0}) ToolFault) → Driven (IsCopying began own o at number) full bytes left r answer → HasAnswered began at answer bytes left × OnOk answer passed × IsThrough ⊥ answer r bytes
+  call_through answer driven =
+      let less = driven_so (IsCopying began own o at number) full short bytes left r (λ a z. (z.0, z.1)) answer driven in
+      let called = call_copied began own o at number passed bytes left r answer less in
+      (called.0, called.1, driven_through (IsCopying began own o at number) full ⊥ bytes left r (λ a z. z.2) answer driven)
 
 -- ---- the output
 

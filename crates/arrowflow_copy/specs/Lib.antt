@@ -8,3 +8,4 @@ pub mod Taken
 pub mod Parted
 pub mod Pieces
 pub mod CopierShown
+pub mod WithinCopy

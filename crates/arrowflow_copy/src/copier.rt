@@ -44,6 +44,7 @@ pub(crate) struct Copier<S: Sink> {
 impl<S: Sink> Consumer for Copier<S> {
     ghost use Rattle.std.specs.Prelude.{◌<◌, ◌-◌, ◌^◌, OnOk};
     ghost use Rattle.arrow_stream_writer.specs.Shown.{options_view};
+    ghost use Rattle.arrowflow_report.specs.Through.{IsThrough};
     ghost use Rattle.arrowflow_copy.specs.Copying.{Began, HasAnswered, IsCopying, failures_at};
     ghost use Rattle.arrowflow_copy.specs.Target.{IsPassedOn, at_of};
 
@@ -54,9 +55,9 @@ impl<S: Sink> Consumer for Copier<S> {
     ghost keeps = { λ began c. IsCopying began c.terms.limits (options_view c.terms.options)
         (at_of S.contents S.failed c.target) c.number };
 
-    ghost answers = { λ began c answer _ bytes left.
+    ghost answers = { λ began c answer r bytes left.
         HasAnswered began (at_of S.contents S.failed c.target) answer bytes left
-        × OnOk answer (IsPassedOn S.is_passed_on c.target) };
+        × OnOk answer (IsPassedOn S.is_passed_on c.target) × IsThrough ⊥ answer r bytes };
 
     fn item(
         self,

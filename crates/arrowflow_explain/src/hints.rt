@@ -89,7 +89,8 @@ fn rows_hint(fault: RowsFault) -> &'static str {
         RowsFault::BatchRows { rows } if rows < 0 => CHANGED,
         RowsFault::NodeRows { slots, .. } if slots < 0 => CHANGED,
         RowsFault::BatchRows { rows } if rows.cast_unsigned() > Limits::ROWS_CEILING => OVER_ALL,
-        RowsFault::NodeRows { slots, .. } if slots.cast_unsigned() > Limits::ROWS_CEILING => OVER_ALL,
+        RowsFault::NodeRows { slots, .. } if slots.cast_unsigned() > Limits::ROWS_CEILING =>
+            OVER_ALL,
         RowsFault::BatchRows { .. } | RowsFault::NodeRows { .. } => ROWS,
         RowsFault::ValueCount { .. } => ROWS,
     }

@@ -28,12 +28,13 @@ use Rattle.arrowflow_line.specs.declared.fault.ArgFault.TheVariants.{Line, Misus
 use Rattle.arrowflow_line.specs.declared.fault.Misuse.{Misuse}
 use Rattle.arrowflow_line.specs.declared.fault.Misuse.TheVariants.{NoOutput, NoSize, TwoOutputs}
 use Rattle.arrowflow_line.specs.declared.fault.SizeOption.{SizeOption}
-use Rattle.arrowflow_line.specs.declared.fault.SizeOption.TheVariants.{Bytes, LimitBody, LimitMetadata, Piece}
+use Rattle.arrowflow_line.specs.declared.fault.SizeOption.TheVariants.{Bytes, LimitBody, LimitBytes, LimitMetadata, Piece}
 use Rattle.arrowflow_line.specs.declared.plans.Plan.{Plan}
 use Rattle.arrowflow_line.specs.declared.plans.CopyOptions.{CopyOptions}
 use Rattle.arrowflow_line.specs.declared.plans.Files.{Files}
 use Rattle.arrowflow_line.specs.declared.plans.ShowOptions.{ShowOptions}
 use Rattle.arrowflow_line.specs.declared.plans.Task.{Task}
+use Rattle.arrowflow_line.specs.declared.plans.Totals.{Totals}
 use Rattle.arrowflow_line.specs.declared.plans.Task.TheVariants.{Schema, Check, Show, Explain, Copy, Drill}
 
 -- no argument of the command is one of its subcommands too
@@ -101,6 +102,10 @@ abbrev pub with_limits : App → App
 with_limits app =
     with_rule (with_rule (with_rule app (size (codes "limit-metadata") (codes "67108864"))) (size (codes "limit-body") (codes "68719476736"))) (limit (codes "limit-rows") 2147483647 (codes "2147483647"))
 
+-- a command with the bounds of a whole stream
+abbrev pub with_totals : App → App
+with_totals app = with_rule (with_rule (with_rule app (number (codes "limit-total-rows"))) (number (codes "limit-messages"))) (text (codes "limit-bytes"))
+
 -- words among which a value has to be
 abbrev pub Choices : Type 0
 Choices = Bor (List (Bor Text))
@@ -132,7 +137,7 @@ schema_app types = with_types (with_limits (files_app (codes "schema"))) types
 
 -- the command that checks
 abbrev pub check_app : Choices → App
-check_app types = with_types (with_limits (with_rule (files_app (codes "check")) (lettered 113 (flag (codes "quiet"))))) types
+check_app types = with_types (with_limits (with_totals (with_rule (files_app (codes "check")) (lettered 113 (flag (codes "quiet")))))) types
 
 -- a command with the options of which columns are shown, and of which batch
 abbrev pub with_choice : App → App
@@ -148,7 +153,7 @@ with_layout app = with_rule (with_rule (with_rule app (text (codes "null"))) (fl
 
 -- the command that shows rows
 abbrev pub show_app : Choices → App
-show_app types = with_types (with_limits (with_layout (with_window (with_choice (file_app (codes "show")))))) types
+show_app types = with_types (with_limits (with_totals (with_layout (with_window (with_choice (file_app (codes "show"))))))) types
 
 -- the command that says why a stream is refused
 abbrev pub explain_app : Choices → App
@@ -158,9 +163,9 @@ explain_app types = with_types (with_limits (file_app (codes "explain"))) types
 abbrev pub with_care : App → App
 with_care app = with_rule (with_rule (with_rule (with_rule app (flag (codes "atomic"))) (flag (codes "in-place"))) (flag (codes "no-clobber"))) (flag (codes "fail-downstream"))
 
--- the command that copies, with the options of what becomes of its output alone
+-- the command that copies, with the options of what becomes of its output and the bounds of a whole stream alone
 abbrev pub careful_copy : App
-careful_copy = with_care (with_rule (with_rule (new_app (codes "copy")) (needed (codes "IN"))) (maybe (codes "OUT")))
+careful_copy = with_totals (with_care (with_rule (with_rule (new_app (codes "copy")) (needed (codes "IN"))) (maybe (codes "OUT"))))
 
 -- the command that copies, without the sets of types
 abbrev pub limited_copy : Choices → Choices → App
@@ -331,18 +336,21 @@ IsCommand name = (name ≡ codes "schema") ⊎ ((name ≡ codes "check") ⊎ ((n
 abbrev pub size_name : SizeOption → Text
 size_name LimitMetadata = codes "limit-metadata"
 size_name LimitBody = codes "limit-body"
+size_name LimitBytes = codes "limit-bytes"
 size_name Bytes = codes "bytes"
 size_name Piece = codes "piece"
 
 abbrev pub least_size : SizeOption → ℕ
 least_size LimitMetadata = 0
 least_size LimitBody = 0
+least_size LimitBytes = 0
 least_size Bytes = 0
 least_size Piece = 1
 
 abbrev pub most_size : SizeOption → ℕ
 most_size LimitMetadata = 2 ^ 30
 most_size LimitBody = 2 ^ 40
+most_size LimitBytes = 2 ^ 62
 most_size Bytes = 2 ^ 62
 most_size Piece = 2 ^ 30
 
@@ -350,17 +358,23 @@ most_size Piece = 2 ^ 30
 abbrev pub IsSizeOf : SizeOption → List Row → ℕ → Type 0
 IsSizeOf option rows n = IsSizeIn (least_size option) (most_size option) (name_in (size_name option) rows) n
 
--- the command of this name has this option
-abbrev pub HasSize : Text → SizeOption → Type 0
-HasSize name LimitMetadata = ⊤
-HasSize name LimitBody = ⊤
-HasSize name Bytes = name ≡ codes "drill"
-HasSize name Piece = name ≡ codes "drill"
+-- the size that was asked for with this option, none if it was not given
+abbrev pub IsSizeIfAny : SizeOption → List Row → Option ℕ → Type 0
+IsSizeIfAny option rows None = name_if_any (size_name option) rows ≡ None
+IsSizeIfAny option rows (Some n) = (is_some (name_if_any (size_name option) rows) ≡ true) × IsSizeOf option rows n
+
+-- the command of this name has a size for this option, which it may have to be given
+abbrev pub HasSize : Text → List Row → SizeOption → Type 0
+HasSize name rows LimitMetadata = ⊤
+HasSize name rows LimitBody = ⊤
+HasSize name rows LimitBytes = is_some (name_if_any (codes "limit-bytes") rows) ≡ true
+HasSize name rows Bytes = name ≡ codes "drill"
+HasSize name rows Piece = name ≡ codes "drill"
 
 -- What is wrong with a line in which clap finds no fault: an option has no size within its bounds; a copy has no output, or
 -- one beside its input.
 abbrev pub IsMisuse : Text → List Row → Misuse → Type 0
-IsMisuse name rows (NoSize option) = HasSize name option × LacksSize (least_size option) (most_size option) (name_in (size_name option) rows)
+IsMisuse name rows (NoSize option) = HasSize name rows option × LacksSize (least_size option) (most_size option) (name_in (size_name option) rows)
 IsMisuse name rows NoOutput = (name ≡ codes "copy") × (name_if_any (codes "OUT") rows ≡ None) × (is_given (codes "in-place") rows ≡ false)
 IsMisuse name rows TwoOutputs = (name ≡ codes "copy") × (is_some (name_if_any (codes "OUT") rows) ≡ true) × (is_given (codes "in-place") rows ≡ true)
 
@@ -374,6 +388,10 @@ IsFaultIn name rows Memory = ⊤
 abbrev pub LacksSizeOf : SizeOption → List Row → Misuse → Type 0
 LacksSizeOf option rows misuse = (misuse ≡ NoSize option) × LacksSize (least_size option) (most_size option) (name_in (size_name option) rows)
 
+-- the same of an option that was given
+abbrev pub LacksGiven : SizeOption → List Row → Misuse → Type 0
+LacksGiven option rows misuse = (is_some (name_if_any (size_name option) rows) ≡ true) × LacksSizeOf option rows misuse
+
 -- the same of a limit
 abbrev pub LacksLimit : List Row → Misuse → Type 0
 LacksLimit rows misuse = LacksSizeOf LimitMetadata rows misuse ⊎ LacksSizeOf LimitBody rows misuse
@@ -384,6 +402,12 @@ pub record AreLimitsIn (rows : List Row) (limits : LimitNumbers) : Type 0 where
   pub body : IsSizeOf LimitBody rows limits.max_body
   pub most_rows : IsNumberOf 0 2147483647 (number_text (codes "limit-rows") rows) limits.max_rows
   pub types : limits.types ≡ types_by (name_in (codes "types") rows)
+
+-- the bounds of a whole stream that were asked for
+pub record AreTotalsIn (rows : List Row) (totals : Totals) : Type 0 where
+  pub all_rows : IsNumberIfAny (number_text (codes "limit-total-rows") rows) totals.rows
+  pub messages : IsNumberIfAny (number_text (codes "limit-messages") rows) totals.messages
+  pub bytes : IsSizeIfAny LimitBytes rows totals.bytes
 
 -- the task of the command of this name, with what clap found behind it
 abbrev pub IsTask : Text → List Row → Task → Type 0
@@ -398,9 +422,9 @@ IsTask name rows (Drill files options bytes piece) =
     (name ≡ codes "drill") × (map string_bytes files.items ≡ names_in (codes "FILE") rows) × (options ≡ options_in rows)
     × IsSizeOf Bytes rows bytes × IsSizeOf Piece rows piece
 
--- the plan of that task, within the limits that were asked for
+-- the plan of that task, within the limits and the bounds that were asked for
 abbrev pub IsPlan : Text → List Row → Plan → Type 0
-IsPlan name rows plan = IsTask name rows plan.task × AreLimitsIn rows plan.limits
+IsPlan name rows plan = IsTask name rows plan.task × AreLimitsIn rows plan.limits × AreTotalsIn rows plan.totals
 
 -- the plan of the command that clap finds in the words, with what it finds behind its name
 pub record IsAskedFor (app : App) (words : List Text) (plan : Plan) : Type 0 where

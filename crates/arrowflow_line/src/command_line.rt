@@ -12,7 +12,7 @@ ghost use Rattle.arrowflow_line.specs.CommandLine.{flag, lettered, limit, maybe,
 ghost use Rattle.arrowflow_line.specs.CommandLine.{needed, needed_some, number, option, schema_app};
 ghost use Rattle.arrowflow_line.specs.CommandLine.{show_app, size, text, with_care, with_delivery};
 ghost use Rattle.arrowflow_line.specs.CommandLine.{with_choice, with_layout, with_limits};
-ghost use Rattle.arrowflow_line.specs.CommandLine.{with_options, with_window};
+ghost use Rattle.arrowflow_line.specs.CommandLine.{with_options, with_totals, with_window};
 
 use crate::fault::ArgFault;
 use crate::help::{self, Help};
@@ -168,6 +168,20 @@ fn with_limits<'a>(alloc: Global, command: Command<'a>) -> Result<Command<'a>, A
     Ok(whole)
 }
 
+/// The command with the bounds of a whole stream.
+fn with_totals<'a>(alloc: Global, command: Command<'a>) -> Result<Command<'a>, AllocError>
+    requires { HasNoGlobals command }
+    ensures globals { IfOk result HasNoGlobals }
+    ensures app { IfOk result (λ c. app_of c ≡ with_totals (app_of command.entry)) }
+{
+    let rows = number(alloc, "limit-total-rows", "N", help::LIMIT_TOTAL_ROWS);
+    let some = command.arg(rows)?;
+    let messages = number(alloc, "limit-messages", "N", help::LIMIT_MESSAGES);
+    let more = some.arg(messages)?;
+    let whole = more.arg(text(alloc, "limit-bytes", "N", help::LIMIT_BYTES))?;
+    Ok(whole)
+}
+
 /// The command with the sets of types.
 fn with_types<'a>(alloc: Global, command: Command<'a>) -> Result<Command<'a>, AllocError>
     requires { HasNoGlobals command }
@@ -232,7 +246,7 @@ fn check_command<'a>(alloc: Global) -> Result<Command<'a>, AllocError>
     let quiet = flag(alloc, "quiet", help::QUIET);
     let quiet = lettered(quiet, 'q');
     let command = files_command(alloc, "check", help::CHECK)?.arg(quiet)?;
-    with_types(alloc, with_limits(alloc, command)?)
+    with_types(alloc, with_limits(alloc, with_totals(alloc, command)?)?)
 }
 
 /// The command with the options of which columns are shown, and of which batch.
@@ -278,7 +292,7 @@ fn show_command<'a>(alloc: Global) -> Result<Command<'a>, AllocError>
 {
     let command = with_choice(alloc, file_command(alloc, "show", help::SHOW)?)?;
     let command = with_layout(alloc, with_window(alloc, command)?)?;
-    with_types(alloc, with_limits(alloc, command)?)
+    with_types(alloc, with_limits(alloc, with_totals(alloc, command)?)?)
 }
 
 /// The command that says why a stream is refused.
@@ -335,7 +349,7 @@ fn limited_copy<'a>(alloc: Global) -> Result<Command<'a>, AllocError>
     with_limits(alloc, with_options(alloc, careful_copy(alloc)?)?)
 }
 
-/// The same without the limits, and without the options of how a stream is written.
+/// The same without the limits of messages, and without the options of how a stream is written.
 fn careful_copy<'a>(alloc: Global) -> Result<Command<'a>, AllocError>
     ensures globals { IfOk result HasNoGlobals }
     ensures app { IfOk result (λ c. app_of c ≡ careful_copy) }
@@ -347,7 +361,7 @@ fn careful_copy<'a>(alloc: Global) -> Result<Command<'a>, AllocError>
         .after_help(help::COPY.after)
         .arg(input)?
         .arg(output)?;
-    with_care(alloc, command)
+    with_totals(alloc, with_care(alloc, command)?)
 }
 
 /// The command with the options of what becomes of its output.

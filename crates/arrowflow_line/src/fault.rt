@@ -7,7 +7,7 @@ use arrow_types::Limits;
 use std::alloc::{AllocError, AllocFailed};
 use std::fmt;
 
-/// The most bytes of a connection that a drill may be asked to deliver: no stream has more.
+/// The most bytes that a stream may be allowed, or a drill be asked to deliver: no stream has more.
 const MOST_BYTES: u64 = 4_611_686_018_427_387_904;
 
 /// The most bytes of a piece.
@@ -43,6 +43,8 @@ pub enum SizeOption {
     LimitMetadata,
     /// `--limit-body`
     LimitBody,
+    /// `--limit-bytes`
+    LimitBytes,
     /// `--bytes` of `drill`
     Bytes,
     /// `--piece` of `drill`
@@ -57,6 +59,7 @@ impl SizeOption {
         match self {
             SizeOption::LimitMetadata => "limit-metadata",
             SizeOption::LimitBody => "limit-body",
+            SizeOption::LimitBytes => "limit-bytes",
             SizeOption::Bytes => "bytes",
             SizeOption::Piece => "piece",
         }
@@ -67,7 +70,8 @@ impl SizeOption {
         ensures { result ≡ least_size self }
     {
         match self {
-            SizeOption::LimitMetadata | SizeOption::LimitBody | SizeOption::Bytes => 0,
+            SizeOption::LimitMetadata | SizeOption::LimitBody | SizeOption::LimitBytes => 0,
+            SizeOption::Bytes => 0,
             SizeOption::Piece => 1,
         }
     }
@@ -79,7 +83,7 @@ impl SizeOption {
         match self {
             SizeOption::LimitMetadata => Limits::METADATA_CEILING,
             SizeOption::LimitBody => Limits::BODY_CEILING,
-            SizeOption::Bytes => MOST_BYTES,
+            SizeOption::LimitBytes | SizeOption::Bytes => MOST_BYTES,
             SizeOption::Piece => MOST_PIECE,
         }
     }
@@ -93,7 +97,7 @@ impl fmt::Display for Misuse {
                 write!(
                     f,
                     "error: the size of '--{name} <N>' is not in {least}..={most}: \
-                     sizes are bytes, or as 64K, 1MiB or 2GB"
+                     sizes are bytes, or as 64K, 1MiB or 1GB"
                 )?;
             }
             Misuse::NoOutput => f.write_str(

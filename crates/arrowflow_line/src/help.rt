@@ -34,8 +34,9 @@ pub(crate) const CHECK: Help = Help {
     after: "\
 A line has the byte offset of the message, its kind, and the number of its
 columns, values or rows. The lines of several files begin with their names. The
-exit status is 0, 1 if a stream is refused or ends too early, and 2 if a file
-cannot be read, the output cannot be written or an allocation failed.
+exit status is 0, 1 if a stream is refused, ends too early or passes a bound,
+and 2 if a file cannot be read, the output cannot be written or an allocation
+failed.
 
 Example:
   arrowflow check examples/growing_dictionary.arrows",
@@ -47,8 +48,8 @@ pub(crate) const SHOW: Help = Help {
     after: "\
 The first record has the names of the columns, and each row begins with the
 number of its batch, counted from 0. The exit status is 0, 1 if the stream is
-refused or ends too early, and 2 if the file cannot be read, the output cannot
-be written, an allocation failed or there is no such column.
+refused, ends too early or passes a bound, and 2 if the file cannot be read, the
+output cannot be written, an allocation failed or there is no such column.
 
 Example:
   arrowflow show examples/growing_dictionary.arrows",
@@ -72,9 +73,9 @@ pub(crate) const COPY: Help = Help {
     after: "\
 The rows stay what they are; the new stream has an end marker. OUT is created,
 and emptied first if it exists; a stream is not copied into its own file without
---in-place or --atomic. The exit status is 0, 1 if the stream is refused, ends too early or
-cannot be written again within the limits, and 2 if IN cannot be read, OUT
-cannot be written or an allocation failed.
+--in-place or --atomic. The exit status is 0, 1 if the stream is refused, ends
+too early, passes a bound or cannot be written again within the limits, and 2 if
+IN cannot be read, OUT cannot be written or an allocation failed.
 
 Example:
   arrowflow copy examples/metadata.arrows - --updates resend | arrowflow check",
@@ -119,8 +120,8 @@ there is one file alone";
 
 /// What is said of `--quiet`.
 pub(crate) const QUIET: &str = "\
-Print no lines but that of a fault: the exit status
-says whether a stream is sound";
+Print no lines but that of a fault: the exit
+status says whether a stream is sound";
 
 /// What is said of `--columns`.
 pub(crate) const COLUMNS: &str = "\
@@ -162,8 +163,8 @@ To how many bytes each buffer is padded\n";
 
 /// What is said of `--atomic`.
 pub(crate) const ATOMIC: &str = "\
-Leave OUT as it was until IN was read to its end and
-is sound; OUT may then be IN";
+Leave OUT as it was until IN was read to its end
+and is sound; OUT may then be IN";
 
 /// What is said of `--in-place`.
 pub(crate) const IN_PLACE: &str = "\
@@ -184,15 +185,24 @@ How many bytes of each connection are delivered\n";
 /// What is said of `--piece`.
 pub(crate) const PIECE: &str = "How many bytes are delivered at once\n";
 
+/// What is said of `--limit-total-rows`.
+pub(crate) const LIMIT_TOTAL_ROWS: &str = "The most rows of a whole stream";
+
+/// What is said of `--limit-messages`.
+pub(crate) const LIMIT_MESSAGES: &str = "The most messages of a whole stream";
+
+/// What is said of `--limit-bytes`.
+pub(crate) const LIMIT_BYTES: &str = "The most bytes of a whole stream, as 64K or 1MiB";
+
 /// What is said of `--limit-metadata`.
 pub(crate) const LIMIT_METADATA: &str = "\
 The most bytes of the metadata of one message, as
-64K, 1MiB or 2GB\n";
+64K, 1MiB or 1GB\n";
 
 /// What is said of `--limit-body`.
 pub(crate) const LIMIT_BODY: &str = "\
 The most bytes of the body of one message, as 64K,
-1MiB or 2GB\n";
+1MiB or 1GB\n";
 
 /// What is said of `--limit-rows`.
 pub(crate) const LIMIT_ROWS: &str = "\
@@ -201,6 +211,6 @@ values of a dictionary";
 
 /// What is said of `--types`.
 pub(crate) const TYPES: &str = "\
-The types of the streams that are read: the core, or
-all, with floating point, decimals, intervals, maps
-and fixed-size lists\n";
+The types of the streams that are read: the core,
+or all, with floating point, decimals, intervals,
+maps and fixed-size lists\n";

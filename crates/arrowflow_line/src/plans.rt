@@ -10,6 +10,20 @@ pub struct Plan {
     pub task: Task,
     /// How much a stream may ask of the reader, and how much is sent.
     pub limits: Limits,
+    /// How much a whole stream may have.
+    pub totals: Totals,
+}
+
+/// How much a whole stream may have, if a bound is asked for: the commands that check, show and copy
+/// have options for it.
+#[derive(Clone, Copy, Debug, PartialEq, Eq)]
+pub struct Totals {
+    /// How many rows.
+    pub rows: Option<u64>,
+    /// How many messages.
+    pub messages: Option<u64>,
+    /// How many bytes, at most 2^62.
+    pub bytes: Option<u64>,
 }
 
 /// One command of the program, with the names that it was given, `-` being standard input or

@@ -5,14 +5,15 @@ ghost use Rattle.std.specs.Prelude.{option_map, string_bytes};
 ghost use Rattle.clap.specs.Words.{found_of, rows_of};
 ghost use Rattle.arrowflow_line.specs.CommandLine.{AreFiles, AreLimitsIn, IsCommand, IsNumberIfAny};
 ghost use Rattle.arrowflow_line.specs.CommandLine.{IsFaultIn, IsNumberOf, IsSizeOf, LacksLimit};
-ghost use Rattle.arrowflow_line.specs.CommandLine.{LacksSizeOf};
+ghost use Rattle.arrowflow_line.specs.CommandLine.{AreTotalsIn, IsSizeIfAny, LacksGiven, LacksSizeOf};
 ghost use Rattle.arrowflow_line.specs.CommandLine.{IsPlan, IsTask, align_by, is_given, name_in, names_in};
 ghost use Rattle.arrowflow_line.specs.CommandLine.{copy_options_in, name_if_any, names_by};
 ghost use Rattle.arrowflow_line.specs.CommandLine.{names_if_any, number_text, options_in, types_by};
 ghost use Rattle.arrowflow_line.specs.CommandLine.{updates_by};
+ghost use Rattle.arrowflow_line.specs.declared.fault.SizeOption.TheVariants.{LimitBytes};
 
 use crate::fault::{ArgFault, Misuse, SizeOption};
-use crate::plans::{CopyOptions, Files, Plan, ShowOptions, Task};
+use crate::plans::{CopyOptions, Files, Plan, ShowOptions, Task, Totals};
 use crate::sizes::size_in;
 use arrow_body_writer::Align;
 use arrow_dict::Updates;
@@ -140,6 +141,30 @@ fn size_of(matches: &ArgMatches<'_>, option: SizeOption) -> Result<u64, Misuse>
     }
 }
 
+/// The size that an option was given, None if it was given none.
+fn size_if_any(matches: &ArgMatches<'_>, option: SizeOption) -> Result<Option<u64>, Misuse>
+    ensures { MatchResult result (IsSizeIfAny option (rows_of (found_of matches.now)))
+        (LacksGiven option (rows_of (found_of matches.now))) }
+{
+    match matches.get_str(option.name()) {
+        Some(_) => Ok(Some(size_of(matches, option)?)),
+        None => Ok(None),
+    }
+}
+
+/// The bounds that a command was given for a whole stream.
+fn totals_of(matches: &ArgMatches<'_>) -> Result<Totals, Misuse>
+    ensures { MatchResult result (AreTotalsIn (rows_of (found_of matches.now)))
+        (LacksGiven LimitBytes (rows_of (found_of matches.now))) }
+{
+    let bytes = size_if_any(matches, SizeOption::LimitBytes)?;
+    Ok(Totals {
+        rows: number_if_any(matches, "limit-total-rows"),
+        messages: number_if_any(matches, "limit-messages"),
+        bytes,
+    })
+}
+
 /// The limits that a command was given.
 fn limits_of(matches: &ArgMatches<'_>) -> Result<Limits, Misuse>
     ensures { MatchResult result (AreLimitsIn (rows_of (found_of matches.now)))
@@ -210,6 +235,7 @@ pub(crate) fn plan_of(
         Some(task) => Ok(Some(Plan {
             task,
             limits: limits_of(given)?,
+            totals: totals_of(given)?,
         })),
         None => Ok(None),
     }

@@ -2,8 +2,8 @@
 
 use crate::held::{Held, Intake, Pausing};
 use arrowflow::{
-    ColumnsFault, CopyOptions, Counted, Limits, Selection, ToolFault, check, check_json, copy,
-    schema_json, show_json, show_selection,
+    Bounded, ColumnsFault, CopyOptions, Counted, Excess, Limits, Selection, ToolFault, WholeLimits,
+    check_json, check_within, copy_within, schema_json, show_json, show_within,
 };
 use std::alloc::Global;
 use std::io::{Read, Write};
@@ -17,10 +17,12 @@ pub(crate) struct Ends<I: Read + Drop, W: Write + Drop> {
     held: Rc<Held<W>>,
 }
 
-/// How a call ended, and whether whoever read its output has gone.
+/// How a call ended, the bound that its stream passed, if it did, and whether whoever read its output
+/// has gone.
 #[derive(Drop)]
 pub(crate) struct Ended {
     pub(crate) answer: Result<(), ToolFault>,
+    pub(crate) excess: Option<Excess>,
     pub(crate) is_closed: bool,
 }
 
@@ -30,7 +32,30 @@ impl Ended {
         let written = held.finish();
         Ended {
             answer: written.and(answer),
+            excess: None,
             is_closed: held.is_closed(),
+        }
+    }
+
+    /// The same of a call over an input with bounds. If the output failed that is told, and no bound.
+    fn within<W: Write + Drop>(
+        answer: Result<(), ToolFault>,
+        excess: Option<Excess>,
+        held: &Held<W>,
+    ) -> Ended {
+        let Ended {
+            answer,
+            is_closed,
+            ..
+        } = Ended::of(answer, held);
+        let excess = match answer {
+            Err(ToolFault::Input(_)) => excess,
+            Ok(()) | Err(_) => None,
+        };
+        Ended {
+            answer,
+            excess,
+            is_closed,
         }
     }
 }
@@ -50,10 +75,11 @@ impl<I: Read + Drop, W: Write + Drop> Ends<I, W> {
     }
 
     /// Writes a line for each message, and gives the input back.
-    pub(crate) fn check(self, alloc: Global, limits: &Limits) -> (I, Ended) {
-        let (mut input, output) = (self.input, Counted::new(self.output));
-        let (_, answer) = check(alloc, &mut input, output, limits);
-        (input.into_inner(), Ended::of(answer, &self.held))
+    pub(crate) fn check(self, alloc: Global, limits: &Limits, whole: WholeLimits) -> (I, Ended) {
+        let mut input = Bounded::new(self.input, whole);
+        let (_, answer) = check_within(alloc, &mut input, Counted::new(self.output), limits);
+        let ended = Ended::within(answer, input.excess(), &self.held);
+        (input.into_inner().into_inner(), ended)
     }
 
     /// Writes a JSON object for each message, and gives the input back.
@@ -94,24 +120,33 @@ impl<I: Read + Drop, W: Write + Drop> Ends<I, W> {
         alloc: Global,
         selection: &Selection<'_>,
         limits: &Limits,
+        whole: WholeLimits,
     ) -> (I, Result<Ended, usize>) {
-        let (mut input, output) = (self.input, Counted::new(self.output));
-        let (_, answer) = show_selection(alloc, &mut input, output, selection, limits);
+        let (mut input, output) = (Bounded::new(self.input, whole), Counted::new(self.output));
+        let (_, answer) = show_within(alloc, &mut input, output, selection, limits);
+        let excess = input.excess();
         let ended = match answer {
             Ok(()) => Ok(Ended::of(Ok(()), &self.held)),
-            Err(ColumnsFault::Tool(fault)) => Ok(Ended::of(Err(fault), &self.held)),
+            Err(ColumnsFault::Tool(fault)) => { Ok(Ended::within(Err(fault), excess, &self.held)) }
             Err(ColumnsFault::Lacks(place)) => Err(place),
         };
-        (input.into_inner(), ended)
+        (input.into_inner().into_inner(), ended)
     }
 
     /// Writes the stream again, and gives the input back.
-    pub(crate) fn copy(self, alloc: Global, options: CopyOptions, limits: &Limits) -> (I, Ended) {
-        let (mut input, output) = (self.input, Counted::new(self.output));
-        let (_, answer) = copy(alloc, &mut input, output, options.stream, limits);
+    pub(crate) fn copy(
+        self,
+        alloc: Global,
+        options: CopyOptions,
+        limits: &Limits,
+        whole: WholeLimits,
+    ) -> (I, Ended) {
+        let (mut input, output) = (Bounded::new(self.input, whole), Counted::new(self.output));
+        let (_, answer) = copy_within(alloc, &mut input, output, options.stream, limits);
         if options.fail_downstream && answer.is_err() {
             self.held.cut();
         }
-        (input.into_inner(), Ended::of(answer, &self.held))
+        let ended = Ended::within(answer, input.excess(), &self.held);
+        (input.into_inner().into_inner(), ended)
     }
 }

@@ -4,8 +4,8 @@ use crate::calls::Ends;
 use crate::ends::{Destination, Source, create, is_same_file, is_standard, open};
 use crate::terminals::Terminals;
 use crate::watched::Watched;
-use crate::{FAILED, FINE, out_of_memory, progress_of, status_of, tell};
-use arrowflow::{CopyOptions, Limits, ToolFault};
+use crate::{Bounds, FAILED, FINE, out_of_memory, progress_of, status_of_ended, tell};
+use arrowflow::{CopyOptions, ToolFault};
 use std::alloc::AllocError;
 use std::fs::{File, OpenFile};
 use std::io::{ErrorKind, Input, Write};
@@ -19,7 +19,7 @@ pub(crate) struct Copying<'a> {
     pub(crate) from: &'a str,
     pub(crate) to: &'a str,
     pub(crate) options: CopyOptions,
-    pub(crate) limits: &'a Limits,
+    pub(crate) bounds: Bounds<'a>,
 }
 
 impl<'a> Copying<'a> {
@@ -28,7 +28,7 @@ impl<'a> Copying<'a> {
         from: &'a str,
         output: &'a Option<String>,
         options: CopyOptions,
-        limits: &'a Limits,
+        bounds: Bounds<'a>,
     ) -> Copying<'a> {
         let to = match output {
             Some(name) => name.as_str(),
@@ -40,7 +40,7 @@ impl<'a> Copying<'a> {
             from,
             to,
             options,
-            limits,
+            bounds,
         }
     }
 }
@@ -85,14 +85,19 @@ where
     R::File: Drop,
     W: Write + Drop,
 {
-    let Copying { from, to, .. } = copying;
+    let Copying {
+        from,
+        to,
+        options,
+        bounds,
+    } = copying;
     let input = Watched::new(input, progress_of(rt, "copy", from, is_standard(to)));
     let Ok(ends) = Ends::new(rt.alloc(), input, output) else {
         return out_of_memory(rt);
     };
-    let (input, ended) = ends.copy(rt.alloc(), copying.options, copying.limits);
+    let (input, ended) = ends.copy(rt.alloc(), options, bounds.limits, bounds.whole);
     input.clear();
-    status_of(rt, ended.answer, (from, to), ended.is_closed)
+    status_of_ended(rt, ended, (from, to))
 }
 
 /// Writes the stream of an input again into a file beside the output's, which takes the output's

@@ -4,14 +4,11 @@ use crate::coloured::{coloured, has_colours};
 use crate::ends::open;
 use crate::terminals::Terminals;
 use crate::watched::Watched;
-use crate::{named_or_standard, out_of_memory, print_text, progress_of, tell};
+use crate::{REFUSED, named_or_standard, out_of_memory, print_text, progress_of, tell};
 use arrowflow::{Explanation, Limits, explain};
 use std::io::Input;
 use std::rt::{Env, Files};
 use std::time::Clock;
-
-/// The exit status of a stream that is refused.
-const REFUSED: u8 = 1;
 
 /// Says why the stream in the file of this name, or of standard input, is refused, or what it has.
 pub(crate) fn explain_file<R>(rt: &R, name: &Option<String>, limits: &Limits) -> u8

@@ -19,6 +19,7 @@ mod showing;
 mod terminals;
 mod watched;
 
+use crate::calls::Ended;
 use crate::copying::{Copying, copy_file};
 use crate::drilling::{Rehearsal, drill_files};
 use crate::ends::{input_name, output_name, size_of};
@@ -29,7 +30,7 @@ use crate::reading::{Reading, read_files};
 use crate::showing::show_file;
 use crate::terminals::Terminals;
 use crate::watched::Progress;
-use arrowflow::{ArgFault, Plan, Task, ToolFault, plan};
+use arrowflow::{ArgFault, Limits, Plan, Task, ToolFault, Totals, WholeLimits, plan};
 use std::alloc::Global;
 use std::io::{ErrorKind, Input, Write};
 use std::process::ExitCode;
@@ -39,6 +40,9 @@ use std::{env, io};
 
 /// All went well.
 pub(crate) const FINE: u8 = 0;
+
+/// A stream was refused.
+pub(crate) const REFUSED: u8 = 1;
 
 /// The arguments, a file or memory failed.
 pub(crate) const FAILED: u8 = 2;
@@ -95,6 +99,29 @@ fn keep_free_memory(alloc: Global) {
     let _ = Vec::<u8>::with_capacity(alloc, FIRST_BLOCK);
 }
 
+/// How much a message, and a whole stream, may have.
+#[derive(Clone, Copy)]
+pub(crate) struct Bounds<'a> {
+    pub(crate) limits: &'a Limits,
+    pub(crate) whole: WholeLimits,
+}
+
+impl<'a> Bounds<'a> {
+    /// Whether the whole stream has a bound.
+    pub(crate) fn are_some(self) -> bool {
+        self.whole != WholeLimits::none()
+    }
+}
+
+/// The bounds that a line asks for.
+fn whole_limits(totals: Totals) -> WholeLimits {
+    WholeLimits {
+        rows: totals.rows,
+        messages: totals.messages,
+        bytes: totals.bytes,
+    }
+}
+
 /// Makes the call that a plan asks for, and gives the exit status.
 fn carry_out<R>(rt: &R, plan: &Plan) -> u8
 where
@@ -102,14 +129,18 @@ where
     R::File: Drop,
 {
     let limits = &plan.limits;
+    let bounds = Bounds {
+        limits,
+        whole: whole_limits(plan.totals),
+    };
     match &plan.task {
-        Task::Schema(files) => read_files(rt, Reading::Schema, files, limits),
-        Task::Check(files, false) => read_files(rt, Reading::Messages, files, limits),
-        Task::Check(files, true) => read_files(rt, Reading::Nothing, files, limits),
-        Task::Show(name, options) => show_file(rt, name, options, limits),
+        Task::Schema(files) => read_files(rt, Reading::Schema, files, bounds),
+        Task::Check(files, false) => read_files(rt, Reading::Messages, files, bounds),
+        Task::Check(files, true) => read_files(rt, Reading::Nothing, files, bounds),
+        Task::Show(name, options) => show_file(rt, name, options, bounds),
         Task::Explain(name) => explain_file(rt, name, limits),
         Task::Copy(input, output, options) => {
-            copy_file(rt, Copying::planned(input, output, *options, limits))
+            copy_file(rt, Copying::planned(input, output, *options, bounds))
         }
         Task::Drill(names, options, bytes, piece) => {
             let rehearsal = Rehearsal {
@@ -176,6 +207,23 @@ pub(crate) fn progress_of<'a, R: Files + Eprint + Clock + Terminals>(
         return None;
     }
     Progress::new(rt, command, size_of(rt, from))
+}
+
+/// Tells how a call ended that read the input of the first name and wrote the output of the second, and
+/// gives its status: the bound that its stream passed, or its fault.
+pub(crate) fn status_of_ended<R: AllocGlobal + Eprint>(
+    rt: &R,
+    ended: Ended,
+    names: (&str, &str),
+) -> u8 {
+    match ended.excess {
+        Some(excess) if !ended.is_closed => {
+            let _ = eprintln!(rt; "{excess}");
+            REFUSED
+        }
+        Some(_) => REFUSED,
+        None => status_of(rt, ended.answer, names, ended.is_closed),
+    }
 }
 
 /// Tells how a call ended that read the input of the first name and wrote the output of the second,

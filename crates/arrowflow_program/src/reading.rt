@@ -1,14 +1,19 @@
 //! The commands that read any number of files, one after the other.
 
+ghost use Rattle.std.specs.Prelude.{◌≡◌};
+
 use crate::calls::Ends;
 use crate::ends::{input_name, open};
 use crate::labelled::Labelled;
 use crate::terminals::Terminals;
 use crate::watched::Watched;
 use crate::{
-    FAILED, FINE, named_or_standard, out_of_memory, print_lines, progress_of, status_of, tell,
+    Bounds, FAILED, FINE, REFUSED, named_or_standard, out_of_memory, print_lines, progress_of,
+    status_of, tell,
 };
-use arrowflow::{Files as FileNames, Limits, ToolFault, check_quietly, schema_text};
+use arrowflow::{
+    Bounded, Excess, Files as FileNames, Limits, ToolFault, check_quietly_within, schema_text,
+};
 use std::io;
 use std::io::Input;
 use std::rt::Files;
@@ -46,7 +51,7 @@ impl<'a> Named<'a> {
 
 /// Reads files, standard input if none is named, and gives the worst exit status. The lines of several
 /// begin with their names.
-pub(crate) fn read_files<R>(rt: &R, reading: Reading, files: &FileNames, limits: &Limits) -> u8
+pub(crate) fn read_files<R>(rt: &R, reading: Reading, files: &FileNames, bounds: Bounds<'_>) -> u8
 where
     R: AllocGlobal + Files + Input + Print + Eprint + Clock + Terminals,
     R::File: Drop,
@@ -54,6 +59,10 @@ where
     let names = &files.names;
     let is_labelled = files.with_filename || names.len() > 1;
     let json = files.json;
+    if json && bounds.are_some() {
+        let _ = eprintln!(rt; "--json has no bounds of a whole stream");
+        return FAILED;
+    }
     if names.is_empty() {
         let name = match named_or_standard(rt, None) {
             Ok(name) => name,
@@ -64,7 +73,7 @@ where
             is_labelled,
             json,
         };
-        return read_file(rt, reading, named, limits);
+        return read_file(rt, reading, named, bounds);
     }
     let mut worst = FINE;
     for name in names {
@@ -73,23 +82,24 @@ where
             is_labelled,
             json,
         };
-        worst = worst.max(read_file(rt, reading, named, limits));
+        worst = worst.max(read_file(rt, reading, named, bounds));
     }
     worst
 }
 
 /// Reads one file, and gives the exit status.
-fn read_file<R>(rt: &R, reading: Reading, named: Named<'_>, limits: &Limits) -> u8
+fn read_file<R>(rt: &R, reading: Reading, named: Named<'_>, bounds: Bounds<'_>) -> u8
 where
     R: AllocGlobal + Files + Input + Print + Eprint + Clock + Terminals,
     R::File: Drop,
 {
+    let limits = bounds.limits;
     match reading {
         Reading::Schema if named.json => print_objects(rt, reading, named, limits),
         Reading::Schema => print_schema(rt, named, limits),
         Reading::Messages if named.json => print_objects(rt, reading, named, limits),
-        Reading::Messages => print_messages(rt, named, limits),
-        Reading::Nothing => check_file(rt, named, limits),
+        Reading::Messages => print_messages(rt, named, bounds),
+        Reading::Nothing => check_file(rt, named, bounds),
     }
 }
 
@@ -110,7 +120,7 @@ where
 }
 
 /// Prints a line for each message of the stream in a file.
-fn print_messages<R>(rt: &R, named: Named<'_>, limits: &Limits) -> u8
+fn print_messages<R>(rt: &R, named: Named<'_>, bounds: Bounds<'_>) -> u8
 where
     R: AllocGlobal + Files + Input + Print + Eprint + Clock + Terminals,
     R::File: Drop,
@@ -124,12 +134,14 @@ where
     let Ok(ends) = Ends::new(rt.alloc(), input, output) else {
         return out_of_memory(rt);
     };
-    let (input, ended) = ends.check(rt.alloc(), limits);
+    let (input, ended) = ends.check(rt.alloc(), bounds.limits, bounds.whole);
     input.clear();
-    match ended.answer {
-        Ok(()) => FINE,
-        Err(fault) if ended.is_closed => fault.status(),
-        Err(fault) => tell_of(rt, &fault, named),
+    match (ended.excess, ended.answer) {
+        (Some(_), _) if ended.is_closed => REFUSED,
+        (Some(excess), _) => tell_excess(rt, excess, named),
+        (None, Ok(())) => FINE,
+        (None, Err(fault)) if ended.is_closed => fault.status(),
+        (None, Err(fault)) => tell_of(rt, &fault, named),
     }
 }
 
@@ -162,7 +174,7 @@ where
 }
 
 /// Reads the stream in a file, and prints the line of its fault alone.
-fn check_file<R>(rt: &R, named: Named<'_>, limits: &Limits) -> u8
+fn check_file<R>(rt: &R, named: Named<'_>, bounds: Bounds<'_>) -> u8
 where
     R: AllocGlobal + Files + Input + Eprint + Clock + Terminals,
     R::File: Drop,
@@ -171,12 +183,15 @@ where
         Ok(file) => file,
         Err(fault) => return tell_of(rt, &fault, named),
     };
-    let mut input = Watched::new(file, progress_of(rt, "check", named.name, false));
-    let answer = check_quietly(rt.alloc(), &mut input, limits);
-    input.clear();
-    match answer {
-        Ok(()) => FINE,
-        Err(fault) => tell_of(rt, &fault, named),
+    let input = Watched::new(file, progress_of(rt, "check", named.name, false));
+    let mut input = Bounded::new(input, bounds.whole);
+    let answer = check_quietly_within(rt.alloc(), &mut input, bounds.limits);
+    let excess = input.excess();
+    input.into_inner().clear();
+    match (excess, answer) {
+        (Some(excess), _) => tell_excess(rt, excess, named),
+        (None, Ok(())) => FINE,
+        (None, Err(fault)) => tell_of(rt, &fault, named),
     }
 }
 
@@ -186,4 +201,15 @@ fn tell_of<R: AllocGlobal + Eprint>(rt: &R, fault: &ToolFault, named: Named<'_>)
         let _ = eprint!(rt; "{label}:");
     }
     tell(rt, fault, named.name, "-")
+}
+
+/// Prints the line of a bound that the stream in a file passes, after the name of a labelled file.
+fn tell_excess<R: Eprint>(rt: &R, excess: Excess, named: Named<'_>) -> u8
+    ensures { result ≡ REFUSED }
+{
+    if let Some(label) = named.label() {
+        let _ = eprint!(rt; "{label}:");
+    }
+    let _ = eprintln!(rt; "{excess}");
+    REFUSED
 }

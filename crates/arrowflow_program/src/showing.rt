@@ -6,7 +6,9 @@ use crate::calls::Ends;
 use crate::ends::open;
 use crate::terminals::Terminals;
 use crate::watched::Watched;
-use crate::{FAILED, named_or_standard, out_of_memory, progress_of, status_of, tell};
+use crate::{
+    Bounds, FAILED, named_or_standard, out_of_memory, progress_of, status_of, status_of_ended, tell,
+};
 use arrowflow::{Layout, Limits, Selection, ShowOptions};
 use std::io;
 use std::io::Input;
@@ -18,7 +20,7 @@ pub(crate) fn show_file<R>(
     rt: &R,
     name: &Option<String>,
     options: &ShowOptions,
-    limits: &Limits,
+    bounds: Bounds<'_>,
 ) -> u8
 where
     R: AllocGlobal + Files + Input + Print + Eprint + Clock + Terminals,
@@ -29,13 +31,19 @@ where
         Err(status) => return status,
     };
     if !options.json {
-        return print_rows(rt, name, options, limits);
+        return print_rows(rt, name, options, bounds);
     }
     if is_partial(options) {
-        let _ = eprintln!(rt; "--json prints all rows and columns: --columns, --rows and the like do not go with it");
+        let _ = eprintln!(rt;
+            "--json prints all rows and columns: --columns, --rows and the like do not go with it"
+        );
         return FAILED;
     }
-    print_json(rt, name, limits)
+    if bounds.are_some() {
+        let _ = eprintln!(rt; "--json has no bounds of a whole stream");
+        return FAILED;
+    }
+    print_json(rt, name, bounds.limits)
 }
 
 /// Prints each row of the stream in the file of this name as a JSON object on a line.
@@ -58,7 +66,7 @@ where
 }
 
 /// Prints the rows of the stream in the file of this name that are asked for.
-fn print_rows<R>(rt: &R, name: &str, options: &ShowOptions, limits: &Limits) -> u8
+fn print_rows<R>(rt: &R, name: &str, options: &ShowOptions, bounds: Bounds<'_>) -> u8
 where
     R: AllocGlobal + Files + Input + Print + Eprint + Clock + Terminals,
     R::File: Drop,
@@ -93,10 +101,10 @@ where
     let Ok(ends) = Ends::new(rt.alloc(), input, io::writer(rt)) else {
         return out_of_memory(rt);
     };
-    let (input, ended) = ends.show(rt.alloc(), &selection, limits);
+    let (input, ended) = ends.show(rt.alloc(), &selection, bounds.limits, bounds.whole);
     input.clear();
     match ended {
-        Ok(ended) => status_of(rt, ended.answer, (name, "-"), ended.is_closed),
+        Ok(ended) => status_of_ended(rt, ended, (name, "-")),
         Err(place) => no_column(rt, names.get(place)),
     }
 }

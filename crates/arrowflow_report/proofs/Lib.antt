@@ -17,7 +17,10 @@ pub mod Told
 pub mod Messages
 mod Chosen
 mod Quiet
+pub mod Cutting
 pub mod Reading
 pub mod Reporting
 pub mod OfFront
 mod Wanting
+pub mod Through
+mod Bounding

@@ -18,11 +18,13 @@ use Rattle.arrowflow_report.specs.Chosen.{AreRows, HaveChosen, IsChosenAt, Lacks
 use Rattle.arrowflow_report.specs.Columns.{BeginWithout, LacksInput}
 use Rattle.arrowflow_report.specs.Consumer.{Comes, HasEnded, IsEndedBy, entry_of}
 use Rattle.arrowflow_report.specs.Driver.{CallForMore, Driven, EndBadly, FailToRead, WantMemory}
-use Rattle.arrowflow_report.specs.Windows.{AreLeft, IsOver, IsPartIn, IsPartTold, IsShortAt, ShowsWindow, ShowsWindowOf, window_after}
+use Rattle.arrowflow_report.specs.Windows.{AreLeft, IsEnoughOf, IsOver, IsPartIn, IsPartTold, IsShortAt, ShowsWindow, ShowsWindowOf, window_after}
 use Rattle.arrowflow_report.specs.Reads.{IsReadWhile}
 use Rattle.arrowflow_report.specs.Reports.{EndsBadly, EndsWell, IsAdded, IsBegun, IsEnding, IsLast, IsOpenAt, IsTextOf, IsTold, IsWritten, Reports, ReportsInput, SendsSome, SendsText}
 use Rattle.arrowflow_report.specs.SchemaCall.{AreNoMessage}
-use Rattle.arrowflow_report.specs.Telling.{HasTold, IsLastBy, IsToldBy, LeftAre, ShowsOrLacks, ShowsSo, TellingBegan, TellsSo}
+use Rattle.arrowflow_report.specs.Session.{StandsAt}
+use Rattle.arrowflow_report.specs.Telling.{HasEnoughBy, HasTold, IsLastBy, IsToldBy, LeftAre, ShowsOrLacks, ShowsSo, TellingBegan, TellsSo}
+use Rattle.arrowflow_report.specs.Through.{IsThrough}
 use Rattle.arrowflow_report.specs.declared.report.Report.{Report}
 use Rattle.arrowflow_report.specs.declared.report.Report.TheVariants.{Messages, Rows}
 use Rattle.arrowflow_report.specs.declared.telling.Teller.{Teller}
@@ -31,7 +33,7 @@ use Rattle.arrowflow_report.specs.declared.window.Window.{Window}
 use Rattle.arrowflow_report.specs.declared.tool_fault.ToolFault.TheVariants.{Input, Output, Stream, Refused, Memory}
 use Rattle.arrowflow_report.proofs.Driving.{badly_at, read_while_so, standing_of, well_at}
 use Rattle.arrowflow_report.proofs.First.{one_entry, state_stays}
-use Rattle.arrowflow_report.proofs.WindowReported.{first_longer, begun_so, ending_cut, ending_told, first_badly, first_enough_flushed, first_input, first_memory, flushed_by}
+use Rattle.arrowflow_report.proofs.WindowReported.{first_longer, begun_so, ending_cut, ending_told, first_badly, first_enough_flushed, first_enough_through, first_input, first_memory, flushed_by}
 use Rattle.arrowflow_report.proofs.Windows.{not_there, nothing_within, rows_text, within_before}
 use Rattle.arrowflow_report.proofs.WindowTold.{part_cut, part_enough, part_told}
 use Rattle.arrowflow_report.proofs.Growing.{have_before, nothing_before, text_before}
@@ -48,6 +50,19 @@ cut_short text held held' failed failed' Memory sent out memory = memory sent.0 
 cut_short text held held' failed failed' (Input n) sent out memory = absurd sent
 cut_short text held held' failed failed' (Stream fault) sent out memory = absurd sent
 cut_short text held held' failed failed' (Refused what kind) sent out memory = absurd sent
+
+-- nor does it say how a stream ended
+cut_through : (enough : Type 0) (text : List ℕ) (held held' : Option (List ℕ)) (failed failed' : ℕ) (f : ToolFault) → SendsText held failed text (Err f) held' failed' → (r : ReaderView) (bytes : List ℕ) → IsThrough enough (Err f) r bytes
+cut_through enough text held held' failed failed' Output sent r bytes = tt
+cut_through enough text held held' failed failed' Memory sent r bytes = tt
+cut_through enough text held held' failed failed' (Input n) sent r bytes = absurd sent
+cut_through enough text held held' failed failed' (Stream fault) sent r bytes = absurd sent
+cut_through enough text held held' failed failed' (Refused what kind) sent r bytes = absurd sent
+
+-- a text that was sent after all bytes
+all_through : (enough : Type 0) (text : List ℕ) (held held' : Option (List ℕ)) (failed failed' : ℕ) (answer : Result (Unit {0}) ToolFault) → SendsText held failed text answer held' failed' → (r : ReaderView) (bytes : List ℕ) → StandsAt bytes r → IsThrough enough answer r bytes
+all_through enough text held held' failed failed' (Ok done) sent r bytes at = inl at
+all_through enough text held held' failed failed' (Err f) sent r bytes at = cut_through enough text held held' failed failed' f sent r bytes
 
 -- nothing was written before the schema
 nothing_by : (wanted : Option Window) (report : Report) → AreRows report → (es : List Entry) (text : List ℕ) → IsToldBy wanted report None es text → text ≡ []
@@ -76,11 +91,13 @@ module _ {S : Type 0} (contents : S → Option (List ℕ)) (failed : S → ℕ) 
 
   -- an answer of a schema that lacks nothing
   answered : (c c' : Teller S) (r : ReaderView) (bytes : List ℕ) (left : Option (List ℕ)) (answer : Result (Unit {0}) ToolFault) → c.report ≡ began.report → c'.lacks ≡ None
-      → ShowsSo began.window c.report r.limits bytes left began.first began.failures answer (contents c'.output) (failed c'.output) → OnOk answer (is_passed_on c'.output) → TellsSo contents failed is_passed_on began c' answer r bytes left
-  answered c c' r bytes left answer same none shows passed = (
+      → ShowsSo began.window c.report r.limits bytes left began.first began.failures answer (contents c'.output) (failed c'.output) → OnOk answer (is_passed_on c'.output)
+      → IsThrough (HasEnoughBy began.window c.report r.limits bytes began.first (contents c'.output)) answer r bytes → TellsSo contents failed is_passed_on began c' answer r bytes left
+  answered c c' r bytes left answer same none shows passed through = (
     subst (λ l. ShowsOrLacks l began r.limits bytes left answer (contents c'.output) (failed c'.output)) (sym none)
         (subst (λ p. ShowsSo began.window p r.limits bytes left began.first began.failures answer (contents c'.output) (failed c'.output)) same shows),
     λ q. passed,
+    λ q. subst (λ p. IsThrough (HasEnoughBy began.window p r.limits bytes began.first (contents c'.output)) answer r bytes) same through,
   )
 
   -- ---- a message
@@ -111,6 +128,7 @@ module _ {S : Type 0} (contents : S → Option (List ℕ)) (failed : S → ℕ) 
           subst (λ l. ShowsOrLacks l began new.limits (t ++ piece) left (Ok tt) (contents c'.output) (failed c'.output)) (sym is)
               (subst (λ p. AreRows p × BeginWithout (choice_of p) new.limits (t ++ piece) column × Appends began.first (contents c'.output) [] × (failed c'.output ≡ began.failures)) x.report_is (rows, begins, held, count)),
           λ q. let z = sym is ∙ q in absurd (cc),
+          λ q. let z = sym is ∙ q in absurd (cc),
         )
 
     -- its rows in the window were sent, and no row is wanted any more: the output was flushed
@@ -120,8 +138,15 @@ module _ {S : Type 0} (contents : S → Option (List ℕ)) (failed : S → ℕ) 
         → (c' : Teller S) → c'.report ≡ c.report → c'.lacks ≡ c.lacks → (answer : Result (Unit {0}) ToolFault) → SendsText held' failed' [] answer (contents c'.output) (failed c'.output) → OnOk answer (is_passed_on c'.output) → (left : Option (List ℕ))
         → TellsSo contents failed is_passed_on began c' answer new (t ++ piece) left
     message_enough v window has held' failed' sent over c' same lacks answer flush passed left =
-        answered c c' new (t ++ piece) left answer x.report_is (lacks ∙ x.lacks_none) (by began.window x.left_are x.is) passed
+        answered c c' new (t ++ piece) left answer x.report_is (lacks ∙ x.lacks_none) (by began.window x.left_are x.is) passed (through began.window x.left_are x.is)
       where
+        through : (wanted : Option Window) → LeftAre wanted c.window c.report es → IsToldBy wanted c.report old.at.state.schema es x.text
+            → IsThrough (HasEnoughBy wanted c.report new.limits (t ++ piece) began.first (contents c'.output)) answer new (t ++ piece)
+        through None none is = absurd (is_window none window)
+        through (Some w) wants is =
+            let enough = part_enough (form_of c.report) (choice_of c.report) w v began.first (contents c.output) c.number old new t piece es (part v window w is wants.1) n item comes.is_open comes.limits comes.gives has sent.0 sent.1 held' sent.2.0 over in
+            first_enough_through (form_of c.report) (choice_of c.report) w new.limits t piece left began.first held' began.failures (failed c.output) failed' new refl x.failures_are enough (contents c'.output) (failed c'.output) answer flush
+
         by : (wanted : Option Window) → LeftAre wanted c.window c.report es → IsToldBy wanted c.report old.at.state.schema es x.text → ShowsSo wanted c.report new.limits (t ++ piece) left began.first began.failures answer (contents c'.output) (failed c'.output)
         by None none is = absurd (is_window none window)
         by (Some w) wants is =
@@ -159,7 +184,7 @@ module _ {S : Type 0} (contents : S → Option (List ℕ)) (failed : S → ℕ) 
         → SendsSome (IsPartIn (form_of c.report) v (chosen_schema (choice_of c.report) new.at.state.schema) c.number (chosen_given (choice_of c.report) (given item))) (contents c.output) (failed c.output) (Err f) (contents c'.output) (failed c'.output)
         → (left : Option (List ℕ)) → TellsSo contents failed is_passed_on began c' (Err f) new (t ++ piece) left
     message_cut v window has c' same lacks f sent left =
-        answered c c' new (t ++ piece) left (Err f) x.report_is (lacks ∙ x.lacks_none) (by began.window x.left_are x.is) tt
+        answered c c' new (t ++ piece) left (Err f) x.report_is (lacks ∙ x.lacks_none) (by began.window x.left_are x.is) tt (cut_through (HasEnoughBy began.window c.report new.limits (t ++ piece) began.first (contents c'.output)) sent.0 (contents c.output) (contents c'.output) (failed c.output) (failed c'.output) f sent.2 new (t ++ piece))
       where
         by : (wanted : Option Window) → LeftAre wanted c.window c.report es → IsToldBy wanted c.report old.at.state.schema es x.text → ShowsSo wanted c.report new.limits (t ++ piece) left began.first began.failures (Err f) (contents c'.output) (failed c'.output)
         by None none is = absurd (is_window none window)
@@ -201,7 +226,7 @@ module _ {S : Type 0} (contents : S → Option (List ℕ)) (failed : S → ℕ) 
         → SendsSome (IsAdded c.report new.at.state.schema place c.number (given item)) (contents c.output) (failed c.output) (Err f) (contents c'.output) (failed c'.output) → (left : Option (List ℕ))
         → TellsSo contents failed is_passed_on began c' (Err f) new (t ++ piece) left
     message_broken all c' same lacks f sent left =
-        answered c c' new (t ++ piece) left (Err f) x.report_is (lacks ∙ x.lacks_none) (by began.window x.left_are x.is) tt
+        answered c c' new (t ++ piece) left (Err f) x.report_is (lacks ∙ x.lacks_none) (by began.window x.left_are x.is) tt (cut_through (HasEnoughBy began.window c.report new.limits (t ++ piece) began.first (contents c'.output)) sent.0 (contents c.output) (contents c'.output) (failed c.output) (failed c'.output) f sent.2 new (t ++ piece))
       where
         by : (wanted : Option Window) → LeftAre wanted c.window c.report es → IsToldBy wanted c.report old.at.state.schema es x.text → ShowsSo wanted c.report new.limits (t ++ piece) left began.first began.failures (Err f) (contents c'.output) (failed c'.output)
         by (Some w) wants is = absurd (subst (λ l. AreLeft w l es) all wants.1)
@@ -245,7 +270,7 @@ module _ {S : Type 0} (contents : S → Option (List ℕ)) (failed : S → ℕ) 
     pub end_told : (last : List ℕ) → IsLastBy marked c.report r.at.place last → (held' : Option (List ℕ)) (failed' : ℕ) → SendsText (contents c.output) (failed c.output) last (Ok tt) held' failed' → (c' : Teller S) → c'.report ≡ c.report → c'.lacks ≡ c.lacks
         → (answer : Result (Unit {0}) ToolFault) → SendsText held' failed' [] answer (contents c'.output) (failed c'.output) → OnOk answer (is_passed_on c'.output) → TellsSo contents failed is_passed_on began c' answer r bytes left
     end_told last is held' failed' sent c' same lacks answer flush passed =
-        answered c c' r bytes left answer x.report_is (lacks ∙ x.lacks_none) (by began.window x.left_are x.is) passed
+        answered c c' r bytes left answer x.report_is (lacks ∙ x.lacks_none) (by began.window x.left_are x.is) passed (all_through (HasEnoughBy began.window c.report r.limits bytes began.first (contents c'.output)) [] held' (contents c'.output) failed' (failed c'.output) answer flush r bytes (es, ended.stands))
       where
         well : EndsWell left e
         well = well_at r bytes es left ended.stands ended.well
@@ -263,7 +288,7 @@ module _ {S : Type 0} (contents : S → Option (List ℕ)) (failed : S → ℕ) 
     pub end_broken : (last : List ℕ) → IsLastBy marked c.report r.at.place last → (c' : Teller S) → c'.report ≡ c.report → c'.lacks ≡ c.lacks → (f : ToolFault)
         → SendsText (contents c.output) (failed c.output) last (Err f) (contents c'.output) (failed c'.output) → TellsSo contents failed is_passed_on began c' (Err f) r bytes left
     end_broken last is c' same lacks f sent =
-        answered c c' r bytes left (Err f) x.report_is (lacks ∙ x.lacks_none) (by began.window x.left_are x.is) tt
+        answered c c' r bytes left (Err f) x.report_is (lacks ∙ x.lacks_none) (by began.window x.left_are x.is) tt (cut_through (HasEnoughBy began.window c.report r.limits bytes began.first (contents c'.output)) last (contents c.output) (contents c'.output) (failed c.output) (failed c'.output) f sent r bytes)
       where
         by : (wanted : Option Window) → LeftAre wanted c.window c.report es → IsToldBy wanted c.report r.at.state.schema es x.text → ShowsSo wanted c.report r.limits bytes left began.first began.failures (Err f) (contents c'.output) (failed c'.output)
         by None none told =
@@ -334,7 +359,7 @@ module _ {S : Type 0} (contents : S → Option (List ℕ)) (failed : S → ℕ) 
     -- the stream ended badly
     call_badly : (fault : ToolFault) → EndBadly (HasTold contents failed began c) bytes left r fault → TellsSo contents failed is_passed_on began c (Err fault) r bytes left
     call_badly fault ends =
-        subst (λ f. TellsSo contents failed is_passed_on began c (Err f) r bytes left) (sym ends.told) (answered c c r bytes left (Err (Stream ends.of_stream)) x.report_is x.lacks_none (by began.window x.left_are x.is) tt)
+        subst (λ f. TellsSo contents failed is_passed_on began c (Err f) r bytes left) (sym ends.told) (answered c c r bytes left (Err (Stream ends.of_stream)) x.report_is x.lacks_none (by began.window x.left_are x.is) tt (ends.given.entries, ends.given.stands))
       where
         x : HasTold contents failed began c r.limits r.at.state ends.given.entries
         x = ends.given.kept
@@ -352,7 +377,7 @@ module _ {S : Type 0} (contents : S → Option (List ℕ)) (failed : S → ℕ) 
     -- a read failed
     call_failed : (fault : ToolFault) → FailToRead (HasTold contents failed began c) bytes r fault → TellsSo contents failed is_passed_on began c (Err fault) r bytes left
     call_failed fault fails =
-        subst (λ f. TellsSo contents failed is_passed_on began c (Err f) r bytes left) (sym fails.told) (answered c c r bytes left (Err (Input 0)) fails.given.kept.report_is fails.given.kept.lacks_none (by began.window fails.given.kept.left_are fails.given.kept.is) tt)
+        subst (λ f. TellsSo contents failed is_passed_on began c (Err f) r bytes left) (sym fails.told) (answered c c r bytes left (Err (Input 0)) fails.given.kept.report_is fails.given.kept.lacks_none (by began.window fails.given.kept.left_are fails.given.kept.is) tt (fails.given.entries, fails.given.stands))
       where
         by : (wanted : Option Window) → LeftAre wanted c.window c.report fails.given.entries → IsToldBy wanted c.report r.at.state.schema fails.given.entries fails.given.kept.text → ShowsSo wanted c.report r.limits bytes left began.first began.failures (Err (Input 0)) (contents c.output) (failed c.output)
         by None none is = (
@@ -371,7 +396,7 @@ module _ {S : Type 0} (contents : S → Option (List ℕ)) (failed : S → ℕ) 
     -- memory was wanting
     call_wanting : (fault : ToolFault) → WantMemory (HasTold contents failed began c) bytes r fault → TellsSo contents failed is_passed_on began c (Err fault) r bytes left
     call_wanting fault wants =
-        subst (λ f. TellsSo contents failed is_passed_on began c (Err f) r bytes left) (sym wants.is_memory) (answered c c r bytes left (Err Memory) wants.given.kept.report_is wants.given.kept.lacks_none (by began.window wants.given.kept.left_are wants.given.kept.is) tt)
+        subst (λ f. TellsSo contents failed is_passed_on began c (Err f) r bytes left) (sym wants.is_memory) (answered c c r bytes left (Err Memory) wants.given.kept.report_is wants.given.kept.lacks_none (by began.window wants.given.kept.left_are wants.given.kept.is) tt tt)
       where
         by : (wanted : Option Window) → LeftAre wanted c.window c.report wants.given.entries → IsToldBy wanted c.report r.at.state.schema wants.given.entries wants.given.kept.text → ShowsSo wanted c.report r.limits bytes left began.first began.failures (Err Memory) (contents c.output) (failed c.output)
         by None none is = (
@@ -478,3 +503,31 @@ module _ {S : Type 0} (contents : S → Option (List ℕ)) (failed : S → ℕ) 
     -- and where nothing was lacking the output has passed on what it accepted
     pub call_passed : c.lacks ≡ None → OnOk answer (is_passed_on c.output)
     call_passed none = told_so.1 none
+
+  -- ---- what a call says of an input with bounds
+
+  module _ (c : Teller S) (none : c.lacks ≡ None) (limits : LimitNumbers) (left : Option (List ℕ)) (bytes : List ℕ) (r : ReaderView) (same : r.limits ≡ limits) (answer : Result (Unit {0}) ToolFault)
+      (driven : Driven (HasTold contents failed began c) (TellsSo contents failed is_passed_on began c) bytes left r answer) where
+    shown_in : ShowsSo began.window began.report limits bytes left began.first began.failures answer (contents c.output) (failed c.output)
+    shown_in =
+        subst (λ l. ShowsOrLacks l began limits bytes left answer (contents c.output) (failed c.output)) none
+        (subst (λ l. ShowsOrLacks c.lacks began l bytes left answer (contents c.output) (failed c.output)) same (call_told c bytes left r answer driven).0)
+
+    through_in : IsThrough (HasEnoughBy began.window began.report limits bytes began.first (contents c.output)) answer r bytes
+    through_in = subst (λ l. IsThrough (HasEnoughBy began.window began.report l bytes began.first (contents c.output)) answer r bytes) same ((call_told c bytes left r answer driven).2 none)
+
+    -- all was told
+    pub all_in : began.window ≡ None → Reports began.report limits bytes left began.first began.failures answer (contents c.output) (failed c.output) × IsThrough ⊥ answer r bytes
+    all_in all = (
+      subst (λ w. ShowsSo w began.report limits bytes left began.first began.failures answer (contents c.output) (failed c.output)) all shown_in,
+      subst (λ w. IsThrough (HasEnoughBy w began.report limits bytes began.first (contents c.output)) answer r bytes) all through_in,
+    )
+
+    -- the rows in the window were
+    pub window_in : (n : Window) → began.window ≡ Some n
+        → ShowsWindow (form_of began.report) (choice_of began.report) n limits bytes left began.first began.failures answer (contents c.output) (failed c.output)
+        × IsThrough (IsEnoughOf (form_of began.report) (choice_of began.report) n limits bytes began.first (contents c.output)) answer r bytes
+    window_in n some = (
+      subst (λ w. ShowsSo w began.report limits bytes left began.first began.failures answer (contents c.output) (failed c.output)) some shown_in,
+      subst (λ w. IsThrough (HasEnoughBy w began.report limits bytes began.first (contents c.output)) answer r bytes) some through_in,
+    )

@@ -42,7 +42,7 @@ open_near {p = p} {b = b} (goes_on {n = m} {s' = s'} {g = g} x xs) o n =
 abbrev pub reached : ReaderView → ℕ
 reached r = r.at.place + length r.at.rest
 
-reached_is : (r : ReaderView) (t : List ℕ) (es : List Entry) → ReaderStands r t es → r.at.verdict ≡ Open → reached r ≡ length t
+pub reached_is : (r : ReaderView) (t : List ℕ) (es : List Entry) → ReaderStands r t es → r.at.verdict ≡ Open → reached r ≡ length t
 reached_is r t es s o = omega (arith, ap length (s.held o), front_place s.front)
 
 -- with each piece less is left that a stream can have

@@ -11,7 +11,8 @@ use Rattle.arrow_stream_reader.specs.Stream.{ReaderView}
 use Rattle.arrow_stream_reader.specs.declared.fault.Fault.{Fault}
 use Rattle.arrow_stream_reader.specs.declared.reader.Verdict.TheVariants.{Open}
 use Rattle.arrowflow_report.specs.Chosen.{AreRows, choice_of, form_of}
-use Rattle.arrowflow_report.specs.Windows.{HaveAll, IsEnoughTold, AreBegun, IsPartCut, IsPartTold, IsShortAt, IsShortOf, ShowsWindow}
+use Rattle.arrowflow_report.specs.Through.{IsThrough}
+use Rattle.arrowflow_report.specs.Windows.{HaveAll, IsEnoughOf, IsEnoughTold, AreBegun, IsPartCut, IsPartTold, IsShortAt, IsShortOf, ShowsWindow}
 use Rattle.arrowflow_report.specs.Reports.{EndsBadly, EndsWell, IsEnding, SendsText}
 use Rattle.arrowflow_report.specs.declared.report.Report.{Report}
 use Rattle.arrowflow_report.specs.declared.report.Report.TheVariants.{Messages, Rows}
@@ -119,6 +120,34 @@ module _ (form : Form) (choice : Choice) (w : Window) (limits : LimitNumbers) (b
     wrote = c.wrote;
   }
 
+  -- the rows are there, and nothing was sent after them
+  enough_sent : IsEnoughTold form choice w first held r bytes piece → (held' : Option (List ℕ)) → Appends held held' [] → IsEnoughOf form choice w limits (bytes ++ piece) first held'
+  enough_sent x held' sent = record {
+    taken = bytes ++ x.taken;
+    rest = x.rest;
+    whole = append_assoc bytes x.taken x.rest ∙ ap (λ y. bytes ++ y) x.whole;
+    standing = standing_of r x.stands.rest;
+    written = record {
+      entries = x.entries;
+      front = subst (λ l. FrontOf l (bytes ++ x.taken) x.entries (standing_of r x.stands.rest)) same x.stands.front;
+      has = x.has;
+      text = x.text;
+      is = x.is;
+      wrote = subst (Appends first held') (append-nil x.text) (Appends-trans first held held' x.text [] x.wrote sent);
+    };
+    there = x.there;
+  }
+
+  -- so no more was wanted, if the output was flushed
+  pub first_enough_through : IsEnoughTold form choice w first held r bytes piece → (held' : Option (List ℕ)) (failed'' : ℕ) (answer : Result (Unit {0}) ToolFault) → SendsText held failed' [] answer held' failed''
+      → IsThrough (IsEnoughOf form choice w limits (bytes ++ piece) first held') answer r (bytes ++ piece)
+  first_enough_through x held' failed'' (Ok done) sent = inr (enough_sent x held' sent.0)
+  first_enough_through x held' failed'' (Err Output) sent = tt
+  first_enough_through x held' failed'' (Err Memory) sent = tt
+  first_enough_through x held' failed'' (Err (Input k)) sent = absurd sent
+  first_enough_through x held' failed'' (Err (Stream f)) sent = absurd sent
+  first_enough_through x held' failed'' (Err (Refused what kind)) sent = absurd sent
+
   -- the rows are there, and the output was flushed
   pub first_enough_flushed : IsEnoughTold form choice w first held r bytes piece → failed' ≡ failed → (held' : Option (List ℕ)) (failed'' : ℕ) (answer : Result (Unit {0}) ToolFault) → SendsText held failed' [] answer held' failed''
       → ShowsWindow form choice w limits (bytes ++ piece) left first start answer held' failed''
@@ -145,24 +174,7 @@ module _ (form : Form) (choice : Choice) (w : Window) (limits : LimitNumbers) (b
       }
 
       by : (answer : Result (Unit {0}) ToolFault) → SendsText held failed' [] answer held' failed'' → ShowsWindow form choice w limits (bytes ++ piece) left first start answer held' failed''
-      by (Ok done) sent = (
-        inl (record {
-          taken = bytes ++ x.taken;
-          rest = x.rest;
-          whole = whole;
-          standing = standing_of r x.stands.rest;
-          written = record {
-            entries = x.entries;
-            front = front_at;
-            has = x.has;
-            text = x.text;
-            is = x.is;
-            wrote = subst (Appends first held') (append-nil x.text) (Appends-trans first held held' x.text [] x.wrote sent.0);
-          };
-          there = x.there;
-        }),
-        sent.1 ∙ so ∙ count,
-      )
+      by (Ok done) sent = (inl (enough_sent x held' sent.0), sent.1 ∙ so ∙ count)
       by (Err Output) sent = (begun sent.0, sent.1 ∙ ap (λ k. k + 1) (so ∙ count))
       by (Err Memory) sent = (begun sent.0, sent.1 ∙ so ∙ count)
       by (Err (Input k)) sent = absurd sent

@@ -21,3 +21,9 @@ pub mod Shown
 pub mod Calls
 pub mod Chosen
 pub mod Columns
+pub mod Bounds
+pub mod Capped
+pub mod Counted
+pub mod Within
+pub mod Through
+pub mod WithinCalls

@@ -10,7 +10,8 @@ use Rattle.arrow_stream_reader.specs.Tables.{tables_of}
 use Rattle.arrowflow_report.specs.Chosen.{AreRows, HaveChosen, choice_of, form_of}
 use Rattle.arrowflow_report.specs.Columns.{BeginWithout}
 use Rattle.arrowflow_report.specs.Reports.{IsEnding, IsTextOf, Reports}
-use Rattle.arrowflow_report.specs.Windows.{AreLeft, IsChosenWithin, ShowsWindow}
+use Rattle.arrowflow_report.specs.Through.{IsThrough}
+use Rattle.arrowflow_report.specs.Windows.{AreLeft, IsChosenWithin, IsEnoughOf, ShowsWindow}
 use Rattle.arrowflow_report.specs.declared.report.Report.{Report}
 use Rattle.arrowflow_report.specs.declared.telling.Teller.{Teller}
 use Rattle.arrowflow_report.specs.declared.tool_fault.ToolFault.{ToolFault}
@@ -55,10 +56,16 @@ ShowsOrLacks None began limits bytes left answer after failed' = ShowsSo began.w
 ShowsOrLacks (Some place) began limits bytes left answer after failed' =
     AreRows began.report × BeginWithout (choice_of began.report) limits bytes place × Appends began.first after [] × (failed' ≡ began.failures)
 
+-- the rows in the window are in the output, and no more are wanted; never if all rows are
+abbrev pub HasEnoughBy : Option Window → Report → LimitNumbers → List ℕ → Option (List ℕ) → Option (List ℕ) → Type 0
+HasEnoughBy None report limits bytes first after = ⊥
+HasEnoughBy (Some w) report limits bytes first after = IsEnoughOf (form_of report) (choice_of report) w limits bytes first after
+
 -- what the answer says of the bytes that were read
 abbrev pub TellsSo : {S : Type 0} → (S → Option (List ℕ)) → (S → ℕ) → (S → Type 0) → TellingBegan → Teller S → Result (Unit {0}) ToolFault → ReaderView → List ℕ → Option (List ℕ) → Type 0
 TellsSo contents failed is_passed_on began c answer r bytes left =
     ShowsOrLacks c.lacks began r.limits bytes left answer (contents c.output) (failed c.output) × (c.lacks ≡ None → OnOk answer (is_passed_on c.output))
+    × (c.lacks ≡ None → IsThrough (HasEnoughBy began.window began.report r.limits bytes began.first (contents c.output)) answer r bytes)
 
 -- what stands last in the text of a stream that ended well: nothing behind an end marker
 abbrev pub IsLastBy : Bool → Report → ℕ → List ℕ → Type 0

@@ -12,6 +12,13 @@ use std::io::Read;
 #[derive(Drop)]
 pub struct ReadFailed(());
 
+impl ReadFailed {
+    /// A read of an input of this crate that failed.
+    pub(crate) fn new() -> ReadFailed {
+        ReadFailed(())
+    }
+}
+
 /// What a stream is read from, piece by piece. Each [`Read`] is one.
 ///
 /// A call that answers that its input could not be read has a failed read to show for it

@@ -11,6 +11,9 @@
 //! One loop reads every input, [`drive`], and gives its messages to a [`Consumer`]: what makes the
 //! text of the schema, what tells lines or rows, a list of batches; a copy in `arrowflow_copy`.
 //!
+//! A [`Bounded`] input has bounds of its whole stream: [`check_within`], [`show_within`] and
+//! [`drive_within`] end before the message that passes one.
+//!
 //! | Notion | Definition |
 //! |---|---|
 //! | what a consumer makes of a message, and of the end | `specs/Consumer.antt`: `Takes`, `Ends` |
@@ -25,6 +28,8 @@
 //! | the rows of a stream that lie in a window | `specs/Windows.antt`: `ShowsWindowOf`, `IsTextWithin` |
 //! | rows that are selected, columns chosen by their names | `specs/Columns.antt`: `ShowsSelection`, `LacksInput`; `specs/Chosen.antt`: `IsChosenText` |
 //! | the lines of messages | `specs/Lines.antt`: `message_line`, `AreLines` |
+//! | the bounds of a whole stream | `specs/Bounds.antt`: `AreWithin`, `Pass`; `specs/Counted.antt`: `HasExcess` |
+//! | what comes of an input with bounds | `specs/Within.antt`: `Within`, `DrivesWithin`; `specs/WithinCalls.antt` |
 //! | how far an input is read | `specs/Reads.antt`: `IsReadWhile` |
 //! | when an input is said to have failed | `specs/Blame.antt`: `BlamesOnly`; `has_failed` of [`Input`] |
 //! | what is said of a fault | `specs/Faults.antt`: `fault_line`, `status_of` |
@@ -34,12 +39,18 @@
 //! what a list of batches does. `Growing` shows the law, `Told` and `Lined` how a text grows, `Sent`
 //! what of it was sent, `Reporting` how that ends, `OfFront` that it is so by the front of all bytes;
 //! `Windows`, `WindowTold`, `WindowReported` the same of the rows in a window, and `Lacking` and
-//! `Chosen` of columns that are asked for.
+//! `Chosen` of columns that are asked for; `Cutting` shows where a stream with bounds is cut,
+//! `Through` and `Bounding` what calls say of one.
 #![tactic(auto)]
 
 mod batches;
+mod bounded;
+mod bounded_reports;
+mod bounds;
+mod capped;
 mod columns;
 mod consumer;
+mod counting;
 mod driver;
 mod escapes;
 mod input;
@@ -59,8 +70,12 @@ mod type_names;
 mod type_words;
 mod what;
 mod window;
+mod within;
 
 pub use arrow_csv::Layout;
+pub use bounded::Bounded;
+pub use bounded_reports::{check_quietly_within, check_within, show_within};
+pub use bounds::{Excess, Measure, WholeLimits};
 pub use columns::{ColumnsFault, Selection};
 pub use consumer::{Consumer, Wants};
 pub use driver::{Progress, drive, take_piece};
@@ -71,3 +86,4 @@ pub use schema_lines::schema_lines_of;
 pub use tool_fault::ToolFault;
 pub use type_words::{TypeWords, format_width, int_words, words_of};
 pub use what::What;
+pub use within::drive_within;

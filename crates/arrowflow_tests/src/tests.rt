@@ -15,3 +15,4 @@ mod limits;
 mod pieces;
 mod session;
 mod told;
+mod totals;

@@ -363,6 +363,63 @@ fn limits_are_those_of_the_line(rt: HostRuntime) {
     }
 }
 
+// The words of a line, and the bounds of rows, messages and bytes of a whole stream that they ask for.
+static TOTALS: [(&[&str], [Option<u64>; 3]); 10] = [
+    (&["arrowflow", "check", "a"], [None, None, None]),
+    (&["arrowflow", "schema", "a"], [None, None, None]),
+    (&["arrowflow", "drill", "a"], [None, None, None]),
+    (
+        &["arrowflow", "check", "a", "--limit-total-rows", "5"],
+        [Some(5), None, None],
+    ),
+    (
+        &["arrowflow", "show", "--limit-messages=0", "a"],
+        [None, Some(0), None],
+    ),
+    (
+        &["arrowflow", "copy", "a", "b", "--limit-bytes", "64K"],
+        [None, None, Some(65_536)],
+    ),
+    (
+        &[
+            "arrowflow",
+            "check",
+            "--limit-bytes=0",
+            "--limit-messages",
+            "2",
+            "--limit-total-rows=3",
+        ],
+        [Some(3), Some(2), Some(0)],
+    ),
+    (
+        &[
+            "arrowflow",
+            "show",
+            "--limit-total-rows=18446744073709551615",
+        ],
+        [Some(18_446_744_073_709_551_615), None, None],
+    ),
+    (
+        &["arrowflow", "show", "--limit-bytes=4611686018427387904"],
+        [None, None, Some(4_611_686_018_427_387_904)],
+    ),
+    (
+        &["arrowflow", "copy", "a", "--in-place", "--limit-bytes=1MB"],
+        [None, None, Some(1_000_000)],
+    ),
+];
+
+#[test]
+fn bounds_of_a_whole_stream_are_those_of_the_line(rt: HostRuntime) {
+    for (words, expected) in &TOTALS {
+        let plan = plan(rt.alloc(), words).expect(&rt, "a plan");
+        assert_eq!(rt; plan.totals.rows, expected[0], "of {words:?}");
+        assert_eq!(rt; plan.totals.messages, expected[1], "of {words:?}");
+        assert_eq!(rt; plan.totals.bytes, expected[2], "of {words:?}");
+        assert!(rt; plan.limits == Limits::standard());
+    }
+}
+
 // The words of a line, and whether they ask for all types.
 static TYPES: [(&[&str], bool); 7] = [
     (&["arrowflow", "schema", "a", "--types", "all"], true),
@@ -385,7 +442,21 @@ fn types_are_those_of_the_line(rt: HostRuntime) {
 }
 
 // The words of a line without a plan, the exit status, and a part of what is printed.
-static OTHERS: [(&[&str], i32, &str); 68] = [
+static OTHERS: [(&[&str], i32, &str); 73] = [
+    (
+        &["arrowflow", "check", "a", "--limit-bytes="],
+        2,
+        "error: the size of '--limit-bytes <N>' is not in 0..=4611686018427387904: \
+         sizes are bytes, or as 64K, 1MiB or 1GB",
+    ),
+    (
+        &["arrowflow", "copy", "a", "b", "--limit-bytes=64k"],
+        2,
+        "--limit-bytes <N>",
+    ),
+    (&["arrowflow", "show", "--limit-total-rows", "1K"], 2, ""),
+    (&["arrowflow", "schema", "--limit-messages=1"], 2, ""),
+    (&["arrowflow", "drill", "a", "--limit-bytes=1"], 2, ""),
     (&["arrowflow", "check", "a", "--types", "floats"], 2, ""),
     (&["arrowflow", "show", "a", "--types"], 2, ""),
     (&["arrowflow", "drill", "a", "--types="], 2, ""),
@@ -497,7 +568,7 @@ static OTHERS: [(&[&str], i32, &str); 68] = [
         &["arrowflow", "check", "a", "--limit-body=2TiB"],
         2,
         "error: the size of '--limit-body <N>' is not in 0..=1099511627776: \
-         sizes are bytes, or as 64K, 1MiB or 2GB\n\nFor more information, try '--help'.",
+         sizes are bytes, or as 64K, 1MiB or 1GB\n\nFor more information, try '--help'.",
     ),
     (
         &["arrowflow", "check", "a", "--limit-body=2k"],

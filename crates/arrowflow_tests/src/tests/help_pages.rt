@@ -40,16 +40,16 @@ Options:
                             there is one file alone
       --json                Print each line as a JSON object
       --limit-metadata <N>  The most bytes of the metadata of one message, as
-                            64K, 1MiB or 2GB
+                            64K, 1MiB or 1GB
                              [default: 67108864]
       --limit-body <N>      The most bytes of the body of one message, as 64K,
-                            1MiB or 2GB
+                            1MiB or 1GB
                              [default: 68719476736]
       --limit-rows <N>      The most rows of a batch, slots of a column, and
                             values of a dictionary [default: 2147483647]
-      --types <types>       The types of the streams that are read: the core, or
-                            all, with floating point, decimals, intervals, maps
-                            and fixed-size lists
+      --types <types>       The types of the streams that are read: the core,
+                            or all, with floating point, decimals, intervals,
+                            maps and fixed-size lists
                              [default: core] [possible values: core, all]
   -h, --help                Print help
 
@@ -71,29 +71,33 @@ Arguments:
              is no FILE if standard input is no terminal
 
 Options:
-  -H, --with-filename       Begin each line with the name of its file, even if
-                            there is one file alone
-      --json                Print each line as a JSON object
-  -q, --quiet               Print no lines but that of a fault: the exit status
-                            says whether a stream is sound
-      --limit-metadata <N>  The most bytes of the metadata of one message, as
-                            64K, 1MiB or 2GB
-                             [default: 67108864]
-      --limit-body <N>      The most bytes of the body of one message, as 64K,
-                            1MiB or 2GB
-                             [default: 68719476736]
-      --limit-rows <N>      The most rows of a batch, slots of a column, and
-                            values of a dictionary [default: 2147483647]
-      --types <types>       The types of the streams that are read: the core, or
-                            all, with floating point, decimals, intervals, maps
-                            and fixed-size lists
-                             [default: core] [possible values: core, all]
-  -h, --help                Print help
+  -H, --with-filename         Begin each line with the name of its file, even if
+                              there is one file alone
+      --json                  Print each line as a JSON object
+  -q, --quiet                 Print no lines but that of a fault: the exit
+                              status says whether a stream is sound
+      --limit-total-rows <N>  The most rows of a whole stream
+      --limit-messages <N>    The most messages of a whole stream
+      --limit-bytes <N>       The most bytes of a whole stream, as 64K or 1MiB
+      --limit-metadata <N>    The most bytes of the metadata of one message, as
+                              64K, 1MiB or 1GB
+                               [default: 67108864]
+      --limit-body <N>        The most bytes of the body of one message, as 64K,
+                              1MiB or 1GB
+                               [default: 68719476736]
+      --limit-rows <N>        The most rows of a batch, slots of a column, and
+                              values of a dictionary [default: 2147483647]
+      --types <types>         The types of the streams that are read: the core,
+                              or all, with floating point, decimals, intervals,
+                              maps and fixed-size lists
+                               [default: core] [possible values: core, all]
+  -h, --help                  Print help
 
 A line has the byte offset of the message, its kind, and the number of its
 columns, values or rows. The lines of several files begin with their names. The
-exit status is 0, 1 if a stream is refused or ends too early, and 2 if a file
-cannot be read, the output cannot be written or an allocation failed.
+exit status is 0, 1 if a stream is refused, ends too early or passes a bound,
+and 2 if a file cannot be read, the output cannot be written or an allocation
+failed.
 
 Example:
   arrowflow check examples/growing_dictionary.arrows
@@ -109,32 +113,35 @@ Arguments:
           FILE if standard input is no terminal
 
 Options:
-  -c, --columns <NAMES>     Print only the columns of these names, with commas
-                            between them, in this order
-      --batch <N>           Print only the rows of batch N, counted from 0
-      --skip <N>            Leave out the first N rows
-  -n, --rows <N>            Print only the first N rows
-      --null <TEXT>         Print TEXT for a null, which is else empty
-      --no-batch            Leave out the first field, the number of the batch
-      --json                Print each row as a JSON object on a line
-      --limit-metadata <N>  The most bytes of the metadata of one message, as
-                            64K, 1MiB or 2GB
-                             [default: 67108864]
-      --limit-body <N>      The most bytes of the body of one message, as 64K,
-                            1MiB or 2GB
-                             [default: 68719476736]
-      --limit-rows <N>      The most rows of a batch, slots of a column, and
-                            values of a dictionary [default: 2147483647]
-      --types <types>       The types of the streams that are read: the core, or
-                            all, with floating point, decimals, intervals, maps
-                            and fixed-size lists
-                             [default: core] [possible values: core, all]
-  -h, --help                Print help
+  -c, --columns <NAMES>       Print only the columns of these names, with commas
+                              between them, in this order
+      --batch <N>             Print only the rows of batch N, counted from 0
+      --skip <N>              Leave out the first N rows
+  -n, --rows <N>              Print only the first N rows
+      --null <TEXT>           Print TEXT for a null, which is else empty
+      --no-batch              Leave out the first field, the number of the batch
+      --json                  Print each row as a JSON object on a line
+      --limit-total-rows <N>  The most rows of a whole stream
+      --limit-messages <N>    The most messages of a whole stream
+      --limit-bytes <N>       The most bytes of a whole stream, as 64K or 1MiB
+      --limit-metadata <N>    The most bytes of the metadata of one message, as
+                              64K, 1MiB or 1GB
+                               [default: 67108864]
+      --limit-body <N>        The most bytes of the body of one message, as 64K,
+                              1MiB or 1GB
+                               [default: 68719476736]
+      --limit-rows <N>        The most rows of a batch, slots of a column, and
+                              values of a dictionary [default: 2147483647]
+      --types <types>         The types of the streams that are read: the core,
+                              or all, with floating point, decimals, intervals,
+                              maps and fixed-size lists
+                               [default: core] [possible values: core, all]
+  -h, --help                  Print help
 
 The first record has the names of the columns, and each row begins with the
 number of its batch, counted from 0. The exit status is 0, 1 if the stream is
-refused or ends too early, and 2 if the file cannot be read, the output cannot
-be written, an allocation failed or there is no such column.
+refused, ends too early or passes a bound, and 2 if the file cannot be read, the
+output cannot be written, an allocation failed or there is no such column.
 
 Example:
   arrowflow show examples/growing_dictionary.arrows
@@ -151,16 +158,16 @@ Arguments:
 
 Options:
       --limit-metadata <N>  The most bytes of the metadata of one message, as
-                            64K, 1MiB or 2GB
+                            64K, 1MiB or 1GB
                              [default: 67108864]
       --limit-body <N>      The most bytes of the body of one message, as 64K,
-                            1MiB or 2GB
+                            1MiB or 1GB
                              [default: 68719476736]
       --limit-rows <N>      The most rows of a batch, slots of a column, and
                             values of a dictionary [default: 2147483647]
-      --types <types>       The types of the streams that are read: the core, or
-                            all, with floating point, decimals, intervals, maps
-                            and fixed-size lists
+      --types <types>       The types of the streams that are read: the core,
+                            or all, with floating point, decimals, intervals,
+                            maps and fixed-size lists
                              [default: core] [possible values: core, all]
   -h, --help                Print help
 
@@ -182,36 +189,39 @@ Arguments:
   [OUT]  Where the new stream goes; - is standard output
 
 Options:
-      --atomic              Leave OUT as it was until IN was read to its end and
-                            is sound; OUT may then be IN
-      --in-place            Write the copy into IN itself, as --atomic does
-      --no-clobber          Do not write a file that exists
-      --fail-downstream     End the copy of a refused stream inside a message,
-                            so that whoever reads OUT fails too
-      --updates <updates>   What is sent of a dictionary that grew: the new
-                            values, or all
-                             [default: delta] [possible values: delta, resend]
-      --align <align>       To how many bytes each buffer is padded
-                             [default: 64] [possible values: 8, 64]
-      --limit-metadata <N>  The most bytes of the metadata of one message, as
-                            64K, 1MiB or 2GB
-                             [default: 67108864]
-      --limit-body <N>      The most bytes of the body of one message, as 64K,
-                            1MiB or 2GB
-                             [default: 68719476736]
-      --limit-rows <N>      The most rows of a batch, slots of a column, and
-                            values of a dictionary [default: 2147483647]
-      --types <types>       The types of the streams that are read: the core, or
-                            all, with floating point, decimals, intervals, maps
-                            and fixed-size lists
-                             [default: core] [possible values: core, all]
-  -h, --help                Print help
+      --atomic                Leave OUT as it was until IN was read to its end
+                              and is sound; OUT may then be IN
+      --in-place              Write the copy into IN itself, as --atomic does
+      --no-clobber            Do not write a file that exists
+      --fail-downstream       End the copy of a refused stream inside a message,
+                              so that whoever reads OUT fails too
+      --updates <updates>     What is sent of a dictionary that grew: the new
+                              values, or all
+                               [default: delta] [possible values: delta, resend]
+      --align <align>         To how many bytes each buffer is padded
+                               [default: 64] [possible values: 8, 64]
+      --limit-total-rows <N>  The most rows of a whole stream
+      --limit-messages <N>    The most messages of a whole stream
+      --limit-bytes <N>       The most bytes of a whole stream, as 64K or 1MiB
+      --limit-metadata <N>    The most bytes of the metadata of one message, as
+                              64K, 1MiB or 1GB
+                               [default: 67108864]
+      --limit-body <N>        The most bytes of the body of one message, as 64K,
+                              1MiB or 1GB
+                               [default: 68719476736]
+      --limit-rows <N>        The most rows of a batch, slots of a column, and
+                              values of a dictionary [default: 2147483647]
+      --types <types>         The types of the streams that are read: the core,
+                              or all, with floating point, decimals, intervals,
+                              maps and fixed-size lists
+                               [default: core] [possible values: core, all]
+  -h, --help                  Print help
 
 The rows stay what they are; the new stream has an end marker. OUT is created,
 and emptied first if it exists; a stream is not copied into its own file without
---in-place or --atomic. The exit status is 0, 1 if the stream is refused, ends too early or
-cannot be written again within the limits, and 2 if IN cannot be read, OUT
-cannot be written or an allocation failed.
+--in-place or --atomic. The exit status is 0, 1 if the stream is refused, ends
+too early, passes a bound or cannot be written again within the limits, and 2 if
+IN cannot be read, OUT cannot be written or an allocation failed.
 
 Example:
   arrowflow copy examples/metadata.arrows - --updates resend | arrowflow check
@@ -236,16 +246,16 @@ Options:
       --align <align>       To how many bytes each buffer is padded
                              [default: 64] [possible values: 8, 64]
       --limit-metadata <N>  The most bytes of the metadata of one message, as
-                            64K, 1MiB or 2GB
+                            64K, 1MiB or 1GB
                              [default: 67108864]
       --limit-body <N>      The most bytes of the body of one message, as 64K,
-                            1MiB or 2GB
+                            1MiB or 1GB
                              [default: 68719476736]
       --limit-rows <N>      The most rows of a batch, slots of a column, and
                             values of a dictionary [default: 2147483647]
-      --types <types>       The types of the streams that are read: the core, or
-                            all, with floating point, decimals, intervals, maps
-                            and fixed-size lists
+      --types <types>       The types of the streams that are read: the core,
+                            or all, with floating point, decimals, intervals,
+                            maps and fixed-size lists
                              [default: core] [possible values: core, all]
   -h, --help                Print help
 

@@ -8,7 +8,7 @@ use Rattle.arrowflow_report.proofs.Driving.{read_while_so}
 use Rattle.arrowflow_copy.specs.Copy.{Copies}
 use Rattle.arrowflow_copy.specs.Copying.{Began, failures_at}
 use Rattle.arrowflow_copy.specs.Target.{IsPassedOn, at_of}
-use Rattle.arrowflow_copy.proofs.Copied.{call_copied, failures_are, held_is}
+use Rattle.arrowflow_copy.proofs.Copied.{call_through, failures_are, held_is}
 use Rattle.arrowflow_copy.proofs.copying.copy.Goals as goal
 
 pub returns-clause-written : goal.returns-clause-written
@@ -25,7 +25,7 @@ returns-clause-written g c =
     let answer = c.drive-copier.result.1 in
     let driven = c.drive-copier.ensures.driven began (refl, refl, record { limits_are = limits_are; counted = refl; written = (refl, refl, refl) }) in
     let at = at_of g.S.Sink.contents g.S.Sink.failed copied.target in
-    let called = call_copied began copied.terms.limits (options_view copied.terms.options) at copied.number (IsPassedOn g.S.Sink.is_passed_on copied.target) driven.0 left c.drive-copier.new.reader answer driven.3 in
+    let called = call_through began copied.terms.limits (options_view copied.terms.options) at copied.number (IsPassedOn g.S.Sink.is_passed_on copied.target) driven.0 left c.drive-copier.new.reader answer driven.3 in
     let held = held_is g.S.Sink.contents g.S.Sink.failed copied.target ∙ ap g.S.Sink.contents (sym c.into_sink.ensures) in
     let failed = failures_are g.S.Sink.contents g.S.Sink.failed copied.target ∙ ap g.S.Sink.failed (sym c.into_sink.ensures) in (
       driven.0,
@@ -49,5 +49,5 @@ returns-clause-passed g c =
     let answer = c.drive-copier.result.1 in
     let driven = c.drive-copier.ensures.driven began (refl, refl, record { limits_are = limits_are; counted = refl; written = (refl, refl, refl) }) in
     let at = at_of g.S.Sink.contents g.S.Sink.failed copied.target in
-    let called = call_copied began copied.terms.limits (options_view copied.terms.options) at copied.number (IsPassedOn g.S.Sink.is_passed_on copied.target) driven.0 left c.drive-copier.new.reader answer driven.3 in
+    let called = call_through began copied.terms.limits (options_view copied.terms.options) at copied.number (IsPassedOn g.S.Sink.is_passed_on copied.target) driven.0 left c.drive-copier.new.reader answer driven.3 in
     subst (λ s. OnOk answer (g.S.Sink.is_passed_on s)) (sym c.into_sink.ensures) called.1

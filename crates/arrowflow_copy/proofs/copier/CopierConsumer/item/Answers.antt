@@ -1,9 +1,9 @@
-use Rattle.std.proofs.Common.{◌<◌, sym, subst}
+use Rattle.std.proofs.Common.{◌<◌, ◌++◌, sym, subst}
 use Rattle.arrow_stream_reader.specs.Views.{given}
 use Rattle.arrow_stream_writer.specs.Shown.{options_view}
 use Rattle.arrowflow_copy.specs.Copying.{TakesItem}
 use Rattle.arrowflow_copy.specs.Target.{at_of}
-use Rattle.arrowflow_copy.proofs.Copied.{message_copied, message_stopped, takes_failures}
+use Rattle.arrowflow_copy.proofs.Copied.{item_through, message_copied, message_stopped, takes_failures}
 use Rattle.arrowflow_copy.proofs.copier.CopierConsumer.item.Goals as goal
 
 pub returns-in-Ok-clause-takes : goal.returns-in-Ok-clause-takes
@@ -40,4 +40,4 @@ returns-clause-takes g c began old t es piece n comes x left =
     let new = c.args.reader.now in
     let fault = c.in-Err.fault in
     let takes = subst (λ a. TakesItem own o new.at.state.schema (given c.args.item) at copier.number a at' number') c.in-Err.is c.take-copier.ensures.takes in
-    (message_stopped began own o at copier.number c.args._place c.args.item old new t es piece n comes x at' number' fault takes left, tt)
+    (message_stopped began own o at copier.number c.args._place c.args.item old new t es piece n comes x at' number' fault takes left, tt, item_through own o new.at.state.schema (given c.args.item) at copier.number fault at' number' takes new (t ++ piece))
