@@ -581,18 +581,18 @@ through_by f what kind r bytes is = subst (λ g. IsThrough ⊥ (Err g) r bytes) 
 pub end_through : (at : At) (answer : Result (Unit {0}) ToolFault) (at' : At) → Closes at answer at' → (r : ReaderView) (bytes : List ℕ) → StandsAt bytes r → IsThrough ⊥ answer r bytes
 end_through (waiting held failed) answer at' z r bytes here = subst (λ a. IsThrough ⊥ a r bytes) (sym z.0) (inl here)
 end_through (writing w) (Ok done) at' z r bytes here = inl here
-end_through (writing w) (Err f) at' z r bytes here = through_by f Finish z.0 r bytes z.2.0
+end_through (writing w) (Err f) at' z r bytes here = through_by f Finish z.0 r bytes z.2
 
 first_through : (limits : LimitNumbers) (o : Options) (schema : Option SchemaShape) (held : Option (List ℕ)) (failed : ℕ) (f : ToolFault) (at' : At) → TakesFirst limits o schema held failed (Err f) at' → (r : ReaderView) (bytes : List ℕ) → IsThrough ⊥ (Err f) r bytes
 first_through limits o None held failed f at' z r bytes = let q = z.0 in absurd (cc)
-first_through limits o (Some shape) held failed f at' z r bytes = through_by f Start z.1.0 r bytes z.1.3.0
+first_through limits o (Some shape) held failed f at' z r bytes = through_by f Start z.1.0 r bytes z.1.3
 
 one_through : (w : writers.WriterView) (g : Given) (number : ℕ) (f : ToolFault) (at' : At) (number' : ℕ) → TakesOne w g number (Err f) at' number' → (r : ReaderView) (bytes : List ℕ) → IsThrough ⊥ (Err f) r bytes
 one_through w schema_given number f at' number' z r bytes = let q = z.0 in absurd (cc)
 one_through w (dictionary_given id) number f at' number' z r bytes = let q = z.0 in absurd (cc)
 one_through w ended number f at' number' z r bytes = let q = z.0 in absurd (cc)
 one_through w (batch_given t) number f at' number' (inl z) r bytes = subst (λ g. IsThrough ⊥ (Err g) r bytes) (sym z.0) tt
-one_through w (batch_given t) number f at' number' (inr z) r bytes = through_by f (Batch number) z.0 r bytes z.2.0
+one_through w (batch_given t) number f at' number' (inr z) r bytes = through_by f (Batch number) z.0 r bytes z.2
 
 -- a message that was not written says nothing of the end
 pub item_through : (limits : LimitNumbers) (o : Options) (schema : Option SchemaShape) (g : Given) (at : At) (number : ℕ) (f : ToolFault) (at' : At) (number' : ℕ) → TakesItem limits o schema g at number (Err f) at' number' → (r : ReaderView) (bytes : List ℕ) → IsThrough ⊥ (Err f) r bytes
@@ -601,7 +601,7 @@ item_through limits o schema g (writing w) number f at' number' z r bytes = one_
 
 module _ (began : Began) (own : LimitNumbers) (o : Options) (at : At) (number : ℕ) (passed : Type 0) (bytes : List ℕ) (left : Option (List ℕ)) (r : ReaderView) where
   -- what the consumer answers, and of which bytes
-  abbrev full : Result (Unit {0}) ToolFault → ReaderView → List ℕ → Option (List ℕ) → Type 0
+  abbrev pub full : Result (Unit {0}) ToolFault → ReaderView → List ℕ → Option (List ℕ) → Type 0
   full answer q t rest = HasAnswered began at answer t rest × OnOk answer passed × IsThrough ⊥ answer q t
 
   abbrev short : Result (Unit {0}) ToolFault → ReaderView → List ℕ → Option (List ℕ) → Type 0

@@ -70,8 +70,8 @@ impl SizeOption {
         ensures { result ≡ least_size self }
     {
         match self {
-            SizeOption::LimitMetadata | SizeOption::LimitBody | SizeOption::LimitBytes => 0,
-            SizeOption::Bytes => 0,
+            SizeOption::LimitMetadata | SizeOption::LimitBody | SizeOption::Bytes => 0,
+            SizeOption::LimitBytes => 0,
             SizeOption::Piece => 1,
         }
     }
@@ -83,7 +83,8 @@ impl SizeOption {
         match self {
             SizeOption::LimitMetadata => Limits::METADATA_CEILING,
             SizeOption::LimitBody => Limits::BODY_CEILING,
-            SizeOption::LimitBytes | SizeOption::Bytes => MOST_BYTES,
+            SizeOption::LimitBytes => MOST_BYTES,
+            SizeOption::Bytes => MOST_BYTES,
             SizeOption::Piece => MOST_PIECE,
         }
     }
