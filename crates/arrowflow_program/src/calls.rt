@@ -44,7 +44,9 @@ impl Ended {
         held: &Held<W>,
     ) -> Ended {
         let Ended {
-            answer, is_closed, ..
+            answer,
+            is_closed,
+            ..
         } = Ended::of(answer, held);
         let excess = match answer {
             Err(ToolFault::Input(_)) => excess,
@@ -125,9 +127,7 @@ impl<I: Read + Drop, W: Write + Drop> Ends<I, W> {
         let excess = input.excess();
         let ended = match answer {
             Ok(()) => Ok(Ended::of(Ok(()), &self.held)),
-            Err(ColumnsFault::Tool(fault)) => {
-                Ok(Ended::within(Err(fault), excess, &self.held))
-            }
+            Err(ColumnsFault::Tool(fault)) => { Ok(Ended::within(Err(fault), excess, &self.held)) }
             Err(ColumnsFault::Lacks(place)) => Err(place),
         };
         (input.into_inner().into_inner(), ended)

@@ -8,7 +8,8 @@ use crate::labelled::Labelled;
 use crate::terminals::Terminals;
 use crate::watched::Watched;
 use crate::{
-    Bounds, FAILED, FINE, REFUSED, named_or_standard, out_of_memory, print_lines, progress_of, status_of, tell,
+    Bounds, FAILED, FINE, REFUSED, named_or_standard, out_of_memory, print_lines, progress_of,
+    status_of, tell,
 };
 use arrowflow::{
     Bounded, Excess, Files as FileNames, Limits, ToolFault, check_quietly_within, schema_text,
