@@ -159,7 +159,13 @@ fn told(
 fn bounds_that_are_kept_and_passed(rt: HostRuntime) {
     for (call, whole, expected) in &TOLD {
         for piece in [1, 100, 65_536] {
-            let text = told(&rt, rt.alloc(), *call, (GROWING.as_slice(), piece), bounds(*whole));
+            let text = told(
+                &rt,
+                rt.alloc(),
+                *call,
+                (GROWING.as_slice(), piece),
+                bounds(*whole),
+            );
             assert_eq!(rt; text.as_str(), *expected, "{whole:?} in pieces of {piece}");
         }
     }
