@@ -25,7 +25,7 @@ enum Call {
 }
 
 /// These bounds.
-const fn bounds(rows: Option<u64>, messages: Option<u64>, bytes: Option<u64>) -> WholeLimits {
+fn bounds([rows, messages, bytes]: [Option<u64>; 3]) -> WholeLimits {
     WholeLimits {
         rows,
         messages,
@@ -33,40 +33,56 @@ const fn bounds(rows: Option<u64>, messages: Option<u64>, bytes: Option<u64>) ->
     }
 }
 
-const ROWS_4: WholeLimits = bounds(Some(4), None, None);
+const ROWS_4: [Option<u64>; 3] = [Some(4), None, None];
 
-const ROWS_5: WholeLimits = bounds(Some(5), None, None);
+const ROWS_5: [Option<u64>; 3] = [Some(5), None, None];
 
-const ROWS_7: WholeLimits = bounds(Some(7), None, None);
+const ROWS_7: [Option<u64>; 3] = [Some(7), None, None];
 
-const MESSAGES_6: WholeLimits = bounds(None, Some(6), None);
+const MESSAGES_6: [Option<u64>; 3] = [None, Some(6), None];
 
-const MESSAGES_7: WholeLimits = bounds(None, Some(7), None);
+const MESSAGES_7: [Option<u64>; 3] = [None, Some(7), None];
 
-const BYTES_1367: WholeLimits = bounds(None, None, Some(1_367));
+const BYTES_1367: [Option<u64>; 3] = [None, None, Some(1_367)];
 
-const BYTES_1368: WholeLimits = bounds(None, None, Some(1_368));
+const BYTES_1368: [Option<u64>; 3] = [None, None, Some(1_368)];
 
-const BYTES_1376: WholeLimits = bounds(None, None, Some(1_376));
+const BYTES_1376: [Option<u64>; 3] = [None, None, Some(1_376)];
 
-const NOTHING: WholeLimits = bounds(Some(0), Some(0), Some(0));
+const NOTHING: [Option<u64>; 3] = [Some(0), Some(0), Some(0)];
 
 const TWO_BATCHES: &str = "batch,k\n0,a\n0,b\n0,c\n1,e\n1,a\n";
 
-// A call, the bounds of the growing dictionary, and what is told of it.
-static TOLD: [(Call, WholeLimits, &str); 17] = [
-    (Call::Quiet, bounds(None, None, None), ""),
+// A call, the bounds of rows, messages and bytes of the growing dictionary, and what is told of it.
+static TOLD: [(Call, [Option<u64>; 3], &str); 17] = [
+    (Call::Quiet, [None, None, None], ""),
     (Call::Quiet, ROWS_7, ""),
     (Call::Quiet, MESSAGES_7, ""),
     (Call::Quiet, BYTES_1376, ""),
     (Call::Show, ROWS_7, LETTERS),
     (Call::Quiet, ROWS_4, "limit at byte 816: more than 4 rows"),
     (Call::Quiet, ROWS_5, "limit at byte 1208: more than 5 rows"),
-    (Call::Quiet, MESSAGES_6, "limit at byte 1208: more than 6 messages"),
-    (Call::Quiet, BYTES_1367, "limit at byte 1208: more than 1367 bytes"),
-    (Call::Quiet, BYTES_1368, "limit at byte 1368: more than 1368 bytes"),
+    (
+        Call::Quiet,
+        MESSAGES_6,
+        "limit at byte 1208: more than 6 messages",
+    ),
+    (
+        Call::Quiet,
+        BYTES_1367,
+        "limit at byte 1208: more than 1367 bytes",
+    ),
+    (
+        Call::Quiet,
+        BYTES_1368,
+        "limit at byte 1368: more than 1368 bytes",
+    ),
     (Call::Quiet, NOTHING, "limit at byte 0: more than 0 bytes"),
-    (Call::Show, ROWS_5, "batch,k\n0,a\n0,b\n0,c\n1,e\n1,a\nlimit at byte 1208: more than 5 rows"),
+    (
+        Call::Show,
+        ROWS_5,
+        "batch,k\n0,a\n0,b\n0,c\n1,e\n1,a\nlimit at byte 1208: more than 5 rows",
+    ),
     (Call::Show, NOTHING, "limit at byte 0: more than 0 bytes"),
     (Call::First(5), ROWS_5, TWO_BATCHES),
     (Call::First(5), MESSAGES_6, TWO_BATCHES),
@@ -77,7 +93,7 @@ static TOLD: [(Call, WholeLimits, &str); 17] = [
     ),
     (
         Call::Check,
-        bounds(Some(2), Some(3), None),
+        [Some(2), Some(3), None],
         "at 0: schema, 1 columns\nat 200: dictionary 0, now 3 values\nlimit at byte 424: more than 2 rows",
     ),
 ];
@@ -143,7 +159,13 @@ fn told(
 fn bounds_that_are_kept_and_passed(rt: HostRuntime) {
     for (call, whole, expected) in &TOLD {
         for piece in [1, 100, 65_536] {
-            let text = told(&rt, rt.alloc(), *call, (GROWING.as_slice(), piece), *whole);
+            let text = told(
+                &rt,
+                rt.alloc(),
+                *call,
+                (GROWING.as_slice(), piece),
+                bounds(*whole),
+            );
             assert_eq!(rt; text.as_str(), *expected, "{whole:?} in pieces of {piece}");
         }
     }
@@ -164,7 +186,7 @@ static CUT: [(usize, u64, &str); 6] = [
 fn ends_that_are_those_of_the_bound(rt: HostRuntime) {
     for (end, most, expected) in &CUT {
         let bytes = &ONE_BATCH[..(*end).min(336)];
-        let whole = bounds(None, None, Some(*most));
+        let whole = bounds([None, None, Some(*most)]);
         let text = told(&rt, rt.alloc(), Call::Quiet, (bytes, 7), whole);
         assert_eq!(rt; text.as_str(), *expected, "{end} bytes, {most} allowed");
     }
@@ -173,7 +195,7 @@ fn ends_that_are_those_of_the_bound(rt: HostRuntime) {
 #[test]
 fn copies_within_bounds(rt: HostRuntime) {
     let (alloc, limits) = (rt.alloc(), Limits::standard());
-    let mut input = Bounded::new(Trickle::new(GROWING.as_slice(), 100, None), ROWS_5);
+    let mut input = Bounded::new(Trickle::new(GROWING.as_slice(), 100, None), bounds(ROWS_5));
     let output = Counted::new(Vec::new(alloc));
     let (output, answer) = copy_within(alloc, &mut input, output, NARROW, &limits);
     assert!(rt; answer.is_err());
@@ -184,7 +206,7 @@ fn copies_within_bounds(rt: HostRuntime) {
     };
     assert_eq!(rt; input.excess(), Some(expected));
     assert_eq!(rt; output.into_inner().as_slice(), &GROWING[..976]);
-    let mut input = Bounded::new(Trickle::new(GROWING.as_slice(), 100, None), ROWS_7);
+    let mut input = Bounded::new(Trickle::new(GROWING.as_slice(), 100, None), bounds(ROWS_7));
     let output = Counted::new(Vec::new(alloc));
     let (output, answer) = copy_within(alloc, &mut input, output, NARROW, &limits);
     assert!(rt; answer.is_ok());
