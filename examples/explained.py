@@ -12,6 +12,7 @@ body, in which each buffer of a field is drawn, lacks it. A stream of which a me
 import pathlib
 import subprocess
 import sys
+import textwrap
 
 sys.dont_write_bytecode = True
 TOP = pathlib.Path(__file__).resolve().parent.parent
@@ -26,6 +27,7 @@ from type_table import BY_CODE, FIXED_LISTS, NULLS, STRUCTS, WITH_OFFSETS, LISTS
 DEFAULT_WAY = 2
 MOST_BODY = 2 ** 20
 SHOWN = 30
+WIDTH = 80
 
 
 class TooLong(Exception):
@@ -106,9 +108,9 @@ class Measured(copied.Copier):
 
 
 def explained(held, types):
-    """The text, or None of a stream that is refused."""
+    """The text, or None of a stream that is refused. A line that is too long goes on in the next one."""
     reader = Measured(held, types)
-    return None if reader.run() else "".join(it + "\n" for it in reader.summary())
+    return None if reader.run() else "".join(textwrap.fill(it, WIDTH, subsequent_indent="  ", break_long_words=False, break_on_hyphens=False) + "\n" for it in reader.summary())
 
 
 def streams():

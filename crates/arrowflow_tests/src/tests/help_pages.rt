@@ -195,14 +195,14 @@ Options:
       --no-clobber            Do not write a file that exists
       --fail-downstream       End the copy of a refused stream inside a message,
                               so that whoever reads OUT fails too
+      --limit-total-rows <N>  The most rows of a whole stream
+      --limit-messages <N>    The most messages of a whole stream
+      --limit-bytes <N>       The most bytes of a whole stream, as 64K or 1MiB
       --updates <updates>     What is sent of a dictionary that grew: the new
                               values, or all
                                [default: delta] [possible values: delta, resend]
       --align <align>         To how many bytes each buffer is padded
                                [default: 64] [possible values: 8, 64]
-      --limit-total-rows <N>  The most rows of a whole stream
-      --limit-messages <N>    The most messages of a whole stream
-      --limit-bytes <N>       The most bytes of a whole stream, as 64K or 1MiB
       --limit-metadata <N>    The most bytes of the metadata of one message, as
                               64K, 1MiB or 1GB
                                [default: 67108864]
