@@ -147,7 +147,10 @@ fn size_if_any(matches: &ArgMatches<'_>, option: SizeOption) -> Result<Option<u6
         (LacksGiven option (rows_of (found_of matches.now))) }
 {
     match matches.get_str(option.name()) {
-        Some(_) => Ok(Some(size_of(matches, option)?)),
+        Some(_) => match size_of(matches, option) {
+            Ok(size) => Ok(Some(size)),
+            Err(misuse) => Err(misuse),
+        },
         None => Ok(None),
     }
 }
