@@ -1,6 +1,6 @@
 """The crates by layer, out of crates.txt: each above all that it uses, with a line to those of them that no other line leads to.
 
-Crates of tests are left out. A line that goes past layers has a point in each of them, so that no box lies on it; what stands in a layer
+Crates of tests are left out. A line that goes past layers has a point in each of them, so that no box lies on it; what is in a layer
 is ordered so that few lines cross, and is moved to where its lines lead, as far as its neighbours let it.
 """
 import os
@@ -46,7 +46,7 @@ def is_front(name):
 
 
 class Graph:
-    """What stands in each layer: crates, and points (line, layer) of lines that go past it; and who is next to whom."""
+    """What is in each layer: crates, and points (line, layer) of lines that go past it; and who is next to whom."""
 
     def __init__(self, uses):
         self.rows = [[] for _ in range(1 + max(layer(it, uses) for it in uses))]
@@ -68,7 +68,7 @@ class Graph:
         self.lines.append(points)
 
     def order(self):
-        """Orders each layer by where the lines of what stands in it lead, and keeps the order with the fewest crossings."""
+        """Orders each layer by where the lines of what is in it lead, and keeps the order with the fewest crossings."""
         best, fewest = [*map(list, self.rows)], self.crossings()
         for turn in range(ROUNDS):
             rows, near = (self.rows[1:], self.down) if turn % 2 else (self.rows[-2::-1], self.up)

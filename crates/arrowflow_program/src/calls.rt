@@ -37,7 +37,7 @@ impl Ended {
         }
     }
 
-    /// The same of a call over an input with bounds. If the output failed that is told, and no bound.
+    /// The same of a call over an input with bounds. If the output failed the answer says so, and names no bound.
     fn within<W: Write + Drop>(
         answer: Result<(), ToolFault>,
         excess: Option<Excess>,

@@ -1,4 +1,4 @@
--- A stream with bounds that is told message by message: what a call says of it.
+-- A stream with bounds, message by message: what a call says of it.
 use Rattle.std.proofs.Common.{◌≡◌, ℕ, List, [], Option, None, Some, Result, Ok, Err, ◌⊎◌, refl, sym, ◌∙◌, subst}
 use Rattle.std.specs.Prelude.{IfSome, OnOk}
 use Rattle.arrow_types.specs.Limits.{LimitNumbers}

@@ -23,12 +23,12 @@ use Rattle.arrowflow_report.proofs.Windows.{not_there}
 use Rattle.arrowflow_report.proofs.Driving.{standing_of}
 use Rattle.arrowflow_report.proofs.Sent.{begun_all, begun_behind}
 
--- nothing stands behind rows
+-- nothing follows the rows
 pub no_ending : (report : Report) → AreRows report → (place : ℕ) (text : List ℕ) → IsEnding report place text → text ≡ []
 no_ending (Rows layout) e place text is = is
 no_ending Messages e place text is = absurd e
 
--- the reader stands behind all the bytes that were read, and more rows are wanted
+-- the reader has read all the bytes, and more rows are wanted
 module _ (w : Window) (report : Report) (is_rows : AreRows report) (limits : LimitNumbers) (bytes : List ℕ) (left first : Option (List ℕ)) (start : ℕ) (held : Option (List ℕ)) (number failed : ℕ) (window : Option Window) (r : ReaderView)
     (same : r.limits ≡ limits) (count : failed ≡ start) (es : List Entry) (x : IsPartTold (form_of report) (choice_of report) w first held number window r bytes es) where
   abbrev e : Standing
@@ -92,7 +92,7 @@ module _ (w : Window) (report : Report) (is_rows : AreRows report) (limits : Lim
   pub first_badly : (fault : Fault) → EndsBadly left e fault → ShowsWindow (form_of report) (choice_of report) w limits bytes left first start (Err (Stream fault)) held failed
   first_badly fault badly = ((e, written_by held x.wrote, badly), count)
 
-  -- what stands behind the last message was not told to its end: nothing stands behind rows
+  -- what follows the last message was not written to its end: nothing follows the rows
   pub ending_cut : (ending : List ℕ) → IsEnding report r.at.place ending → (held' : Option (List ℕ)) → AcceptsBeginning held held' ending → AreBegun (form_of report) (choice_of report) w limits bytes first held'
   ending_cut ending is held' h =
       let none = no_ending report is_rows r.at.place ending is in

@@ -18,29 +18,21 @@
 //! |---|---|
 //! | what a consumer makes of a message, and of the end | `specs/Consumer.antt`: `Takes`, `Ends` |
 //! | what comes of an input, and of a piece | `specs/Driver.antt`: `Drives`, `TakesPiece` |
-//! | what stands in an output so far; batches that are kept | `specs/Telling.antt`: `HasTold`; `specs/Kept.antt`: `HasKept` |
+//! | what an output has so far; batches that are kept | `specs/Telling.antt`: `HasTold`; `specs/Kept.antt`: `HasKept` |
 //! | what is received of bytes | `specs/Session.antt`: `Receives`; `specs/Pieces.antt`: `Feeds` |
-//! | the text of a schema | `specs/SchemaText.antt`: `schema_lines`; `specs/TypeNames.antt`; `specs/Escapes.antt` |
+//! | the text of a schema, what an input answers with it | `specs/SchemaText.antt`: `schema_lines`; `specs/SchemaCall.antt`: `AnswersInput`; `specs/TypeNames.antt`; `specs/Escapes.antt` |
 //! | the names and the format strings of types | `specs/TypeWords.antt`: `words_of`, `type_name`, `format_of` |
-//! | what an input answers with it | `specs/SchemaCall.antt`: `AnswersInput` |
 //! | what is written of a stream, and how that ends | `specs/Reports.antt`: `ReportsInput`; `specs/OfFront.antt`: `IsBegunOf`; `specs/Shown.antt`: `IsTextAt` |
 //! | what a check that writes nothing says of an input | `specs/Quiet.antt`: `ChecksInput` |
-//! | the rows of a stream that lie in a window | `specs/Windows.antt`: `ShowsWindowOf`, `IsTextWithin` |
-//! | rows that are selected, columns chosen by their names | `specs/Columns.antt`: `ShowsSelection`, `LacksInput`; `specs/Chosen.antt`: `IsChosenText` |
+//! | rows in a window; rows that are selected, columns chosen by their names | `specs/Windows.antt`: `ShowsWindowOf`, `IsTextWithin`; `specs/Columns.antt`: `ShowsSelection`, `LacksInput`; `specs/Chosen.antt`: `IsChosenText` |
 //! | the lines of messages | `specs/Lines.antt`: `message_line`, `AreLines` |
-//! | the bounds of a whole stream | `specs/Bounds.antt`: `AreWithin`, `Pass`; `specs/Counted.antt`: `HasExcess` |
-//! | what comes of an input with bounds | `specs/Within.antt`: `Within`, `DrivesWithin`; `specs/WithinCalls.antt` |
-//! | how far an input is read | `specs/Reads.antt`: `IsReadWhile` |
-//! | when an input is said to have failed | `specs/Blame.antt`: `BlamesOnly`; `has_failed` of [`Input`] |
-//! | what is said of a fault | `specs/Faults.antt`: `fault_line`, `status_of` |
+//! | the bounds of a whole stream, what comes of an input with them | `specs/Bounds.antt`: `AreWithin`, `Pass`; `specs/Counted.antt`: `HasExcess`; `specs/Within.antt`: `Within`, `DrivesWithin`; `specs/WithinCalls.antt` |
+//! | how far an input is read; when it is said to have failed | `specs/Reads.antt`: `IsReadWhile`; `specs/Blame.antt`: `BlamesOnly`; `has_failed` of [`Input`] |
+//! | the line and the status of a fault | `specs/Faults.antt`: `fault_line`, `status_of` |
 //!
 //! Of the proofs, `Driving` shows the loop for any consumer, `Feeding` how a reader goes along its
-//! pieces, `Reading` that the loop ends; `Messages` what a teller makes of its messages, and `Kept`
-//! what a list of batches does. `Growing` shows the law, `Told` and `Lined` how a text grows, `Sent`
-//! what of it was sent, `Reporting` how that ends, `OfFront` that it is so by the front of all bytes;
-//! `Windows`, `WindowTold`, `WindowReported` the same of the rows in a window, and `Lacking` and
-//! `Chosen` of columns that are asked for; `Cutting` shows where a stream with bounds is cut,
-//! `Through` and `Bounding` what calls say of one.
+//! pieces, `Messages` what a teller makes of its messages, `Growing` the law, `OfFront` that a text is
+//! so by the front of all bytes; `Cutting` shows where a stream with bounds is cut.
 #![tactic(auto)]
 
 mod batches;

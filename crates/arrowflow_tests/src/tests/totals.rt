@@ -53,7 +53,7 @@ const NOTHING: [Option<u64>; 3] = [Some(0), Some(0), Some(0)];
 
 const TWO_BATCHES: &str = "batch,k\n0,a\n0,b\n0,c\n1,e\n1,a\n";
 
-// A call, the bounds of rows, messages and bytes of the growing dictionary, and what is told of it.
+// A call, the bounds of rows, messages and bytes of the growing dictionary, and the line of it.
 static TOLD: [(Call, [Option<u64>; 3], &str); 17] = [
     (Call::Quiet, [None, None, None], ""),
     (Call::Quiet, ROWS_7, ""),
@@ -171,7 +171,7 @@ fn bounds_that_are_kept_and_passed(rt: HostRuntime) {
     }
 }
 
-// How far the bytes of one batch go, how many are allowed, and what is told: an end is none of the
+// How far the bytes of one batch go, how many are allowed, and the line: an end is none of the
 // bound, and what comes after the end marker is not looked at.
 static CUT: [(usize, u64, &str); 6] = [
     (327, 327, "1 fault at byte 152: Truncated"),
