@@ -1,11 +1,11 @@
-/* The calls of arrowflow.h over those that are proved: NULL is kept out, and a handle is kept in memory that
- * the caller has a pointer to. */
+/* The calls of arrowflow.h over those that are proved: NULL is replaced by valid pointers, and a handle is kept
+ * in memory that the caller has a pointer to. */
 #include "proved.h"
 
 #include <stdio.h>
 #include <stdlib.h>
 
-/* ---- NULL, which an empty vector's data may be ---- */
+/* ---- NULL, which the data pointer of an empty vector may be ---- */
 
 static const uint8_t *some(const uint8_t *bytes) {
     static const uint8_t none = 0;
@@ -26,7 +26,7 @@ static const size_t *some_path(const size_t *path) {
 
 const char *arrowflow_version(void) { return ARROWFLOW_VERSION; }
 
-/* A kind by its name, and what it means. */
+/* A kind with its name and its meaning. */
 struct word {
     uint32_t kind;
     const char *name, *meaning;
@@ -122,7 +122,8 @@ size_t arrowflow_shown_name(const arrowflow_reader *reader, const size_t *path, 
     return size;
 }
 
-/* A column's name as a sentence has it. Returns its length, or -1 if an allocation failed: the schema is a sound one. */
+/* Writes a column's name as it is in a sentence. Returns its length, or -1 if an allocation failed: the schema
+ * is valid. */
 static int name_of(const uint8_t *bytes, size_t len, arrowflow_limits limits, size_t column, char name[NAME_ROOM]) {
     arrowflow_reader *reader;
     arrowflow_reader_open(limits, &reader);
@@ -233,7 +234,7 @@ arrowflow_step arrowflow_reader_read(arrowflow_reader *reader, const uint8_t *pi
     return reader == NULL ? none : arrowflow_proved_reader_read(&reader->handle, some(piece), len);
 }
 
-/* The handle of a reader that a call leaves as it is, or of none. */
+/* The handle of a reader that the call does not change, or of no reader. */
 static arrowflow_handle handle_of(const arrowflow_reader *reader) { return reader == NULL ? closed : reader->handle; }
 
 arrowflow_fault arrowflow_reader_end(const arrowflow_reader *reader) {

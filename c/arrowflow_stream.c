@@ -20,27 +20,27 @@ enum { PIECE = 65536, ALIGNMENT = 64, ERROR_ROOM = 256, MOST_BUFFERS = 3, SPARES
 
 /* ---- what the arrays and the schemas own ---- */
 
-/* The bytes of a buffer. Arrays of one dictionary own it together: each has a front of them, and the stream
- * alone appends after the longest. */
+/* The bytes of a buffer. The arrays of one dictionary own it together: each of them sees a prefix of it, and
+ * only the stream appends after the longest one. */
 struct block {
     atomic_size_t owners;
     size_t room; /* a multiple of ALIGNMENT */
     uint8_t *at;
 };
 
-/* What an array owns besides: its children lie in it, and its dictionary after them, and then the table
- * of the children. */
+/* What an array owns besides its buffers: its children, then its dictionary, and then the table of pointers to
+ * the children. */
 struct node {
-    struct block *blocks[MOST_BUFFERS]; /* of each buffer, or NULL */
+    struct block *blocks[MOST_BUFFERS]; /* for each buffer, or NULL */
     const void *buffers[MOST_BUFFERS];
     struct ArrowArray below[];
 };
 
-static void let_go(struct block *block) {
+static void release_block(struct block *block) {
     if (block != NULL && atomic_fetch_sub_explicit(&block->owners, 1, memory_order_acq_rel) == 1) free(block);
 }
 
-/* Releases an array that was not moved out or never made. */
+/* Releases an array unless it was moved out or never made. */
 static void drop(struct ArrowArray *array) {
     if (array->release != NULL) array->release(array);
 }
@@ -49,12 +49,12 @@ static void release_array(struct ArrowArray *array) {
     struct node *node = array->private_data;
     for (int64_t k = 0; k < array->n_children; k++) drop(array->children[k]);
     if (array->dictionary != NULL) drop(array->dictionary);
-    for (size_t k = 0; k < MOST_BUFFERS; k++) let_go(node->blocks[k]);
+    for (size_t k = 0; k < MOST_BUFFERS; k++) release_block(node->blocks[k]);
     free(node);
     array->release = NULL;
 }
 
-/* Makes an array of no slots and no buffers, whose children and dictionary are released ones. */
+/* Makes an array without slots and buffers. Its children and its dictionary are marked as released. */
 static bool new_array(struct ArrowArray *out, size_t children, bool has_dictionary) {
     size_t below = children + has_dictionary;
     struct node *node = calloc(1, sizeof *node + below * sizeof *out + children * sizeof(struct ArrowArray *));
@@ -70,7 +70,7 @@ static bool new_array(struct ArrowArray *out, size_t children, bool has_dictiona
     return true;
 }
 
-/* The size that a buffer takes with its padding, which is one of padding at least. */
+/* The size of a buffer with its padding: a multiple of ALIGNMENT, and not 0. */
 static size_t padded(size_t size) {
     return size == 0 ? ALIGNMENT : (size + ALIGNMENT - 1) / ALIGNMENT * ALIGNMENT;
 }
@@ -85,8 +85,8 @@ static struct block *new_block(size_t room) {
     return block;
 }
 
-/* Makes another owner of an array's buffers, with children of its own. It has no dictionary. Where it fails to
- * allocate, what there is of it is still to be released. */
+/* Makes another owner of an array's buffers, with its own children and without a dictionary. If an allocation
+ * fails, the part that was made still has to be released. */
 static bool share(const struct ArrowArray *from, struct ArrowArray *out) {
     const struct node *of = from->private_data;
     if (!new_array(out, (size_t)from->n_children, false)) return false;
@@ -103,7 +103,7 @@ static bool share(const struct ArrowArray *from, struct ArrowArray *out) {
     return true;
 }
 
-/* A schema owns one block: its children, its dictionary, the table of the children and its texts. */
+/* A schema owns one block: its children, its dictionary, the table of pointers to the children and its texts. */
 static void release_schema(struct ArrowSchema *schema) {
     for (int64_t k = 0; k < schema->n_children; k++)
         if (schema->children[k]->release != NULL) schema->children[k]->release(schema->children[k]);
@@ -116,28 +116,28 @@ static void release_schema(struct ArrowSchema *schema) {
 /* ---- the stream ---- */
 
 /* The values of a dictionary, by its id, as they were at the last batch, and how many messages of the
- * dictionary came since. */
+ * dictionary arrived since. */
 struct kept {
     int64_t id;
     size_t messages;
-    struct ArrowArray values; /* released where there are none yet */
+    struct ArrowArray values; /* released if there are none yet */
 };
 
 /* What a stream owns. */
 struct source {
     arrowflow_reader *reader;
-    arrowflow_source read; /* NULL over bytes */
+    arrowflow_source read; /* NULL for a stream over bytes */
     void *state;
     int fd;
-    const uint8_t *piece; /* of which `at` bytes were taken; all of them over bytes */
+    const uint8_t *piece; /* `at` of its bytes were consumed; for a stream over bytes it is all of them */
     size_t len, at;
     arrowflow_limits limits;
     bool has_schema, has_batch, has_ended;
-    size_t columns, rows; /* of the batch */
-    int status;           /* of a stream that failed, or 0 */
-    const char *told;     /* what get_last_error returns */
+    size_t columns, rows;   /* of the batch */
+    int status;             /* the errno number of a stream that failed, or 0 */
+    const char *last_error; /* what get_last_error returns */
     char error[ERROR_ROOM];
-    struct kept *kept; /* by rising ids */
+    struct kept *kept; /* in ascending order of ids */
     size_t kept_count, kept_room;
     size_t *path;
     size_t path_room;
@@ -146,7 +146,7 @@ struct source {
     uint8_t room[];
 };
 
-/* Puts a number into the path, at this level. */
+/* Puts a number into the path at this level. */
 static bool set_path(struct source *it, size_t level, size_t number) {
     if (level >= it->path_room) {
         size_t room = level + 16, *path = realloc(it->path, room * sizeof *path);
@@ -158,7 +158,7 @@ static bool set_path(struct source *it, size_t level, size_t number) {
     return true;
 }
 
-/* The stream failed: each further call returns this. */
+/* Marks the stream as failed: each further call returns this status. */
 static int fail(struct source *it, int status) { return it->status = status; }
 
 static int fault(struct source *it, uint32_t kind, uint64_t place) {
@@ -196,7 +196,7 @@ static int finish(struct source *it) {
     return 0;
 }
 
-/* The first of the dictionaries kept whose id is not below this one. */
+/* The index of the first kept dictionary whose id is not below this one. */
 static size_t place_of(const struct source *it, int64_t id) {
     size_t low = 0, high = it->kept_count;
     while (low < high) {
@@ -207,13 +207,13 @@ static size_t place_of(const struct source *it, int64_t id) {
     return low;
 }
 
-/* A message of this dictionary came: what is kept of it is no longer all of it. */
+/* A message of this dictionary arrived: the values that are kept of it are no longer complete. */
 static void note_message(struct source *it, int64_t id) {
     size_t k = place_of(it, id);
     if (k < it->kept_count && it->kept[k].id == id) it->kept[k].messages++;
 }
 
-/* Gives the reader what is there, up to the end of a message. */
+/* Passes the available bytes to the reader, up to the end of a message. */
 static int advance(struct source *it) {
     if (it->at == it->len && it->read != NULL) {
         int status = refill(it);
@@ -235,7 +235,7 @@ static int advance(struct source *it) {
 
 /* ---- schemas ---- */
 
-/* Makes room for a field's children, dictionary and texts, a zero byte after the first two of these. */
+/* Allocates a field's children, dictionary and texts, with a zero byte after each of the first two texts. */
 static char *new_schema(const arrowflow_field *field, struct ArrowSchema *out) {
     size_t children = field->children, below = children + field->is_encoded;
     size_t texts = field->name_len + field->format_len + field->metadata_len;
@@ -252,7 +252,7 @@ static char *new_schema(const arrowflow_field *field, struct ArrowSchema *out) {
     return (char *)(out->children + children);
 }
 
-/* Moves the three texts apart, so that a zero byte ends the first two. */
+/* Moves the three texts apart, so that the first two end with a zero byte. */
 static void set_texts(const arrowflow_field *field, char *texts, struct ArrowSchema *out) {
     char *format = texts + field->name_len, *metadata = format + field->format_len;
     memmove(metadata + 2, metadata, field->metadata_len);
@@ -263,8 +263,8 @@ static void set_texts(const arrowflow_field *field, char *texts, struct ArrowSch
     out->metadata = field->metadata_len > 0 ? metadata + 2 : NULL;
 }
 
-/* The schema of the field that the path leads to, or of all. */
-static int tell_field(struct source *it, size_t depth, struct ArrowSchema *out) {
+/* Makes the schema of the field that the path leads to, or of the whole stream. */
+static int export_field(struct source *it, size_t depth, struct ArrowSchema *out) {
     arrowflow_field field = arrowflow_reader_field(it->reader, it->path, depth, NULL, 0);
     char *texts = new_schema(&field, out);
     if (texts == NULL) return ENOMEM;
@@ -273,16 +273,17 @@ static int tell_field(struct source *it, size_t depth, struct ArrowSchema *out) 
     set_texts(&field, texts, out);
     int status = 0;
     for (size_t k = 0; k < field.children && status == 0; k++)
-        status = set_path(it, depth, k) ? tell_field(it, depth + 1, out->children[k]) : ENOMEM;
-    if (field.is_encoded) status = set_path(it, depth, 0) ? tell_field(it, depth + 1, out->dictionary) : ENOMEM;
+        status = set_path(it, depth, k) ? export_field(it, depth + 1, out->children[k]) : ENOMEM;
+    if (field.is_encoded) status = set_path(it, depth, 0) ? export_field(it, depth + 1, out->dictionary) : ENOMEM;
     if (status != 0) out->release(out);
     return status;
 }
 
 /* ---- the buffers of an array ---- */
 
-/* A block with so much room. Of large ones it is one that the stream made before and that arrays have released, if
- * that is not much larger: malloc returns the memory of large ones to the system, which takes as long as a copy. */
+/* A block of at least this size. A large one may be a block that the stream made before and that all arrays
+ * have released, if it is not much larger: malloc returns the memory of large blocks to the system, which takes
+ * as long as a copy. */
 static struct block *take_block(struct source *it, size_t room) {
     for (size_t k = 0; k < SPARES && room >= LARGE; k++) {
         struct block *spare = it->spares[k];
@@ -294,21 +295,21 @@ static struct block *take_block(struct source *it, size_t room) {
     struct block *block = new_block(room);
     if (block == NULL || room < LARGE) return block;
     struct block **oldest = it->spares + it->next_spare++ % SPARES;
-    let_go(*oldest);
+    release_block(*oldest);
     *oldest = block;
     atomic_fetch_add_explicit(&block->owners, 1, memory_order_relaxed);
     return block;
 }
 
-/* How a buffer's size changes, in bytes. One that `grows` in place has its arrays see the front of it. */
+/* How a buffer's size changes, in bytes. If it `grows` in place the earlier arrays see a prefix of it. */
 struct change {
     size_t had, size;
     bool grows;
 };
 
-/* Gives buffer `k` of an array its new size, and zeros as padding. What it had stays in front. A buffer that grows
- * is left where it is as long as there is room, and gets twice as much where there is not, so that all growth
- * together copies at most twice what there is in the end. Another one is copied. */
+/* Gives buffer `k` of an array its new size, and zeros as padding. Its old contents stay at its start. A buffer
+ * that grows stays where it is as long as it has capacity, and gets twice the size if it has not, so that in
+ * total at most twice the final size is copied. Any other buffer is copied. */
 static bool resize(struct source *it, struct ArrowArray *array, size_t k, struct change to) {
     struct node *node = array->private_data;
     struct block *block = node->blocks[k];
@@ -316,7 +317,7 @@ static bool resize(struct source *it, struct ArrowArray *array, size_t k, struct
         struct block *more = take_block(it, padded(block != NULL && to.grows ? 2 * to.size : to.size));
         if (more == NULL) return false;
         if (block != NULL) memcpy(more->at, block->at, to.had);
-        let_go(block);
+        release_block(block);
         node->blocks[k] = more;
     }
     node->buffers[k] = node->blocks[k]->at;
@@ -324,7 +325,7 @@ static bool resize(struct source *it, struct ArrowArray *array, size_t k, struct
     return true;
 }
 
-/* The bytes of a buffer, or NULL where there is none. */
+/* The bytes of a buffer, or NULL if there is none. */
 static uint8_t *bytes_of(const struct ArrowArray *array, size_t k) {
     const struct node *node = array->private_data;
     return node->blocks[k] == NULL ? NULL : node->blocks[k]->at;
@@ -332,28 +333,30 @@ static uint8_t *bytes_of(const struct ArrowArray *array, size_t k) {
 
 /* ---- arrays ---- */
 
-/* Slots of a column, from `start` up to `end`. Of a dictionary's values it is the array that the value
- * `entry` is in, or what is below it. */
+/* Slots of a column, from `start` up to `end`. For a dictionary's values the column is the array that contains
+ * the value `entry`, or a column below it. */
 struct run {
     size_t entry, start, end;
 };
 
-/* Slots that are joined. The path leads to their columns; where they are values of a dictionary the number
- * at `level` is that of the run's entry. */
+/* Slots that are joined. The path leads to their columns. If they are values of a dictionary, the number at
+ * `level` is the entry of the run. */
 struct slots {
     size_t depth, level;
     const struct run *runs;
     size_t count;
 };
 
-/* The level of what is no dictionary's. */
+/* The level if the slots do not belong to a dictionary. */
 static const size_t NO_LEVEL = SIZE_MAX;
 
-/* An array that is filled: its buffers, how many slots it has so far, and how many lie inside these. */
+/* An array that is being filled: its buffers, how many slots it has so far, and how many items (bytes or slots
+ * of the child) are inside these. */
 struct target {
     uint8_t *validity, *offsets, *values;
     size_t slots, inside;
-    bool is_front; /* offsets stay as they are: the array is new, and its slots are the front of one column */
+    bool is_prefix; /* offsets are copied unchanged: the array is new, and its slots are the first slots of one
+                    * column */
 };
 
 static int build(struct source *it, const struct slots *from, struct ArrowArray *out);
@@ -384,13 +387,13 @@ static size_t offset_at(const uint8_t *offsets, size_t width, size_t i) {
     return narrow;
 }
 
-/* Where what lies inside slot i begins, and inside the one before it ends. */
+/* Where the items of slot i begin, which is where those of the slot before it end. */
 static size_t place_inside(const arrowflow_column *of, size_t i) {
     return of->layout == ARROWFLOW_LAYOUT_FIXED_LISTS ? of->width * i : offset_at(of->offsets, of->width, i);
 }
 
-/* What lies inside slots: bytes, or slots of the child. `like` is the first of the columns. */
-static void find_inside(struct source *it, const struct slots *from, const arrowflow_column *like, bool is_front,
+/* Finds the items inside of slots: bytes, or slots of the child. `like` is the first of the columns. */
+static void find_inside(struct source *it, const struct slots *from, const arrowflow_column *like, bool is_prefix,
                         struct run *inside) {
     for (size_t k = 0; k < from->count; k++) {
         const struct run *run = from->runs + k;
@@ -398,13 +401,13 @@ static void find_inside(struct source *it, const struct slots *from, const arrow
         inside[k].start = inside[k].end = 0;
         if (run->start == run->end) continue;
         arrowflow_column of = k == 0 ? *like : column_of(it, from, k);
-        if (!is_front) inside[k].start = place_inside(&of, run->start);
+        if (!is_prefix) inside[k].start = place_inside(&of, run->start);
         inside[k].end = place_inside(&of, run->end);
     }
 }
 
-/* Copies bits, or sets them where there are none. All before bit `at` were copied, and those after them
- * up to the end of a byte are anything. */
+/* Copies bits, or sets them if there are none to copy. All bits before bit `at` were copied; those after it up
+ * to the end of its byte may have any value. */
 static void copy_bits(uint8_t *to, size_t at, const uint8_t *bits, size_t bits_len, const struct run *run) {
     size_t count = run->end - run->start;
     if (bits_len > 0 && at % 8 == 0 && run->start % 8 == 0) {
@@ -419,9 +422,9 @@ static void copy_bits(uint8_t *to, size_t at, const uint8_t *bits, size_t bits_l
     }
 }
 
-/* Copies offsets, counted from where the run's own begin. */
+/* Copies offsets, relative to the start of the run. */
 static void copy_offsets(struct target *to, const arrowflow_column *of, const struct run *run, size_t start) {
-    if (to->is_front) {
+    if (to->is_prefix) {
         memcpy(to->offsets, of->offsets, of->width * (run->end + 1));
         return;
     }
@@ -431,7 +434,7 @@ static void copy_offsets(struct target *to, const arrowflow_column *of, const st
     }
 }
 
-/* Copies what slots of one column have in its buffers. */
+/* Copies the contents of one column's buffers for these slots. */
 static void copy_run(struct target *to, const arrowflow_column *of, const struct run *run, const struct run *inside) {
     size_t slots = run->end - run->start;
     if (slots == 0) return;
@@ -447,7 +450,7 @@ static void copy_run(struct target *to, const arrowflow_column *of, const struct
     to->slots += slots;
 }
 
-/* Whether a slot may be without a value. */
+/* Whether some slot may be null. */
 static bool has_nulls(struct source *it, const struct slots *from, const arrowflow_column *like) {
     for (size_t k = 0; k < from->count; k++) {
         arrowflow_column of = k == 0 ? *like : column_of(it, from, k);
@@ -456,7 +459,7 @@ static bool has_nulls(struct source *it, const struct slots *from, const arrowfl
     return false;
 }
 
-/* How many buffers an array of this layout has. */
+/* The number of buffers of an array of this layout. */
 static int64_t buffers_of(uint32_t layout) {
     switch (layout) {
     case ARROWFLOW_LAYOUT_NULLS: return 0;
@@ -468,8 +471,8 @@ static int64_t buffers_of(uint32_t layout) {
     }
 }
 
-/* Gives an array a validity bitmap for so many slots; those that were there have values if it had none. A last
- * byte would be read in other threads while bits are added to it, so that bitmaps do not grow in place. */
+/* Gives an array a validity bitmap for this number of slots. If it had none, all its slots so far have values.
+ * Other threads could read the last byte while bits are added to it; therefore bitmaps do not grow in place. */
 static bool take_validity(struct source *it, struct ArrowArray *out, size_t slots) {
     bool is_new = out->buffers[0] == NULL;
     struct run before = {0, 0, (size_t)out->length};
@@ -478,7 +481,7 @@ static bool take_validity(struct source *it, struct ArrowArray *out, size_t slot
     return true;
 }
 
-/* Gives an array offsets of so many slots, of which the first is 0. */
+/* Gives an array offsets for this number of slots; the first offset is 0. */
 static bool take_offsets(struct source *it, struct ArrowArray *out, size_t width, size_t slots) {
     bool is_new = out->buffers[1] == NULL;
     if (!resize(it, out, 1, (struct change){width * ((size_t)out->length + 1), width * (slots + 1), true})) return false;
@@ -486,7 +489,8 @@ static bool take_offsets(struct source *it, struct ArrowArray *out, size_t width
     return true;
 }
 
-/* Makes room in an array like this column for so many slots in all, and for what lies inside them. */
+/* Makes room in an array of this column's layout for this number of slots in total, and for the items inside
+ * them. */
 static bool take_room(struct source *it, struct ArrowArray *out, const arrowflow_column *like, size_t slots,
                       struct change inside) {
     size_t width = like->width, had = (size_t)out->length;
@@ -502,7 +506,7 @@ static bool take_room(struct source *it, struct ArrowArray *out, const arrowflow
     }
 }
 
-/* Builds each child, of the same slots as the array. */
+/* Builds each child, for the same slots as those of the array. */
 static int build_children(struct source *it, const struct slots *from, struct ArrowArray *out) {
     struct slots below = *from;
     below.depth++;
@@ -513,7 +517,7 @@ static int build_children(struct source *it, const struct slots *from, struct Ar
     return 0;
 }
 
-/* An array of no slots, of a schema's type. */
+/* Builds an array without slots, of a schema's type. */
 static int build_empty(struct source *it, const struct ArrowSchema *schema, struct ArrowArray *out) {
     const char *format = schema->format;
     if (!new_array(out, (size_t)schema->n_children, false)) return ENOMEM;
@@ -526,18 +530,18 @@ static int build_empty(struct source *it, const struct ArrowSchema *schema, stru
     return 0;
 }
 
-/* The values of a dictionary that has none, whose field the path leads to. */
+/* Builds the values of a dictionary that has none. The path leads to the field. */
 static int build_no_values(struct source *it, size_t depth, struct ArrowArray *out) {
     struct ArrowSchema values;
-    int status = set_path(it, depth, 0) ? tell_field(it, depth + 1, &values) : ENOMEM;
+    int status = set_path(it, depth, 0) ? export_field(it, depth + 1, &values) : ENOMEM;
     if (status != 0) return status;
     status = build_empty(it, &values, out);
     values.release(&values);
     return status;
 }
 
-/* Returns how many arrays the values of a dictionary from this one on are in; if `runs` is not NULL, it gets where
- * each one begins. */
+/* Returns how many of the reader's arrays hold the values of a dictionary from this entry on. If `runs` is not
+ * NULL, the start of each one is written to it. */
 static size_t find_runs(struct source *it, size_t depth, size_t entry, size_t entries, struct run *runs) {
     size_t count = 0;
     for (; entry < entries; count++) {
@@ -549,8 +553,8 @@ static size_t find_runs(struct source *it, size_t depth, size_t entry, size_t en
     return count;
 }
 
-/* Adds the values of a dictionary from this one on, which begins an array of the reader's. The path leads to a
- * column of its indices. */
+/* Adds the values of a dictionary from this entry on, which is the first of one of the reader's arrays. The
+ * path leads to a column of indices into it. */
 static int add_values(struct source *it, size_t depth, size_t entry, size_t entries, struct ArrowArray *out) {
     size_t count = find_runs(it, depth, entry, entries, NULL);
     if (count == 0) return 0;
@@ -563,10 +567,10 @@ static int add_values(struct source *it, size_t depth, size_t entry, size_t entr
     return status;
 }
 
-/* Whether a dictionary has at its front the values that it had before so many messages of it. A message brings
- * one array, which is put after those that are there or takes the place of all of them; so where there are more
- * arrays than messages one is from before, and none was replaced. Arrays of no values are not seen: it may
- * answer no where a dictionary only grew. */
+/* Whether a dictionary still begins with the values that it had before this number of messages. A message
+ * brings one array, which is either appended to those that are there or replaces all of them; so if there are
+ * more arrays than messages, one of them is from before, and none was replaced. Arrays without values are not
+ * counted: the result may be false though the dictionary only grew. */
 static bool has_grown(struct source *it, size_t depth, size_t entries, size_t messages) {
     size_t count = 0;
     for (size_t entry = 0; entry < entries && count <= messages; count++) {
@@ -576,7 +580,7 @@ static bool has_grown(struct source *it, size_t depth, size_t entries, size_t me
     return count > messages;
 }
 
-/* Makes what is kept of a dictionary all of it. The path leads to a column of its indices. */
+/* Completes the values that are kept of a dictionary. The path leads to a column of indices into it. */
 static int update(struct source *it, size_t depth, size_t entries, struct kept *kept) {
     if (!set_path(it, depth, 0)) return ENOMEM;
     if (kept->messages > 0 && !has_grown(it, depth, entries, kept->messages)) drop(&kept->values);
@@ -589,7 +593,7 @@ static int update(struct source *it, size_t depth, size_t entries, struct kept *
     return status;
 }
 
-/* What is kept of this dictionary: nothing, where it is new. NULL where it fails to allocate. */
+/* Returns what is kept of this dictionary: no values if it is new. Returns NULL if an allocation fails. */
 static struct kept *keep(struct source *it, int64_t id) {
     size_t k = place_of(it, id);
     if (k < it->kept_count && it->kept[k].id == id) return it->kept + k;
@@ -607,26 +611,27 @@ static struct kept *keep(struct source *it, int64_t id) {
     return it->kept + k;
 }
 
-/* Says that the values of a dictionary are too long, with the name of the field that the path leads to. */
-static void tell_overflow(struct source *it, size_t depth, int64_t id) {
+/* Writes the error that the values of a dictionary are too long, with the name of the field that the path leads
+ * to. */
+static void report_overflow(struct source *it, size_t depth, int64_t id) {
     char name[NAME_ROOM];
     size_t len = arrowflow_shown_name(it->reader, it->path, depth, name);
     snprintf(it->error, sizeof it->error, "field \"%.*s\": the values of dictionary %lld are too long for offsets of 32 bits",
              (int)len, name, (long long)id);
 }
 
-/* The dictionary of the column that the path leads to. */
+/* Builds the dictionary of the column that the path leads to. */
 static int build_dictionary(struct source *it, size_t depth, size_t entries, struct ArrowArray *out) {
     int64_t id = arrowflow_reader_field(it->reader, it->path, depth, NULL, 0).id;
     struct kept *kept = keep(it, id);
     if (kept == NULL) return ENOMEM;
     int status = kept->messages > 0 || kept->values.release == NULL ? update(it, depth, entries, kept) : 0;
-    if (status == EOVERFLOW) tell_overflow(it, depth, id);
+    if (status == EOVERFLOW) report_overflow(it, depth, id);
     if (status != 0) return status;
     return share(&kept->values, out) ? 0 : ENOMEM;
 }
 
-/* Copies what the slots have in their buffers. */
+/* Copies the contents of the buffers for these slots. */
 static void copy_slots(struct source *it, const struct slots *from, const arrowflow_column *like, const struct run *inside,
                        struct target *to) {
     for (size_t k = 0; k < from->count; k++) {
@@ -635,15 +640,15 @@ static void copy_slots(struct source *it, const struct slots *from, const arrowf
     }
 }
 
-/* Adds slots to the buffers of an array. `inside` gets what lies inside each run of them. */
+/* Adds slots to the buffers of an array. `inside` receives the items inside each run of them. */
 static int add(struct source *it, const struct slots *from, const arrowflow_column *like, struct run *inside,
                struct ArrowArray *out) {
     struct target to = {NULL, NULL, NULL, (size_t)out->length, 0, false};
     size_t slots = to.slots + count_of(from->runs, from->count), end = 0;
     if (has_offsets(like->layout)) {
-        to.is_front = out->buffers[1] == NULL && from->count == 1 && from->runs[0].start == 0;
+        to.is_prefix = out->buffers[1] == NULL && from->count == 1 && from->runs[0].start == 0;
         if (to.slots > 0) to.inside = offset_at(bytes_of(out, 1), like->width, to.slots);
-        find_inside(it, from, like, to.is_front, inside);
+        find_inside(it, from, like, to.is_prefix, inside);
         end = to.inside + count_of(inside, from->count);
         if (like->width == sizeof(int32_t) && end > INT32_MAX) return EOVERFLOW;
     } else if (like->layout == ARROWFLOW_LAYOUT_FIXED_LISTS) find_inside(it, from, like, false, inside);
@@ -659,7 +664,7 @@ static int add(struct source *it, const struct slots *from, const arrowflow_colu
     return 0;
 }
 
-/* Builds what is below an array of these slots, in which there lies `inside`. */
+/* Builds what is below an array of these slots, whose items are `inside`. */
 static int build_below(struct source *it, const struct slots *from, const arrowflow_column *like, const struct run *inside,
                        struct ArrowArray *out) {
     struct slots within = {from->depth + 1, from->level, inside, from->count};
@@ -672,8 +677,8 @@ static int build_below(struct source *it, const struct slots *from, const arrowf
     }
 }
 
-/* Makes an array of these slots, or adds them to one that there is. If it does not return 0, what there is of the
- * array is still to be released. */
+/* Makes an array of these slots, or adds them to an array that exists. If it does not return 0, the part of the
+ * array that was made still has to be released. */
 static int build(struct source *it, const struct slots *from, struct ArrowArray *out) {
     arrowflow_column like = column_of(it, from, 0);
     if (out->release == NULL && !new_array(out, like.children, like.layout == ARROWFLOW_LAYOUT_INDICES)) return ENOMEM;
@@ -686,7 +691,7 @@ static int build(struct source *it, const struct slots *from, struct ArrowArray 
     return status;
 }
 
-/* The reader's batch as one array. */
+/* Builds the reader's batch as one array. */
 static int build_batch(struct source *it, struct ArrowArray *out) {
     struct run rows = {0, 0, it->rows};
     struct slots from = {0, NO_LEVEL, &rows, 1};
@@ -701,9 +706,9 @@ static int build_batch(struct source *it, struct ArrowArray *out) {
 
 /* ---- the four calls of a stream ---- */
 
-/* What a call returns, with its text. */
-static int answer(struct source *it, int status) {
-    it->told = status == 0 ? NULL : status == ENOMEM ? "Memory: out of memory, the call may be made again" : it->error;
+/* Returns the status of a call, and keeps its text. */
+static int finish_call(struct source *it, int status) {
+    it->last_error = status == 0 ? NULL : status == ENOMEM ? "Memory: out of memory, the call may be made again" : it->error;
     return status;
 }
 
@@ -712,7 +717,7 @@ static int get_schema(struct ArrowArrayStream *stream, struct ArrowSchema *out) 
     int status = it->has_schema ? 0 : it->status;
     out->release = NULL;
     while (status == 0 && !it->has_schema) status = advance(it);
-    return answer(it, status == 0 ? tell_field(it, 0, out) : status);
+    return finish_call(it, status == 0 ? export_field(it, 0, out) : status);
 }
 
 static int get_next(struct ArrowArrayStream *stream, struct ArrowArray *out) {
@@ -720,26 +725,26 @@ static int get_next(struct ArrowArrayStream *stream, struct ArrowArray *out) {
     int status = it->status;
     out->release = NULL;
     while (status == 0 && !it->has_batch && !it->has_ended) status = advance(it);
-    return answer(it, status == 0 && it->has_batch ? build_batch(it, out) : status);
+    return finish_call(it, status == 0 && it->has_batch ? build_batch(it, out) : status);
 }
 
 static const char *get_last_error(struct ArrowArrayStream *stream) {
     const struct source *it = stream->private_data;
-    return it->told;
+    return it->last_error;
 }
 
 static void release_stream(struct ArrowArrayStream *stream) {
     struct source *it = stream->private_data;
     arrowflow_reader_close(it->reader);
     for (size_t k = 0; k < it->kept_count; k++) drop(&it->kept[k].values);
-    for (size_t k = 0; k < SPARES; k++) let_go(it->spares[k]);
+    for (size_t k = 0; k < SPARES; k++) release_block(it->spares[k]);
     free(it->kept);
     free(it->path);
     free(it);
     stream->release = NULL;
 }
 
-/* Makes a stream of nothing yet, with room for a piece. */
+/* Makes a stream that has read nothing yet, with a buffer for a piece. */
 static uint32_t open_stream(arrowflow_limits limits, size_t room, struct ArrowArrayStream *out) {
     struct source *it = calloc(1, sizeof *it + room);
     memset(out, 0, sizeof *out);

@@ -1,13 +1,13 @@
 #!/usr/bin/env python3
-"""Lays out what the programs here read that has custom metadata, by examples/frames.py:
+"""Writes the streams with custom metadata that the programs here read, with tools/frames.py:
 
     growths/with_pairs.py FOLDER    writes NAME.arrows and NAME.txt, the text of its schema
 
-`noted` has pairs at its schema, at a column and at a field below one: keys that come twice, that are empty, and that are not
-UTF-8. Of its messages those that bring values of the dictionary are of V4, and so is the schema. Two columns of `equal_types`
-have one dictionary, and their types differ in pairs alone; in `unequal_types` the integer of the second one has another width.
+`noted` has pairs on its schema, on a column and on a field below one: keys that occur twice, that are empty, and that are not
+UTF-8. The messages that bring values of the dictionary are of V4, and so is the schema. Two columns of `equal_types` have one
+dictionary, and their types differ only in pairs; in `unequal_types` the integer of the second one has another width.
 
-Run without a folder, it tells what a writer makes of `noted`: how many bytes there are after each part, and their sum.
+Run without a folder, it prints what a writer makes of `noted`: the number of bytes after each part, and their hash.
 """
 import pathlib
 import struct
@@ -15,12 +15,12 @@ import sys
 
 TOP = pathlib.Path(__file__).resolve().parent.parent
 sys.dont_write_bytecode = True
-sys.path.insert(0, str(TOP / "examples"))
-from frames import (END_MARKER, INT32, LIST, NULL, STRUCT, UTF8, batch, dictionary, dictionary_batch, field, frame, integer, lists,
-                    numbers, scalar, strings, table, timestamp, vector)
+sys.path.insert(0, str(TOP))
+from tools.frames import (END_MARKER, INT32, LIST, NULL, STRUCT, UTF8, batch, dictionary, dictionary_batch, field, frame,
+    integer, lists, numbers, scalar, strings, table, timestamp, vector)
 
 V4 = 3
-# Where a frame has its version.
+# The offset of the version in a frame.
 VERSION = 28
 
 NOTED_SCHEMA = [(b"k", b"v"), (b"k", b"")]
@@ -50,7 +50,7 @@ def noted_schema():
 
 
 def parts():
-    """The frames of the schema, of each batch with the values that it brings, and the end marker."""
+    """The frames of the schema, of each batch with the values that come before it, and the end marker."""
     return [noted_schema(),
             dictionary_batch(0, strings("abc")) + batch(numbers([0, 1, 2]), lists([[1], None, [2, 3]], numbers)),
             dictionary_batch(0, strings("de"), delta=True) + batch(numbers([4, 0]), lists([[], [4]], numbers)), END_MARKER]
@@ -82,12 +82,12 @@ def sum_of(held, before=0):
     return before
 
 
-def tell():
-    """Tells what is written of `noted`, all of it of V5."""
-    whole = b""
+def print_written():
+    """Prints what is written of `noted`, all of it as V5."""
+    written = b""
     for part in parts():
-        whole += part
-        print(f"noted: {len(whole)} bytes, {sum_of(whole):016x}, the last part {len(part)} bytes")
+        written += part
+        print(f"noted: {len(written)} bytes, {sum_of(written):016x}, the last part {len(part)} bytes")
 
 
 if __name__ == "__main__":
@@ -95,4 +95,4 @@ if __name__ == "__main__":
         for name, held in files().items():
             (pathlib.Path(sys.argv[1]) / name).write_bytes(held)
     else:
-        tell()
+        print_written()

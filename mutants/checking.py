@@ -1,4 +1,4 @@
-"""One check of a crate with some edits, and what it says of each of them."""
+"""One check of a crate with some edits, and what it reports about each of them."""
 import collections
 import os
 import re
@@ -7,30 +7,31 @@ import subprocess
 import tempfile
 import time
 
-from crates import KIT, PARTS, TOP, source, sources
-from edits import CYCLE, module_of
+from tools.crates import KIT, PARTS, TOP, source, sources
+from tools.edits import CYCLE, module_of
 
 
 def command(name, libraries, kept, only):
-    """The check, with the words that `rt must-fail` gives to it."""
+    """The command of the check, with the arguments that `rt must-fail` gives to it."""
     words = [f"{KIT}/bin/rattle", "check", *libraries.read_by(name), "--jobs", "1", "--incremental", kept]
     return words + [it for path in only for it in ("--only", path)]
 
 
-# A line on what was not proved; of a name or a goal that the edit took away it says nothing but that a written answer cites it.
+# A line about what was not proved. If the edit removed a name or a goal, it says only that a written answer cites that.
 GOAL = re.compile(r"(?:note|warning): (?:\./)?(src/\S+?):(\d+):\d+: (?:it is not proved|.*not proved)")
 ANSWER = re.compile(r"(?:\./)?(proofs/\S+?):\d+:\d+: error: (.*)")
 NAMES_ONLY = re.compile(r"has no field|is not in scope|has no `|was not admitted|: module `[^`]*Goals`")
-# Texts that could not be read say nothing of any contract.
+# If the texts could not be read, nothing is known about any contract.
 UNREAD = re.compile(r"(?:\./)?(?:src|specs)/\S+?:\d+:\d+: error")
 
 
 def evidence(said, function, text, cycles):
-    """What was not proved in that function, and whether all of it is a name that is gone from its written answers."""
+    """What was not proved in that function, and whether all of it is only a name that its written answers cite and that is
+    gone."""
     lines = function.lines(text)
     folder = re.compile(rf"proofs/(?:\w+/)*{function.full.replace('::', '/')}/")
-    # Functions that call each other share their answers. Where they are several a goal there begins with the name of its
-    # function; where a function calls but itself it does not.
+    # Functions that call each other share their answers. If there are several, a goal there begins with the name of its function;
+    # if a function calls only itself, it does not.
     shared = re.compile(r"proofs/(?:\w+/)*\+(\w+)/")
     cycle = CYCLE.search("\n".join(text.split("\n")[lines[0] - 1 : lines[-1]]))
     of_this = re.compile(rf"`(?:\w+::)*{re.escape(function.name.rpartition('::')[2])}-")
@@ -62,11 +63,11 @@ class Round:
 
     def __init__(self, name, libraries, edits, kept, whole=False):
         self.name, self.edits, self.texts, self.skipped = name, edits, {}, []
-        # how long it took, and each function by itself
+        # how long it took, and each function separately
         self.seconds, self.spent = 0, {}
-        # where each edit stands, and the functions that stand once more as they are
+        # the functions that each edit is in, and the copies of functions without an edit
         self.places, self.unedited = {}, {}
-        # how many functions each cycle of calls has
+        # the number of functions in each cycle of calls
         its = [os.path.relpath(it, f"{TOP}/crates/{name}") for it in sources(name) if it.endswith(".rt")]
         self.cycles = collections.Counter(cycle for it in its for cycle in CYCLE.findall(source(name, it)))
         with tempfile.TemporaryDirectory(prefix="mutants-") as room:
@@ -77,12 +78,12 @@ class Round:
             for path, text in self.texts.items():
                 with open(f"{room}/{path}", "w", encoding="utf-8") as it:
                     it.write(text)
-            whole = whole or any(it.stands_alone() for it in edits)
+            whole = whole or any(it.is_outside_functions() for it in edits)
             functions = [f for its in self.places.values() for f in its] + [*self.unedited.values()]
             self.run(room, [] if whole else functions, libraries, kept)
 
     def run(self, room, functions, libraries, kept):
-        """The check. A function that it has under another name is tried with all of its module."""
+        """Runs the check. If it knows a function only under another name, it checks the function's complete module."""
         only = {f.full: f for f in functions}
         while True:
             self.said, self.status = self.check(room, command(self.name, libraries, kept, sorted(only)))
@@ -92,7 +93,8 @@ class Round:
             only[module_of(only.pop(unknown[1]).path)] = None
 
     def apply(self, room):
-        """Writes the edits into the texts: the first of a function into the function, each other one into one that stands behind it."""
+        """Writes the edits into the texts: the first edit of a function into the function itself, each other one into a copy
+        after it."""
         taken = set()
         for edit in self.edits:
             if taken & set(edit.functions):
@@ -107,13 +109,13 @@ class Round:
             self.places[edit] = edit.owners()
         for number, edit in enumerate(it for it in self.edits if it not in self.places):
             function = edit.owners()[0]
-            self.places[edit] = [self.stand_again(room, function, number, edit.pairs)]
+            self.places[edit] = [self.add_copy(room, function, number, edit.pairs)]
             if function.key() not in self.unedited and function.proofs(f"{TOP}/crates/{self.name}"):
-                self.unedited[function.key()] = self.stand_again(room, function, f"as_it_is_{number}", [])
+                self.unedited[function.key()] = self.add_copy(room, function, f"as_it_is_{number}", [])
 
-    def stand_again(self, room, function, number, pairs):
-        """Writes the function once more behind itself, with these changes, and its proof files beside its own."""
-        other = function.again(number)
+    def add_copy(self, room, function, number, pairs):
+        """Writes a copy of the function after it, with these changes, and a copy of its proof files next to them."""
+        other = function.copy_of(number)
         text = function.whole(source(self.name, function.path))
         for _, old, new in pairs:
             text = text.replace(old, new)
@@ -132,7 +134,7 @@ class Round:
         return other
 
     def check(self, room, words):
-        """What the check says, and its status; it notes when it was done with each function."""
+        """The output of the check, and its status; it also records the time for each function."""
         start = last = time.time()
         how = {"cwd": room, "stdin": subprocess.DEVNULL, "stdout": subprocess.PIPE, "stderr": subprocess.STDOUT}
         ran, said = subprocess.Popen([*words, "--progress"], text=True, errors="replace", **how), []
@@ -145,7 +147,7 @@ class Round:
         return "".join(said), ran.wait()
 
     def dearest(self):
-        """The functions that took the longest, with their seconds: edits that are refused late."""
+        """The functions that took the longest, with their seconds: their edits are rejected late."""
         its = sorted(self.spent.items(), key=lambda it: -it[1])[:3]
         return ", ".join(f"{name} {seconds:.0f}" for name, seconds in its)
 
@@ -154,14 +156,16 @@ class Round:
         return self.status in (0, 1) and bool(re.match(r"logic=|only=", last)) and not UNREAD.search(self.said)
 
     def verdict(self, edit):
-        """What refuses the edit, nothing if it is let through, and whether that is only a name that a written answer cites."""
-        if edit.stands_alone():
+        """The lines that reject the edit, none if it is let through, and whether they are only about a name that a written answer
+        cites."""
+        if edit.is_outside_functions():
             return any_evidence(self.said)
         found = [evidence(self.said, f, self.texts[f.path], self.cycles) for f in self.places[edit]]
         lines = [line for its, _ in found for line in its]
         return lines, all(only_names for its, only_names in found if its)
 
-    def is_told_apart(self, edit):
-        """Whether the function of the edit is proved where it stands once more as it is: else a refusal says nothing of the edit."""
+    def copy_is_proved(self, edit):
+        """Whether the copy of the edit's function without an edit is proved: otherwise a rejection says nothing about the
+        edit."""
         its = [self.unedited[key] for key in edit.functions if key in self.unedited and self.places[edit] != edit.owners()]
         return not any(evidence(self.said, f, self.texts[f.path], self.cycles)[0] for f in its)

@@ -1,4 +1,5 @@
-"""The libraries below a crate whose edits are tried: those that `rt ci` left, or those of one that runs beside."""
+"""The libraries below a crate whose edits are tried: those that `rt ci` left, or those of an `rt ci` that runs at the same
+time."""
 import os
 import re
 import shutil
@@ -7,11 +8,11 @@ import sys
 import tempfile
 import threading
 
-from crates import TOP, below, is_built, read_by, rlib
+from tools.crates import TOP, below, is_built, read_by, rlib
 
 
 def build_below(names, crates):
-    """Builds what the crates of these names use, where one of it is missing or old; returns what failed."""
+    """Builds what the crates of these names use, if any of it is missing or old; returns what failed."""
     needed = []
     for name in names:
         needed += [it for it in below(name, crates) if it not in needed]
@@ -38,7 +39,7 @@ class Libraries:
         return rlib(name)
 
     def kept(self, name):
-        """Where earlier checks of a crate kept their work, if they did."""
+        """The folder in which earlier checks of a crate kept their work, if they did."""
         return f"{TOP}/crates/{name}/out/incremental"
 
     def are_there(self, name):
@@ -48,33 +49,33 @@ class Libraries:
         return False
 
 
-class LibrariesBeside(Libraries):
-    """The libraries that an `rt ci` beside this run has proved so far, as its lines on the standard input tell. Each is laid into
-    a room at once, since in the end `rt ci` puts back what stood in the checkout before."""
+class ConcurrentLibraries(Libraries):
+    """The libraries that an `rt ci` that runs at the same time has proved so far, as its lines on the standard input report. Each
+    is copied into a folder at once, since in the end `rt ci` restores what was in the checkout before."""
 
-    # What it says of a library that is proved, now or by an earlier run.
+    # Its line about a library that is proved, now or by an earlier run.
     PROVED = re.compile(r"rt: (\w+) (?:proved|is kept:)")
 
     def __init__(self, crates, names):
         super().__init__(crates)
         self.room, self.there = tempfile.TemporaryDirectory(prefix="mutants-libraries-"), set()
-        # what the crates of these names stand on
-        self.wanted = {it for name in names for it in below(name, crates)}
+        # what the crates of these names depend on
+        self.expected = {it for name in names for it in below(name, crates)}
         self.reader = threading.Thread(target=self.read, daemon=True)
         self.reader.start()
 
     def read(self):
         for line in sys.stdin:
-            told = self.PROVED.match(line)
-            if told and told[1] in self.wanted:
-                shutil.copytree(rlib(told[1]), self.place(told[1]), copy_function=linked)
-                self.there.add(told[1])
+            proved = self.PROVED.match(line)
+            if proved and proved[1] in self.expected:
+                shutil.copytree(rlib(proved[1]), self.place(proved[1]), copy_function=linked)
+                self.there.add(proved[1])
 
     def place(self, name):
         return f"{self.room.name}/{name}/{name}.rlib"
 
     def kept(self, name):
-        """Nothing: `rt ci` has put it aside."""
+        """Nothing: `rt ci` has moved it away."""
         return ""
 
     def are_there(self, name):
@@ -85,7 +86,7 @@ class LibrariesBeside(Libraries):
 
 
 def linked(one, other):
-    """A copy of a file that is replaced and never changed, so that a second name does for it."""
+    """A second name for a file that is replaced and never changed in place, or a copy if there can be none."""
     try:
         os.link(one, other)
     except OSError:

@@ -1,10 +1,11 @@
 // usage: arrays literals, arrays [--types core|all] FILE
 //
-// With `literals` each call is made as a caller in C++ writes it, by a class whose methods have the names of the
-// calls, with limits in place. Else a stream is read as an ArrowArrayStream by classes that release what they
-// hold: the stream goes first, then children and dictionaries are moved out and outlive their parents, and all of
-// it is released in another order. What each array has is the same before and after, and as often as there are
-// batches. Ends as `arrowflow check` does, without its text.
+// With `literals` each call is made as a caller in C++ writes it, by a class whose methods have the names of
+// the calls, with limits in place. Otherwise a stream is read as an ArrowArrayStream by classes that release
+// what they hold: the stream is released first, then children and dictionaries are moved out and outlive their
+// parents, and all of them are released in another order. The contents of each array are the same before and
+// after, and there are as many arrays as batches. Exits with the same status as `arrowflow check`, without its
+// text.
 #include "arrowflow_stream.h"
 
 #include <cstring>
@@ -19,7 +20,7 @@ namespace {
 
 int failed = 0;
 
-void want(bool fact, const char *what) {
+void expect(bool fact, const char *what) {
     if (fact) return;
     std::cerr << "not so: " << what << "\n";
     failed = 1;
@@ -53,21 +54,21 @@ void literals() {
         arrowflow_show(empty.data(), empty.size(), arrowflow_limits{1, 2, 3, 0}, nullptr, 0).kind,
         arrowflow_messages(empty.data(), empty.size(), arrowflow_limits{1, 2, 3, 0}, nullptr, 0).kind,
         arrowflow_schema(empty.data(), empty.size(), arrowflow_limits{1, 2, 3, 0}, nullptr, 0).kind};
-    for (std::uint32_t kind : kinds) want(kind == ARROWFLOW_KIND_NO_SCHEMA, "no bytes are no stream");
-    want(library.arrowflow_reader_column().layout == ARROWFLOW_LAYOUT_NONE, "no reader has no column");
-    want(library.arrowflow_version() == ARROWFLOW_VERSION, "the library has the header's version");
+    for (std::uint32_t kind : kinds) expect(kind == ARROWFLOW_KIND_NO_SCHEMA, "no bytes are no stream");
+    expect(library.arrowflow_reader_column().layout == ARROWFLOW_LAYOUT_NONE, "no reader has no column");
+    expect(library.arrowflow_version() == ARROWFLOW_VERSION, "the library has the header's version");
     arrowflow_reader *reader = nullptr;
     arrowflow_copier *copier = nullptr;
-    want(arrowflow_reader_open(arrowflow_limits{1, 2, 3, 0}, &reader) == ARROWFLOW_KIND_FINE, "a reader with limits in place");
-    want(arrowflow_reader_read(reader, empty.data(), empty.size()).message == ARROWFLOW_MESSAGE_NONE, "it reads nothing");
+    expect(arrowflow_reader_open(arrowflow_limits{1, 2, 3, 0}, &reader) == ARROWFLOW_KIND_FINE, "a reader with limits in place");
+    expect(arrowflow_reader_read(reader, empty.data(), empty.size()).message == ARROWFLOW_MESSAGE_NONE, "it reads nothing");
     arrowflow_reader_close(reader);
-    want(arrowflow_copier_open(arrowflow_limits{1, 2, 3, 0}, arrowflow_options{false, false}, &copier) == ARROWFLOW_KIND_FINE,
-         "a copier with limits in place");
-    want(!arrowflow_copier_put(copier, empty.data(), empty.size()).is_over, "it copies nothing");
+    expect(arrowflow_copier_open(arrowflow_limits{1, 2, 3, 0}, arrowflow_options{false, false}, &copier) == ARROWFLOW_KIND_FINE,
+           "a copier with limits in place");
+    expect(!arrowflow_copier_put(copier, empty.data(), empty.size()).is_over, "it copies nothing");
     arrowflow_copier_close(copier);
     ArrowArrayStream stream;
-    want(arrowflow_stream_of_bytes(empty.data(), empty.size(), arrowflow_limits{1, 2, 3, 0}, &stream) == ARROWFLOW_KIND_FINE,
-         "a stream with limits in place");
+    expect(arrowflow_stream_of_bytes(empty.data(), empty.size(), arrowflow_limits{1, 2, 3, 0}, &stream) == ARROWFLOW_KIND_FINE,
+           "a stream with limits in place");
     stream.release(&stream);
 }
 
@@ -87,12 +88,12 @@ public:
     void release() {
         if (it.release == nullptr) return;
         it.release(&it);
-        want(it.release == nullptr, "a released struct says so");
+        expect(it.release == nullptr, "a released struct says so");
     }
     Of it;
 };
 
-/// Bytes of a slot in the buffer of values, of formats that have such; of bits 0.
+/// Bytes of a slot in the buffer of values, for formats that have one; 0 for bits.
 std::size_t width_of(const std::string &format) {
     if (format.rfind("w:", 0) == 0) return std::stoul(format.substr(2));
     if (format.rfind("d:", 0) == 0) {
@@ -112,7 +113,7 @@ void add(std::uint64_t &sum, const void *from, std::size_t size) {
     for (std::size_t k = 0; k < size; k++) sum = (sum ^ static_cast<const std::uint8_t *>(from)[k]) * 1099511628211u;
 }
 
-/// A sum of all slots of an array and of what is below it.
+/// A sum over all slots of an array and of the arrays below it.
 std::uint64_t sum_of(const ArrowSchema &schema, const ArrowArray &array) {
     const std::string format = schema.format;
     std::uint64_t sum = 14695981039346656037u;
@@ -140,22 +141,23 @@ struct Part {
     std::uint64_t sum;
 };
 
-/// Moves an array out, and what is below it out of it, all of which lives on by itself.
+/// Moves an array out, and the arrays below it out of it, all of which stay valid separately.
 void take_apart(std::vector<Part> &parts, const ArrowSchema &schema, ArrowArray *from) {
     const std::uint64_t sum = sum_of(schema, *from);
     Owned<ArrowArray> array(from);
-    want(from->release == nullptr && sum_of(schema, array.it) == sum, "an array that was moved out is the same");
+    expect(from->release == nullptr && sum_of(schema, array.it) == sum, "an array that was moved out is the same");
     bool is_leaf = array.it.n_children == 0 && array.it.dictionary == nullptr;
     for (std::int64_t k = 0; k < array.it.n_children; k++) take_apart(parts, *schema.children[k], array.it.children[k]);
     if (array.it.dictionary != nullptr) take_apart(parts, *schema.dictionary, array.it.dictionary);
     if (is_leaf) parts.push_back(Part{std::move(array), &schema, sum});
 }
 
-/// Reads all arrays of a stream, which is gone afterwards; answers the status of its last call, which comes again.
+/// Reads all arrays of a stream, which is released at the end; returns the status of its last call, which is
+/// the same if the call is made again.
 int read_all(const std::vector<std::uint8_t> &bytes, arrowflow_limits limits, Owned<ArrowSchema> &schema,
              std::vector<Owned<ArrowArray>> &arrays) {
     Owned<ArrowArrayStream> stream;
-    want(arrowflow_stream_of_bytes(bytes.data(), bytes.size(), limits, &stream.it) == ARROWFLOW_KIND_FINE, "a stream");
+    expect(arrowflow_stream_of_bytes(bytes.data(), bytes.size(), limits, &stream.it) == ARROWFLOW_KIND_FINE, "a stream");
     int status = stream.it.get_schema(&stream.it, &schema.it);
     while (status == 0) {
         ArrowArray array;
@@ -166,9 +168,9 @@ int read_all(const std::vector<std::uint8_t> &bytes, arrowflow_limits limits, Ow
     const char *error = stream.it.get_last_error(&stream.it);
     const std::string first = error == nullptr ? "" : error;
     ArrowArray none;
-    want(stream.it.get_next(&stream.it, &none) == status && none.release == nullptr, "an end, or a fault, comes again");
+    expect(stream.it.get_next(&stream.it, &none) == status && none.release == nullptr, "an end, or a fault, comes again");
     error = stream.it.get_last_error(&stream.it);
-    want(first == (error == nullptr ? "" : error) && first.empty() == (status == 0), "its text comes again");
+    expect(first == (error == nullptr ? "" : error) && first.empty() == (status == 0), "its text comes again");
     return status;
 }
 
@@ -179,7 +181,7 @@ int read(const char *name, arrowflow_limits limits) {
     Owned<ArrowSchema> schema;
     std::vector<Owned<ArrowArray>> arrays;
     const int status = read_all(bytes, limits, schema, arrays);
-    want((status == 0) == (report.kind == ARROWFLOW_KIND_FINE) && arrays.size() == report.batches, "what check says");
+    expect((status == 0) == (report.kind == ARROWFLOW_KIND_FINE) && arrays.size() == report.batches, "what check says");
     bytes.assign(bytes.size(), 0);
     std::vector<Part> parts;
     while (!arrays.empty()) {
@@ -188,7 +190,7 @@ int read(const char *name, arrowflow_limits limits) {
     }
     for (std::size_t k = 0; k < parts.size(); k += 2) parts[k].array.release();
     for (std::size_t k = 1; k < parts.size(); k += 2)
-        want(sum_of(*parts[k].schema, parts[k].array.it) == parts[k].sum, "a child outlives all others");
+        expect(sum_of(*parts[k].schema, parts[k].array.it) == parts[k].sum, "a child outlives all others");
     return status == 0 ? 0 : 1;
 }
 

@@ -1,9 +1,9 @@
 //! usage: arrays [--types core|all] FILE
 //!
-//! Reads a stream as an ArrowArrayStream of the Arrow C stream interface. The stream and its bytes go first. Then the
-//! last child is moved out of each array, and its dictionary or first child out of that, as the interface says, and
-//! parents are released before what was in them. Prints how many rows there are, and ends with status 1 and the stream's
-//! own text at a fault, which comes twice.
+//! Reads a stream as an ArrowArrayStream of the Arrow C stream interface. The stream and its bytes are dropped first. Then
+//! the last child is moved out of each array, and its dictionary or first child out of that, as the interface says, and
+//! parents are released before the arrays that were moved out of them. Prints how many rows there are. At a fault, which is
+//! returned twice, it exits with status 1 and prints the stream's own text.
 
 use std::ffi::{CStr, c_char, c_int, c_void};
 use std::process::ExitCode;
@@ -64,10 +64,10 @@ mod c {
     }
 }
 
-/// An array that is released when it is dropped, on whatever thread.
+/// An array that is released when it is dropped, on any thread.
 struct Array(c::Array);
 
-// SAFETY: `arrowflow_stream.h` says that arrays go to any thread and are released there.
+// SAFETY: `arrowflow_stream.h` says that arrays may be passed to any thread and released there.
 unsafe impl Send for Array {}
 
 impl Drop for Array {
@@ -81,12 +81,12 @@ impl Drop for Array {
 }
 
 impl Array {
-    /// Moves an array out of the one that has it.
+    /// Moves an array out of the struct that has it.
     ///
     /// # Safety
-    /// The pointer is of an array that nobody else uses.
+    /// The pointer is to an array that nothing else uses.
     unsafe fn moved(from: *mut c::Array) -> Array {
-        // SAFETY: as the caller says; `release` of what stays tells that it was moved.
+        // SAFETY: the caller's obligation; `release` of the original shows that it was moved.
         unsafe {
             let array = ptr::read(from);
             (*from).release = None;
@@ -106,13 +106,13 @@ impl Array {
         }
     }
 
-    /// How many slots have a value.
+    /// How many slots are not null.
     fn values(&self) -> usize {
         let slots = self.0.length as usize;
         if self.0.n_buffers == 0 {
             return 0;
         }
-        // SAFETY: there is a first buffer; where it is not NULL it has a bit for each slot.
+        // SAFETY: there is a first buffer; if it is not NULL it has a bit for each slot.
         unsafe {
             let bits: *const u8 = (*self.0.buffers).cast();
             if bits.is_null() {
@@ -129,7 +129,8 @@ struct Stream(c::Stream);
 
 impl Stream {
     fn new(bytes: &[u8], types: u32) -> Stream {
-        // SAFETY: a stream of zeros is a released one; the bytes outlive what is made of it, since the caller drops it first.
+        // SAFETY: a stream of zeros is a released one; the bytes outlive everything that is made of them, since the caller
+        // drops them last.
         unsafe {
             let mut stream: c::Stream = mem::zeroed();
             let limits = c::Limits { types, ..c::arrowflow_standard_limits() };
@@ -138,9 +139,9 @@ impl Stream {
         }
     }
 
-    /// The next array, or none at the end, or the fault's text.
+    /// The next array, or `None` at the end, or the fault's text.
     fn next(&mut self) -> Result<Option<Array>, String> {
-        // SAFETY: the stream has these calls until it is released, and its text lives until the next one.
+        // SAFETY: the stream has these calls until it is released, and its text is valid until the next call.
         unsafe {
             let mut array: c::Array = mem::zeroed();
             if self.0.get_next.expect("a call")(&mut self.0, &mut array) == 0 {
@@ -151,9 +152,9 @@ impl Stream {
         }
     }
 
-    /// How many columns the schema has, if it came.
+    /// How many columns the schema has, if it was read.
     fn columns(&mut self) -> Option<i64> {
-        // SAFETY: as in `next`; a schema that was given is released.
+        // SAFETY: as in `next`; a schema that was returned is released.
         unsafe {
             let mut schema: c::Schema = mem::zeroed();
             if self.0.get_schema.expect("a call")(&mut self.0, &mut schema) != 0 {
@@ -169,7 +170,7 @@ impl Stream {
 
 impl Drop for Stream {
     fn drop(&mut self) {
-        // SAFETY: it was made, and is released once.
+        // SAFETY: the stream was made, and is released once.
         unsafe { self.0.release.expect("a stream to release")(&mut self.0) }
     }
 }

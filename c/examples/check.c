@@ -1,9 +1,9 @@
 /* usage: check [--types core|all] schema|check|show FILE, check --bad [FILE..]
  *
- * Prints what `arrowflow schema`, `check` and `show` print of a stream, and ends as they do. Before
- * that the stream is checked, and read again in pieces, which has to give the same, and each value
- * has to stand in the buffers of its column; and the fields that a reader tells have to make the text
- * of the schema. With --bad each call is given what no stream is, and paths that lead nowhere.
+ * Prints what `arrowflow schema`, `check` and `show` print for a stream, and exits with the same status. Before
+ * that it checks the stream, and reads it again in pieces, which must have the same result. Each value must be
+ * in the buffers of its column, and the fields that a reader returns must make the text of the schema. With
+ * --bad each call is passed invalid streams, and paths that lead to nothing.
  */
 #include "arrowflow.h"
 
@@ -12,7 +12,7 @@
 #include <stdlib.h>
 #include <string.h>
 
-/* The types that are read: enum arrowflow_types. */
+/* The types that are accepted: enum arrowflow_types. */
 static uint32_t types = ARROWFLOW_TYPES_CORE;
 
 static arrowflow_limits wanted_limits(void) {
@@ -21,7 +21,7 @@ static arrowflow_limits wanted_limits(void) {
     return limits;
 }
 
-/* All of a file, which the caller frees, or NULL. */
+/* Returns the contents of a file, which the caller frees, or NULL. */
 static uint8_t *read_file(const char *name, size_t *len) {
     FILE *file = fopen(name, "rb");
     size_t room = 65536;
@@ -38,14 +38,14 @@ static uint8_t *read_file(const char *name, size_t *len) {
     return bytes;
 }
 
-/* The number of so many bytes, the first of them the least significant. */
+/* The number in this many bytes, the least significant first. */
 static uint64_t number_at(const uint8_t *at, size_t width) {
     uint64_t number = 0;
     for (size_t k = width; k-- > 0;) number = number << 8 | at[k];
     return number;
 }
 
-/* The same, of slot i of numbers or indices, a negative one as two's complement of 64 bits. */
+/* The same for slot i of numbers or indices; a negative one as two's complement of 64 bits. */
 static uint64_t number_of(const arrowflow_column *of, size_t i) {
     uint64_t number = number_at(of->values + of->width * i, of->width);
     bool is_negative = of->has_sign && of->width < 8 && number >> (8 * of->width - 1);
@@ -60,7 +60,7 @@ static double half_at(uint64_t bits) {
     return bits >> 15 ? -size : size;
 }
 
-/* Whether a cell has the floating-point number of slot i, a zero's sign included; of NaNs, any. */
+/* Whether a cell has the floating-point number of slot i, including a zero's sign; for a NaN, any NaN. */
 static bool has_float(const arrowflow_column *of, size_t i, arrowflow_cell cell) {
     uint64_t bits = number_at(of->values + of->width * i, of->width);
     uint32_t single_bits = (uint32_t)bits;
@@ -73,7 +73,7 @@ static bool has_float(const arrowflow_column *of, size_t i, arrowflow_cell cell)
     return memcmp(&real, &cell.real, sizeof real) == 0;
 }
 
-/* Whether a cell has the number of slot i; one that takes more than 64 bits is not in the cell. */
+/* Whether a cell has the number of slot i; a number of more than 64 bits is not in the cell. */
 static bool has_number(const arrowflow_column *of, size_t i, arrowflow_cell cell) {
     uint64_t number = number_of(of, i), above = 0;
     if (of->width > 8) {
@@ -87,12 +87,12 @@ static bool has_number(const arrowflow_column *of, size_t i, arrowflow_cell cell
 
 static bool bit_at(const uint8_t *bits, size_t i) { return bits[i / 8] >> i % 8 & 1; }
 
-/* Whether a cell has just these bytes, which the call put into the room. */
+/* Whether a cell has exactly these bytes, which the call wrote to the buffer. */
 static bool has_bytes(arrowflow_cell cell, uint32_t what, const uint8_t *room, const uint8_t *from, size_t len) {
     return cell.type == what && cell.size == len && memcmp(room, from, len < 64 ? len : 64) == 0;
 }
 
-/* Whether the value of a cell is what stands in slot i of the column that the path leads to. */
+/* Whether the value of a cell is the one in slot i of the column that the path leads to. */
 static bool is_in_column(arrowflow_reader *reader, size_t *path, size_t depth, size_t i, arrowflow_cell cell,
                          const uint8_t *room) {
     arrowflow_column of = arrowflow_reader_column(reader, path, depth), below;
@@ -125,7 +125,7 @@ static bool is_in_column(arrowflow_reader *reader, size_t *path, size_t depth, s
     }
 }
 
-/* Whether each value of the batch that came last stands in the buffers of its column. */
+/* Whether each value of the last batch is in the buffers of its column. */
 static bool are_in_columns(arrowflow_reader *reader, arrowflow_step step) {
     for (size_t column = 0; column < step.columns; column++)
         for (size_t row = 0; row < step.rows; row++) {
@@ -137,7 +137,7 @@ static bool are_in_columns(arrowflow_reader *reader, arrowflow_step step) {
     return true;
 }
 
-/* What a reader finds that is given the stream in pieces of this length. */
+/* What a reader returns if the stream comes in pieces of this length. */
 static arrowflow_report in_pieces(const uint8_t *bytes, size_t len, size_t piece) {
     arrowflow_reader *reader = NULL;
     arrowflow_report found = {0, false, 0, 0, 0};
@@ -168,7 +168,7 @@ static bool is_same(arrowflow_report a, arrowflow_report b) {
 
 /* ---- the fields of a schema ---- */
 
-/* A text that grows. */
+/* A text to which bytes are added. */
 typedef struct {
     char *at;
     size_t len, room;
@@ -186,7 +186,7 @@ static void add(text *to, const char *bytes, size_t len) {
 
 static void add_word(text *to, const char *word) { add(to, word, strlen(word)); }
 
-/* Adds a name as the text of a schema has it. */
+/* Adds a name as it is in the text of a schema. */
 static void add_escaped(text *to, const char *name, size_t len) {
     for (size_t k = 0; k < len; k++) {
         unsigned char byte = (unsigned char)name[k];
@@ -197,7 +197,7 @@ static void add_escaped(text *to, const char *name, size_t len) {
     }
 }
 
-/* What the text of a schema has for a format string that says all of a type. */
+/* The text of a schema for each format string that describes a type completely. */
 static const char *const type_words[][2] = {
     {"n", "null"},         {"b", "bool"},          {"c", "int8"},          {"C", "uint8"},         {"s", "int16"},
     {"S", "uint16"},       {"i", "int32"},         {"I", "uint32"},        {"l", "int64"},         {"L", "uint64"},
@@ -213,7 +213,7 @@ static const char *unit_word(char unit) {
     return unit == 's' ? "s" : unit == 'm' ? "ms" : unit == 'u' ? "us" : unit == 'n' ? "ns" : "?";
 }
 
-/* Adds the type of a decimal, of whose format this is what follows "d:": digits, scale, and bits if they are not 128. */
+/* Adds the type of a decimal. The format is what follows "d:": digits, scale, and bits if they are not 128. */
 static void add_decimal(text *to, const char *format, size_t len) {
     const char *end = format + len, *scale = memchr(format, ',', len);
     const char *bits = scale == NULL ? NULL : memchr(scale + 1, ',', (size_t)(end - scale - 1));
@@ -228,7 +228,7 @@ static void add_decimal(text *to, const char *format, size_t len) {
     add_word(to, ")");
 }
 
-/* Adds the type that a format string tells. */
+/* Adds the type that a format string describes. */
 static void add_type(text *to, const char *format, size_t len) {
     if (len >= 2 && memcmp(format, "d:", 2) == 0) {
         add_decimal(to, format + 2, len - 2);
@@ -252,7 +252,7 @@ static void add_type(text *to, const char *format, size_t len) {
     }
 }
 
-/* The field that a path leads to, with its texts, which the caller frees: measured first. */
+/* The field that a path leads to, with its texts, which the caller frees: a first call returns their size. */
 static arrowflow_field field_at(arrowflow_reader *reader, const size_t *path, size_t depth, char **texts) {
     arrowflow_field of = arrowflow_reader_field(reader, path, depth, NULL, 0);
     size_t size = of.name_len + of.format_len + of.metadata_len;
@@ -261,7 +261,7 @@ static arrowflow_field field_at(arrowflow_reader *reader, const size_t *path, si
     return arrowflow_reader_field(reader, path, depth, (uint8_t *)*texts, size);
 }
 
-/* Adds the line of a field, and those of the fields below it, as they stand in the text of a schema. */
+/* Adds the line of a field, and those of the fields below it, as they are in the text of a schema. */
 static void add_field(text *to, arrowflow_reader *reader, size_t *path, size_t depth, size_t level) {
     char *texts, *value_texts, id[64];
     arrowflow_field of = field_at(reader, path, depth, &texts), values = of;
@@ -290,10 +290,11 @@ static void add_field(text *to, arrowflow_reader *reader, size_t *path, size_t d
     free(texts);
 }
 
-/* How many bytes of a text say that a zone is the empty one: a format string tells none from that one. */
+/* How many bytes of a text say that a time zone is present and empty: a format string does not distinguish that
+ * from no time zone. */
 static size_t empty_zone(const char *at, size_t len) { return len > 2 && memcmp(at, ", ]", 3) == 0 ? 2 : 0; }
 
-/* Whether two texts of a schema are the same but for that. */
+/* Whether two texts of a schema are equal except for that. */
 static bool is_same_text(const char *a, size_t a_len, const char *b, size_t b_len) {
     size_t j = 0, k = 0;
     while (true) {
@@ -304,21 +305,21 @@ static bool is_same_text(const char *a, size_t a_len, const char *b, size_t b_le
     }
 }
 
-/* Whether the fields that are told of the stream's schema make its text. */
-static bool has_fields(const uint8_t *bytes, size_t len, const char *wanted, size_t size) {
+/* Whether the fields that a reader returns for the stream's schema make its text. */
+static bool has_fields(const uint8_t *bytes, size_t len, const char *expected, size_t size) {
     arrowflow_reader *reader = NULL;
-    text told = {NULL, 0, 0};
+    text result = {NULL, 0, 0};
     size_t path[72] = {0};
     bool same = arrowflow_reader_open(wanted_limits(), &reader) == ARROWFLOW_KIND_FINE
         && arrowflow_reader_read(reader, bytes, len).message == ARROWFLOW_MESSAGE_SCHEMA;
     arrowflow_field schema = arrowflow_reader_field(reader, NULL, 0, NULL, 0);
     for (size_t k = 0; k < schema.children; k++) {
         path[0] = k;
-        add_field(&told, reader, path, 1, 0);
+        add_field(&result, reader, path, 1, 0);
     }
-    same = same && is_same_text(told.at == NULL ? "" : told.at, told.len, wanted, size);
+    same = same && is_same_text(result.at == NULL ? "" : result.at, result.len, expected, size);
     arrowflow_reader_close(reader);
-    free(told.at);
+    free(result.at);
     return same;
 }
 
@@ -326,7 +327,7 @@ static bool has_fields(const uint8_t *bytes, size_t len, const char *wanted, siz
 
 typedef arrowflow_text (*call)(const uint8_t *, size_t, arrowflow_limits, uint8_t *, size_t);
 
-/* The call that a command names, or NULL. */
+/* The call for a command's name, or NULL. */
 static call named(const char *command) {
     if (strcmp(command, "schema") == 0) return arrowflow_schema;
     if (strcmp(command, "check") == 0) return arrowflow_messages;
@@ -334,23 +335,23 @@ static call named(const char *command) {
     return NULL;
 }
 
-/* Prints the text that a call gives of the stream: the first call measures, the second fills. That of a
- * schema has to be the text of the fields that a reader tells. */
+/* Prints the text that a call returns for the stream: the first call returns its size, the second one writes
+ * it. The text of a schema must be that of the fields that a reader returns. */
 static arrowflow_text print(call give, const uint8_t *bytes, size_t len, bool *same) {
     arrowflow_limits limits = wanted_limits();
     uint8_t none;
-    arrowflow_text told = give(bytes, len, limits, &none, 0);
-    uint8_t *out = malloc(told.size + 1);
-    if (out != NULL) told = give(bytes, len, limits, out, told.size);
-    if (out == NULL || fwrite(out, 1, told.size, stdout) != told.size || fflush(stdout) != 0)
-        told.kind = ARROWFLOW_KIND_MEMORY;
-    if (give == arrowflow_schema && told.kind == ARROWFLOW_KIND_FINE && !has_fields(bytes, len, (char *)out, told.size))
+    arrowflow_text result = give(bytes, len, limits, &none, 0);
+    uint8_t *out = malloc(result.size + 1);
+    if (out != NULL) result = give(bytes, len, limits, out, result.size);
+    if (out == NULL || fwrite(out, 1, result.size, stdout) != result.size || fflush(stdout) != 0)
+        result.kind = ARROWFLOW_KIND_MEMORY;
+    if (give == arrowflow_schema && result.kind == ARROWFLOW_KIND_FINE && !has_fields(bytes, len, (char *)out, result.size))
         *same = false;
     free(out);
-    return told;
+    return result;
 }
 
-static int tell(const char *command, const char *name) {
+static int run_command(const char *command, const char *name) {
     size_t len;
     call give = named(command);
     uint8_t *bytes = give == NULL ? NULL : read_file(name, &len);
@@ -360,22 +361,22 @@ static int tell(const char *command, const char *name) {
     }
     arrowflow_report report = arrowflow_check(bytes, len, wanted_limits());
     bool same = is_same(report, in_pieces(bytes, len, 7)) && is_same(report, in_pieces(bytes, len, len));
-    arrowflow_text told = print(give, bytes, len, &same);
+    arrowflow_text result = print(give, bytes, len, &same);
     free(bytes);
-    /* the schema's call looks at the first message alone */
-    if (give != arrowflow_schema && told.kind != report.kind) same = false;
+    /* the call for the schema reads only the first message */
+    if (give != arrowflow_schema && result.kind != report.kind) same = false;
     if (!same) {
         fprintf(stderr, "two calls disagree\n");
         return 3;
     }
-    if (told.kind == ARROWFLOW_KIND_FINE) return 0;
-    fprintf(stderr, "fault at byte %llu: %s\n", (unsigned long long)told.place, arrowflow_kind_name(told.kind));
+    if (result.kind == ARROWFLOW_KIND_FINE) return 0;
+    fprintf(stderr, "fault at byte %llu: %s\n", (unsigned long long)result.place, arrowflow_kind_name(result.kind));
     return 1;
 }
 
 static int failed = 0;
 
-#define WANT(fact)                                                          \
+#define EXPECT(fact)                                                        \
     do {                                                                    \
         if (!(fact)) {                                                      \
             fprintf(stderr, "%s:%d: not so: %s\n", __FILE__, __LINE__, #fact); \
@@ -383,7 +384,7 @@ static int failed = 0;
         }                                                                   \
     } while (0)
 
-/* The calls on whole streams, with no bytes, bytes that are no stream, no room and bad limits. */
+/* The calls on complete streams, with no bytes, bytes that are no stream, a buffer of no bytes and bad limits. */
 static void bad_streams(void) {
     const call calls[] = {arrowflow_schema, arrowflow_messages, arrowflow_show};
     const uint8_t junk[8] = {1, 2, 3, 4, 5, 6, 7, 8};
@@ -393,74 +394,74 @@ static void bad_streams(void) {
     arrowflow_limits other = fine;
     other.types = 2;
     uint8_t room[4] = {9, 9, 9, 9};
-    WANT(arrowflow_check(NULL, 0, fine).kind == ARROWFLOW_KIND_NO_SCHEMA);
-    WANT(arrowflow_check(junk, 0, fine).kind == ARROWFLOW_KIND_NO_SCHEMA);
-    WANT(arrowflow_check(junk, 8, fine).kind == ARROWFLOW_KIND_CONTINUATION);
-    WANT(arrowflow_check(junk, 8, high).kind == ARROWFLOW_KIND_BAD_LIMITS);
-    WANT(arrowflow_check(junk, 8, other).kind == ARROWFLOW_KIND_BAD_LIMITS);
-    WANT(arrowflow_copy(NULL, 0, fine, options, NULL, 0).kind == ARROWFLOW_KIND_NO_SCHEMA);
-    WANT(arrowflow_copy(junk, 8, fine, options, room, 4).kind == ARROWFLOW_KIND_CONTINUATION);
-    WANT(arrowflow_copy(junk, 8, high, options, room, 4).kind == ARROWFLOW_KIND_BAD_LIMITS);
-    WANT(arrowflow_schema(NULL, 0, fine, NULL, 0).kind == ARROWFLOW_KIND_NO_SCHEMA);
-    WANT(arrowflow_messages(NULL, 0, fine, NULL, 0).kind == ARROWFLOW_KIND_NO_SCHEMA);
-    WANT(arrowflow_show(NULL, 0, fine, NULL, 0).kind == ARROWFLOW_KIND_NO_SCHEMA);
+    EXPECT(arrowflow_check(NULL, 0, fine).kind == ARROWFLOW_KIND_NO_SCHEMA);
+    EXPECT(arrowflow_check(junk, 0, fine).kind == ARROWFLOW_KIND_NO_SCHEMA);
+    EXPECT(arrowflow_check(junk, 8, fine).kind == ARROWFLOW_KIND_CONTINUATION);
+    EXPECT(arrowflow_check(junk, 8, high).kind == ARROWFLOW_KIND_BAD_LIMITS);
+    EXPECT(arrowflow_check(junk, 8, other).kind == ARROWFLOW_KIND_BAD_LIMITS);
+    EXPECT(arrowflow_copy(NULL, 0, fine, options, NULL, 0).kind == ARROWFLOW_KIND_NO_SCHEMA);
+    EXPECT(arrowflow_copy(junk, 8, fine, options, room, 4).kind == ARROWFLOW_KIND_CONTINUATION);
+    EXPECT(arrowflow_copy(junk, 8, high, options, room, 4).kind == ARROWFLOW_KIND_BAD_LIMITS);
+    EXPECT(arrowflow_schema(NULL, 0, fine, NULL, 0).kind == ARROWFLOW_KIND_NO_SCHEMA);
+    EXPECT(arrowflow_messages(NULL, 0, fine, NULL, 0).kind == ARROWFLOW_KIND_NO_SCHEMA);
+    EXPECT(arrowflow_show(NULL, 0, fine, NULL, 0).kind == ARROWFLOW_KIND_NO_SCHEMA);
     for (size_t i = 0; i < sizeof calls / sizeof *calls; i++) {
-        WANT(calls[i](junk, 8, fine, room, 4).kind == ARROWFLOW_KIND_CONTINUATION);
-        WANT(calls[i](junk, 8, high, room, 4).kind == ARROWFLOW_KIND_BAD_LIMITS);
-        WANT(calls[i](junk, 8, other, room, 4).kind == ARROWFLOW_KIND_BAD_LIMITS);
-        WANT(calls[i](junk, 8, fine, room, 4).size == 0);
+        EXPECT(calls[i](junk, 8, fine, room, 4).kind == ARROWFLOW_KIND_CONTINUATION);
+        EXPECT(calls[i](junk, 8, high, room, 4).kind == ARROWFLOW_KIND_BAD_LIMITS);
+        EXPECT(calls[i](junk, 8, other, room, 4).kind == ARROWFLOW_KIND_BAD_LIMITS);
+        EXPECT(calls[i](junk, 8, fine, room, 4).size == 0);
     }
-    WANT(room[0] == 9 && room[3] == 9);
+    EXPECT(room[0] == 9 && room[3] == 9);
 }
 
-/* Whether a path leads to no column, of which nothing is told. */
+/* Whether a path leads to no column, for which nothing else is returned. */
 static bool is_no_column(arrowflow_reader *reader, const size_t *path, size_t depth) {
     arrowflow_column none = arrowflow_reader_column(reader, path, depth);
     return none.layout == ARROWFLOW_LAYOUT_NONE && none.slots == 0 && none.children == 0 && none.entries == 0
         && none.validity_len == 0 && none.offsets_len == 0 && none.values_len == 0;
 }
 
-/* The calls of a reader: on none, with nothing, after a fault, with bad limits. */
+/* The calls of a reader: without a reader, without input, after a fault, and with bad limits. */
 static void bad_readers(void) {
     const uint8_t junk[8] = {0};
     const size_t path[2] = {0, SIZE_MAX};
     arrowflow_limits fine = arrowflow_standard_limits(), high = fine;
     high.max_rows++;
     arrowflow_reader *reader = NULL;
-    WANT(arrowflow_reader_read(reader, junk, 8).kind == ARROWFLOW_KIND_NO_HANDLE);
-    WANT(arrowflow_reader_end(reader).kind == ARROWFLOW_KIND_NO_HANDLE);
-    WANT(arrowflow_reader_cell(reader, 0, 0, NULL, 0).type == ARROWFLOW_CELL_NONE);
-    WANT(is_no_column(reader, NULL, 0) && is_no_column(reader, path, 1) && is_no_column(reader, path, 2));
+    EXPECT(arrowflow_reader_read(reader, junk, 8).kind == ARROWFLOW_KIND_NO_HANDLE);
+    EXPECT(arrowflow_reader_end(reader).kind == ARROWFLOW_KIND_NO_HANDLE);
+    EXPECT(arrowflow_reader_cell(reader, 0, 0, NULL, 0).type == ARROWFLOW_CELL_NONE);
+    EXPECT(is_no_column(reader, NULL, 0) && is_no_column(reader, path, 1) && is_no_column(reader, path, 2));
     arrowflow_reader_close(reader);
-    WANT(arrowflow_reader_open(high, &reader) == ARROWFLOW_KIND_BAD_LIMITS && reader == NULL);
-    WANT(arrowflow_reader_open(fine, &reader) == ARROWFLOW_KIND_FINE && reader != NULL);
-    WANT(arrowflow_reader_read(reader, NULL, 0).message == ARROWFLOW_MESSAGE_NONE);
-    WANT(arrowflow_reader_end(reader).kind == ARROWFLOW_KIND_NO_SCHEMA);
-    WANT(is_no_column(reader, NULL, 0) && is_no_column(reader, path, 1));
-    WANT(arrowflow_reader_read(reader, junk, 8).kind == ARROWFLOW_KIND_CONTINUATION);
-    WANT(arrowflow_reader_read(reader, junk, 8).kind == ARROWFLOW_KIND_CONTINUATION);
-    WANT(is_no_column(reader, path, 1));
-    WANT(arrowflow_reader_read(reader, junk, 8).taken == 0);
-    WANT(arrowflow_reader_end(reader).kind == ARROWFLOW_KIND_CONTINUATION);
-    WANT(arrowflow_reader_cell(reader, SIZE_MAX, SIZE_MAX, NULL, 0).type == ARROWFLOW_CELL_NONE);
+    EXPECT(arrowflow_reader_open(high, &reader) == ARROWFLOW_KIND_BAD_LIMITS && reader == NULL);
+    EXPECT(arrowflow_reader_open(fine, &reader) == ARROWFLOW_KIND_FINE && reader != NULL);
+    EXPECT(arrowflow_reader_read(reader, NULL, 0).message == ARROWFLOW_MESSAGE_NONE);
+    EXPECT(arrowflow_reader_end(reader).kind == ARROWFLOW_KIND_NO_SCHEMA);
+    EXPECT(is_no_column(reader, NULL, 0) && is_no_column(reader, path, 1));
+    EXPECT(arrowflow_reader_read(reader, junk, 8).kind == ARROWFLOW_KIND_CONTINUATION);
+    EXPECT(arrowflow_reader_read(reader, junk, 8).kind == ARROWFLOW_KIND_CONTINUATION);
+    EXPECT(is_no_column(reader, path, 1));
+    EXPECT(arrowflow_reader_read(reader, junk, 8).taken == 0);
+    EXPECT(arrowflow_reader_end(reader).kind == ARROWFLOW_KIND_CONTINUATION);
+    EXPECT(arrowflow_reader_cell(reader, SIZE_MAX, SIZE_MAX, NULL, 0).type == ARROWFLOW_CELL_NONE);
     arrowflow_reader_close(reader);
 }
 
-/* Paths that lead nowhere, out of the columns of each batch of a stream. The reader stays where it was. */
+/* Paths that lead to nothing, starting at the columns of each batch of a stream. They do not change the reader. */
 static void bad_paths(const uint8_t *bytes, size_t len) {
     arrowflow_reader *reader = NULL;
     arrowflow_step step = {0, 0, 0, 0, 0, 0, 0};
-    WANT(arrowflow_reader_open(arrowflow_standard_limits(), &reader) == ARROWFLOW_KIND_FINE);
+    EXPECT(arrowflow_reader_open(arrowflow_standard_limits(), &reader) == ARROWFLOW_KIND_FINE);
     for (size_t at = 0; at < len && step.kind == ARROWFLOW_KIND_FINE && step.message != ARROWFLOW_MESSAGE_END; at += step.taken) {
         step = arrowflow_reader_read(reader, bytes + at, len - at);
         arrowflow_fault end = arrowflow_reader_end(reader);
         for (size_t k = 0; k < step.columns; k++) {
             size_t path[2] = {k, 0}, none[2] = {k, SIZE_MAX}, past[1] = {step.columns};
             arrowflow_column of = arrowflow_reader_column(reader, path, 1);
-            WANT(of.slots == step.rows && of.slot == 0);
-            WANT(is_no_column(reader, path, 2) == (of.children == 0 && of.entries == 0));
-            WANT(is_no_column(reader, none, 2) && is_no_column(reader, past, 1) && is_no_column(reader, path, 0));
-            WANT(arrowflow_reader_end(reader).kind == end.kind && arrowflow_reader_end(reader).place == end.place);
+            EXPECT(of.slots == step.rows && of.slot == 0);
+            EXPECT(is_no_column(reader, path, 2) == (of.children == 0 && of.entries == 0));
+            EXPECT(is_no_column(reader, none, 2) && is_no_column(reader, past, 1) && is_no_column(reader, path, 0));
+            EXPECT(arrowflow_reader_end(reader).kind == end.kind && arrowflow_reader_end(reader).place == end.place);
         }
         if (step.message == ARROWFLOW_MESSAGE_NONE) break;
     }
@@ -518,26 +519,26 @@ static const wanted_field of_metadata[] = {
     {1, {4}, 2, false, 0, 0, "t", "tsu:UTC", BYTES("")},
 };
 
-/* Whether the call gives this field, with each room from one of no bytes to one that has a byte too many. */
-static bool is_told(arrowflow_reader *reader, const wanted_field *want) {
+/* Whether the call returns this field, with each buffer size from no bytes to one byte more than needed. */
+static bool is_returned(arrowflow_reader *reader, const wanted_field *expected_field) {
     uint8_t room[256], texts[256];
-    size_t name = strlen(want->name), format = strlen(want->format), all = name + format + want->metadata_len;
-    memcpy(texts, want->name, name);
-    memcpy(texts + name, want->format, format);
-    memcpy(texts + name + format, want->metadata, want->metadata_len);
+    size_t name = strlen(expected_field->name), format = strlen(expected_field->format), all = name + format + expected_field->metadata_len;
+    memcpy(texts, expected_field->name, name);
+    memcpy(texts + name, expected_field->format, format);
+    memcpy(texts + name + format, expected_field->metadata, expected_field->metadata_len);
     for (size_t size = 0; size <= all + 1; size++) {
         size_t put = size < all ? size : all;
         memset(room, 170, sizeof room);
-        arrowflow_field of = arrowflow_reader_field(reader, want->path, want->depth, room, size);
-        if (of.found != (want->depth == 0 ? ARROWFLOW_FOUND_SCHEMA : ARROWFLOW_FOUND_FIELD)) return false;
-        if (of.flags != want->flags || of.is_encoded != want->is_encoded || of.id != want->id) return false;
-        if (of.children != want->children || of.name_len != name || of.format_len != format) return false;
-        if (of.metadata_len != want->metadata_len || memcmp(room, texts, put) != 0 || room[put] != 170) return false;
+        arrowflow_field of = arrowflow_reader_field(reader, expected_field->path, expected_field->depth, room, size);
+        if (of.found != (expected_field->depth == 0 ? ARROWFLOW_FOUND_SCHEMA : ARROWFLOW_FOUND_FIELD)) return false;
+        if (of.flags != expected_field->flags || of.is_encoded != expected_field->is_encoded || of.id != expected_field->id) return false;
+        if (of.children != expected_field->children || of.name_len != name || of.format_len != format) return false;
+        if (of.metadata_len != expected_field->metadata_len || memcmp(room, texts, put) != 0 || room[put] != 170) return false;
     }
     return true;
 }
 
-/* Whether a path leads to no field: a struct of zeroes, and nothing is put into the room. */
+/* Whether a path leads to no field: the struct is all zeros, and nothing is written to the buffer. */
 static bool is_no_field(arrowflow_reader *reader, const size_t *path, size_t depth) {
     uint8_t room[2] = {9, 9};
     arrowflow_field of = arrowflow_reader_field(reader, path, depth, room, sizeof room);
@@ -545,41 +546,41 @@ static bool is_no_field(arrowflow_reader *reader, const size_t *path, size_t dep
         && of.name_len == 0 && of.format_len == 0 && of.metadata_len == 0 && room[0] == 9 && room[1] == 9;
 }
 
-/* The fields that a path leads to below others, and paths that lead past all of them. */
+/* Checks the fields below the one that a path leads to, and paths that lead past all of them. */
 static void fields_below(arrowflow_reader *reader, size_t *path, size_t depth) {
     arrowflow_field of = arrowflow_reader_field(reader, path, depth, NULL, 0);
     uint64_t below = of.is_encoded ? 1 : of.children;
-    WANT(of.found == (depth == 0 ? ARROWFLOW_FOUND_SCHEMA : ARROWFLOW_FOUND_FIELD) && (!of.is_encoded || of.children == 0));
+    EXPECT(of.found == (depth == 0 ? ARROWFLOW_FOUND_SCHEMA : ARROWFLOW_FOUND_FIELD) && (!of.is_encoded || of.children == 0));
     path[depth] = below;
-    WANT(is_no_field(reader, path, depth + 1));
+    EXPECT(is_no_field(reader, path, depth + 1));
     path[depth] = SIZE_MAX;
-    WANT(is_no_field(reader, path, depth + 1) && is_no_field(reader, path, depth + 2));
+    EXPECT(is_no_field(reader, path, depth + 1) && is_no_field(reader, path, depth + 2));
     for (uint64_t k = 0; k < below; k++) {
         path[depth] = k;
         fields_below(reader, path, depth + 1);
     }
 }
 
-/* The fields of a stream: each one's path, and what is wanted of those of two examples. */
+/* Checks the fields of a stream: the path of each, and the expected fields of two examples. */
 static void fields_of(const char *name, const uint8_t *bytes, size_t len) {
     arrowflow_reader *reader = NULL;
     size_t path[72] = {0};
     const char *file = strrchr(name, '/') == NULL ? name : strrchr(name, '/') + 1;
-    WANT(is_no_field(reader, NULL, 0));
-    WANT(arrowflow_reader_open(wanted_limits(), &reader) == ARROWFLOW_KIND_FINE);
-    WANT(is_no_field(reader, NULL, 0) && is_no_field(reader, path, 1));
+    EXPECT(is_no_field(reader, NULL, 0));
+    EXPECT(arrowflow_reader_open(wanted_limits(), &reader) == ARROWFLOW_KIND_FINE);
+    EXPECT(is_no_field(reader, NULL, 0) && is_no_field(reader, path, 1));
     arrowflow_step step = arrowflow_reader_read(reader, bytes, len);
     if (step.message != ARROWFLOW_MESSAGE_SCHEMA) {
-        WANT(is_no_field(reader, NULL, 0) && is_no_field(reader, path, 1));
+        EXPECT(is_no_field(reader, NULL, 0) && is_no_field(reader, path, 1));
     } else {
         fields_below(reader, path, 0);
-        WANT(arrowflow_reader_read(reader, bytes + step.taken, len - step.taken).message != ARROWFLOW_MESSAGE_SCHEMA);
+        EXPECT(arrowflow_reader_read(reader, bytes + step.taken, len - step.taken).message != ARROWFLOW_MESSAGE_SCHEMA);
         fields_below(reader, path, 0);
     }
     for (size_t k = 0; strcmp(file, "every_type.arrows") == 0 && k < sizeof of_every_type / sizeof *of_every_type; k++)
-        WANT(is_told(reader, &of_every_type[k]));
+        EXPECT(is_returned(reader, &of_every_type[k]));
     for (size_t k = 0; strcmp(file, "metadata.arrows") == 0 && k < sizeof of_metadata / sizeof *of_metadata; k++)
-        WANT(is_told(reader, &of_metadata[k]));
+        EXPECT(is_returned(reader, &of_metadata[k]));
     arrowflow_reader_close(reader);
 }
 
@@ -590,7 +591,7 @@ int main(int argc, char **argv) {
         bad_streams();
         bad_readers();
         for (int k = 2; k < argc; k++) {
-            WANT((bytes = read_file(argv[k], &len)) != NULL);
+            EXPECT((bytes = read_file(argv[k], &len)) != NULL);
             bad_paths(bytes, len);
             fields_of(argv[k], bytes, len);
             free(bytes);
@@ -602,7 +603,7 @@ int main(int argc, char **argv) {
         argv += 2;
         argc -= 2;
     }
-    if (argc == 3) return tell(argv[1], argv[2]);
+    if (argc == 3) return run_command(argv[1], argv[2]);
     fprintf(stderr, "usage: check [--types core|all] schema|check|show FILE, check --bad [FILE..]\n");
     return 2;
 }

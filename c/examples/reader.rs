@@ -1,10 +1,9 @@
 //! usage: reader [--types core|all] FILE PIECE, reader --bad
 //!
-//! Reads a stream in pieces of so many bytes, and prints the number of the batch and the values of
-//! each row, as `arrowflow show` does below its first line; `...` stands for a list or a struct. Texts
-//! and decimals are printed out of the buffers of their column, everything else cell by cell: an interval
-//! is a number or bytes there, which the format string of its field says. With --bad the calls of a reader are given
-//! what no stream is.
+//! Reads a stream in pieces of this many bytes, and prints the number of the batch and the values of each row, as
+//! `arrowflow show` does after its first line; a list or a struct is printed as `...`. Texts and decimals are printed from
+//! the buffers of their column, everything else cell by cell: an interval is a number or bytes there, whose meaning is in
+//! the format string of its field. With --bad the calls of a reader are passed invalid input.
 
 use std::io::{self, BufWriter, Write};
 use std::process::ExitCode;
@@ -104,11 +103,11 @@ mod c {
 
 const STANDARD: c::Limits = c::Limits { max_metadata: 1 << 26, max_body: 1 << 36, max_rows: i32::MAX as u64, types: 0 };
 
-/// A column of the batch that came last, as its buffers.
+/// A column of the last batch, with its buffers.
 struct Column<'a> {
     layout: u32,
     slots: usize,
-    /// Where the path ends with a value of a dictionary, the slot that it is in.
+    /// If the path ends with a value of a dictionary, the slot that has it.
     slot: usize,
     /// How many bytes a number, an index or an offset takes.
     width: usize,
@@ -126,12 +125,12 @@ impl<'a> Column<'a> {
         place_of(&self.offsets[self.width * i..self.width * (i + 1)])
     }
 
-    /// The bytes of slot i, of those that all take as many.
+    /// The bytes of slot i, for slots of one width.
     fn bytes(&self, i: usize) -> &'a [u8] {
         &self.values[self.width * i..self.width * (i + 1)]
     }
 
-    /// The text in slot i, if slots hold texts and this one has one.
+    /// The text in slot i, if slots hold texts and this one is not null.
     fn text(&self, i: usize) -> Option<&'a str> {
         if self.layout != 5 || self.is_null(i) {
             return None;
@@ -140,14 +139,14 @@ impl<'a> Column<'a> {
     }
 }
 
-/// A reader of a stream that comes in pieces. It is neither `Send` nor `Sync`, since it holds a pointer.
+/// A reader of a stream that arrives in pieces. It is neither `Send` nor `Sync`, since it holds a pointer.
 struct Reader(*mut c::Reader);
 
 impl Reader {
-    /// A reader of a new stream, or the kind that says why there is none.
+    /// A reader of a new stream, or the kind of the error.
     fn new(limits: c::Limits) -> Result<Reader, u32> {
         let mut reader = ptr::null_mut();
-        // SAFETY: the pointer is one to write to.
+        // SAFETY: the pointer may be written to.
         match unsafe { c::arrowflow_reader_open(limits, &mut reader) } {
             0 => Ok(Reader(reader)),
             kind => Err(kind),
@@ -156,20 +155,20 @@ impl Reader {
 
     /// Reads on in a piece, up to the end of one message.
     fn read(&mut self, piece: &[u8]) -> c::Step {
-        // SAFETY: the reader was opened, and is closed when it is dropped; nobody writes to the piece.
+        // SAFETY: the reader was opened, and is closed when it is dropped; nothing writes to the piece.
         unsafe { c::arrowflow_reader_read(self.0, piece.as_ptr(), piece.len()) }
     }
 
-    /// What a stream answers that ends here.
+    /// How the stream ends if no more bytes come.
     fn end(&self) -> c::Fault {
         // SAFETY: as in `read`.
         unsafe { c::arrowflow_reader_end(self.0) }
     }
 
-    /// A column of the batch that came last, or what is below one. Its buffers are the reader's, which the borrow keeps
-    /// as it is.
+    /// A column of the last batch, or a column below one. Its buffers belong to the reader, which the borrow keeps
+    /// unchanged.
     fn column<'a>(&'a self, path: &[usize]) -> Column<'a> {
-        // SAFETY: as in `read`; no pointer is NULL, and those that come out are read until the reader reads on.
+        // SAFETY: as in `read`; no pointer is NULL, and those that are returned are only read until the reader reads on.
         unsafe {
             let it = c::arrowflow_reader_column(self.0, path.as_ptr(), path.len());
             Column {
@@ -184,9 +183,9 @@ impl Reader {
         }
     }
 
-    /// What the schema has for the field that a path leads to. As much of its texts as fits is put into the room.
+    /// The field of the schema that a path leads to. As much of its texts as fits is written to the buffer.
     fn field(&self, path: &[usize], room: &mut [u8]) -> c::Field {
-        // SAFETY: as in `read`; no pointer is NULL, and the room is the caller's own.
+        // SAFETY: as in `read`; no pointer is NULL, and only the caller uses the buffer.
         unsafe { c::arrowflow_reader_field(self.0, path.as_ptr(), path.len(), room.as_mut_ptr(), room.len()) }
     }
 
@@ -200,7 +199,7 @@ impl Reader {
         String::from_utf8(texts.split_off(of.name_len as usize)).expect("UTF-8, as was checked")
     }
 
-    /// A value of the batch that came last, as `show` prints it.
+    /// A value of the last batch, as `show` prints it.
     fn shown(&self, column: usize, row: usize, format: &str) -> String {
         if let Some(words) = format.strip_prefix("d:") {
             let scale = words.split(',').nth(1).and_then(|scale| scale.parse().ok()).expect("a scale");
@@ -212,7 +211,7 @@ impl Reader {
         }
     }
 
-    /// The bytes of a decimal, also of one by a dictionary, if there is one.
+    /// The bytes of a decimal, which may be in a dictionary, if the value is one.
     fn decimal(&self, column: usize, row: usize) -> Option<Vec<u8>> {
         let (mut path, mut slot) = (vec![column], row);
         loop {
@@ -228,11 +227,11 @@ impl Reader {
         }
     }
 
-    /// A value, of a cell.
+    /// The value of a cell, as text.
     fn cell(&self, column: usize, row: usize, format: &str) -> String {
         let mut room = vec![0; 64];
         loop {
-            // SAFETY: as in `read`; the room is a vector's own.
+            // SAFETY: as in `read`; the buffer belongs to a vector.
             let cell = unsafe { c::arrowflow_reader_cell(self.0, column, row, room.as_mut_ptr(), room.len()) };
             let is_small = room.len() < cell.size as usize;
             room.resize(cell.size as usize, 0);
@@ -270,12 +269,12 @@ fn shown(cell: c::Cell, bytes: &[u8], format: &str) -> String {
     }
 }
 
-/// The number of these bytes.
+/// The number in these bytes.
 fn place_of(bytes: &[u8]) -> usize {
     bytes.iter().rev().fold(0, |sum, byte| sum << 8 | *byte as usize)
 }
 
-/// A decimal whose whole number has these bytes: with a point before the last digits, as many as its scale says.
+/// A decimal whose unscaled integer has these bytes: with a point before as many of the last digits as its scale says.
 fn decimal_of(bytes: &[u8], scale: i32) -> String {
     let is_negative = bytes.last().is_some_and(|byte| byte >> 7 == 1);
     let mut size = bytes.to_vec();
@@ -312,7 +311,7 @@ fn quoted(text: &str) -> String {
     }
 }
 
-/// Prints the rows of a stream in pieces, and answers how it ends.
+/// Prints the rows of a stream in pieces, and returns how it ends.
 fn print(stream: &[u8], size: usize, types: u32, out: &mut impl Write) -> io::Result<c::Fault> {
     let mut reader = Reader::new(c::Limits { types, ..STANDARD }).expect("a reader");
     let mut number = 0;
@@ -341,7 +340,7 @@ fn print(stream: &[u8], size: usize, types: u32, out: &mut impl Write) -> io::Re
     Ok(reader.end())
 }
 
-/// Whether the calls of a reader answer as they should where they are given what no stream is.
+/// Whether the calls of a reader return what they should for invalid input.
 fn bad() -> bool {
     let high = c::Limits { max_body: u64::MAX, ..STANDARD };
     let mut reader = Reader::new(STANDARD).expect("a reader");

@@ -1,12 +1,12 @@
 /* usage: starved FILE
  *
- * Makes each call on a stream again and again, and refuses one allocation in each, the first one,
- * the second one, and so on: the call answers ARROWFLOW_KIND_MEMORY, or what it answers with all of its
- * memory. A reader goes on where the same call is made again, and has its batch until then. So does an
- * ArrowArrayStream, whose schemas and arrays are those of all memory in the end. A copier is over, and what
- * may still be taken is the front of the copy. Of what a call took nothing is left, and nothing of a reader
- * or a copier that was closed wherever it was, nor of a stream and its arrays. It is linked
- * with -Wl,--wrap=malloc,--wrap=calloc,--wrap=realloc,--wrap=free.
+ * Makes each call on a stream again and again, and makes one allocation fail each time: the first one, the
+ * second one, and so on. The call returns ARROWFLOW_KIND_MEMORY, or what it returns with enough memory. A
+ * reader continues if the same call is made again, and has its batch until then. So does an ArrowArrayStream,
+ * whose schemas and arrays are in the end those that it has with enough memory. A copier is over, and the bytes
+ * that can still be taken are a prefix of the copy. No memory leaks from a call, from a reader or a copier that
+ * was closed at any point, or from a stream and its arrays. It is linked with
+ * -Wl,--wrap=malloc,--wrap=calloc,--wrap=realloc,--wrap=free.
  */
 #include "arrowflow_stream.h"
 
@@ -24,10 +24,10 @@ void *__wrap_calloc(size_t count, size_t size);
 void *__wrap_realloc(void *at, size_t size);
 void __wrap_free(void *at);
 
-/* How many allocations come before the one that is refused; below 0 none is. */
+/* How many allocations succeed before the one that fails; if it is below 0 none fails. */
 static long before = -1;
 static long refused = 0;
-/* How many readers kept a batch where an allocation was refused. */
+/* How many readers kept a batch when an allocation failed. */
 static long kept = 0;
 
 static bool is_refused(void) {
@@ -36,7 +36,7 @@ static bool is_refused(void) {
     return true;
 }
 
-/* How many blocks were taken and not freed. */
+/* How many blocks were allocated and not freed. */
 static long blocks = 0;
 
 void *__wrap_malloc(size_t size) {
@@ -64,10 +64,10 @@ void __wrap_free(void *at) {
 
 enum { MOST = 1 << 16 };
 
-static uint8_t bytes[MOST], wanted[MOST], found[MOST];
+static uint8_t bytes[MOST], expected[MOST], found[MOST];
 static size_t len;
 
-static void want(bool fact, const char *what) {
+static void expect(bool fact, const char *what) {
     if (fact) return;
     fprintf(stderr, "not so: %s, with allocation %ld refused\n", what, refused);
     exit(1);
@@ -81,9 +81,9 @@ static void starve_check(arrowflow_report whole) {
     for (long number = 0;; number++) {
         before = number;
         arrowflow_report report = arrowflow_check(bytes, len, arrowflow_standard_limits());
-        want(blocks == 0, "nothing left of a check");
+        expect(blocks == 0, "nothing left of a check");
         if (before >= 0) return;
-        want(report.kind == ARROWFLOW_KIND_MEMORY ? report.place == 0 && report.batches == 0 : is_same_report(report, whole), "check");
+        expect(report.kind == ARROWFLOW_KIND_MEMORY ? report.place == 0 && report.batches == 0 : is_same_report(report, whole), "check");
     }
 }
 
@@ -96,16 +96,16 @@ static void starve_fault(void) {
         before = number;
         arrowflow_culprit culprit = arrowflow_fault_column(bytes, len, limits);
         was_refused = before < 0;
-        want(blocks == 0, "nothing left of a column at fault");
-        want(culprit.kind == ARROWFLOW_KIND_MEMORY ? !culprit.found && culprit.column == 0
-             : culprit.found == whole.found && culprit.column == whole.column, "the column at fault");
+        expect(blocks == 0, "nothing left of a column at fault");
+        expect(culprit.kind == ARROWFLOW_KIND_MEMORY ? !culprit.found && culprit.column == 0
+               : culprit.found == whole.found && culprit.column == whole.column, "the column at fault");
         before = number;
-        want(arrowflow_fault_text(bytes, len, limits, text, sizeof text) < sizeof text && blocks == 0, "nothing left of a fault's text");
+        expect(arrowflow_fault_text(bytes, len, limits, text, sizeof text) < sizeof text && blocks == 0, "nothing left of a fault's text");
         was_refused |= before < 0;
     }
 }
 
-/* One of the calls that give a text, by its number. */
+/* One of the calls that return a text, by its number. */
 static arrowflow_text give(int call, uint8_t *out) {
     const arrowflow_options options = {false, true};
     arrowflow_limits limits = arrowflow_standard_limits();
@@ -119,14 +119,14 @@ static arrowflow_text give(int call, uint8_t *out) {
 
 static void starve_text(int call) {
     before = -1;
-    arrowflow_text whole = give(call, wanted);
+    arrowflow_text whole = give(call, expected);
     for (long number = 0;; number++) {
         before = number;
-        arrowflow_text told = give(call, found);
-        want(blocks == 0, "nothing left of a text");
+        arrowflow_text result = give(call, found);
+        expect(blocks == 0, "nothing left of a text");
         if (before >= 0) return;
-        want(told.kind == ARROWFLOW_KIND_MEMORY ? told.size <= whole.size : told.kind == whole.kind && told.size == whole.size, "the text's length");
-        want(told.size <= MOST && memcmp(found, wanted, told.size) == 0, "the text, or its beginning");
+        expect(result.kind == ARROWFLOW_KIND_MEMORY ? result.size <= whole.size : result.kind == whole.kind && result.size == whole.size, "the text's length");
+        expect(result.size <= MOST && memcmp(found, expected, result.size) == 0, "the text, or its beginning");
     }
 }
 
@@ -136,7 +136,7 @@ static arrowflow_column first_column(arrowflow_reader *reader) {
     return arrowflow_reader_column(reader, path, 1);
 }
 
-/* Whether the batch of which this is the first column is still the reader's, where it was. */
+/* Whether the batch that this is the first column of is still in the reader, at the same address. */
 static bool is_kept(arrowflow_reader *reader, arrowflow_column of) {
     arrowflow_column now = first_column(reader);
     return now.layout == of.layout && now.slots == of.slots && now.validity_len == of.validity_len
@@ -144,24 +144,24 @@ static bool is_kept(arrowflow_reader *reader, arrowflow_column of) {
         && (now.values_len == 0 || now.values == of.values);
 }
 
-/* Reads the stream in pieces of this length with one allocation refused; what was refused is asked for once
+/* Reads the stream in pieces of this length, with one failing allocation; the call that failed is made once
  * more. */
 static arrowflow_report read_starved(long number, size_t most) {
     arrowflow_reader *reader = NULL;
     arrowflow_report report = {0, false, 0, 0, 0};
     before = number;
     if (arrowflow_reader_open(arrowflow_standard_limits(), &reader) == ARROWFLOW_KIND_MEMORY)
-        want(arrowflow_reader_open(arrowflow_standard_limits(), &reader) == ARROWFLOW_KIND_FINE, "opened again");
+        expect(arrowflow_reader_open(arrowflow_standard_limits(), &reader) == ARROWFLOW_KIND_FINE, "opened again");
     for (size_t at = 0; at < len && report.kind == ARROWFLOW_KIND_FINE && !report.ended;) {
         size_t piece = len - at < most ? len - at : most;
         arrowflow_column last = first_column(reader);
         arrowflow_step step = arrowflow_reader_read(reader, bytes + at, piece);
         if (step.kind == ARROWFLOW_KIND_MEMORY) {
-            want(step.taken == 0, "nothing taken");
-            want(is_kept(reader, last), "the last batch still there");
+            expect(step.taken == 0, "nothing taken");
+            expect(is_kept(reader, last), "the last batch still there");
             kept += last.layout != ARROWFLOW_LAYOUT_NONE;
         } else if (step.message != ARROWFLOW_MESSAGE_BATCH)
-            want(first_column(reader).layout == ARROWFLOW_LAYOUT_NONE, "no batch where none came");
+            expect(first_column(reader).layout == ARROWFLOW_LAYOUT_NONE, "no batch where none came");
         at += step.taken;
         report.kind = step.kind == ARROWFLOW_KIND_MEMORY ? (uint32_t)ARROWFLOW_KIND_FINE : step.kind;
         report.ended = step.message == ARROWFLOW_MESSAGE_END;
@@ -171,7 +171,7 @@ static arrowflow_report read_starved(long number, size_t most) {
     }
     arrowflow_fault end = arrowflow_reader_end(reader);
     arrowflow_reader_close(reader);
-    want(blocks == 0, "nothing left of a reader");
+    expect(blocks == 0, "nothing left of a reader");
     if (end.kind != ARROWFLOW_KIND_FINE) report.place = end.place;
     report.kind = end.kind;
     return report;
@@ -180,16 +180,16 @@ static arrowflow_report read_starved(long number, size_t most) {
 static void starve_reader(arrowflow_report whole, size_t most) {
     for (long number = 0;; number++) {
         arrowflow_report report = read_starved(number, most);
-        want(is_same_report(report, whole), "a reader that was asked again");
+        expect(is_same_report(report, whole), "a reader that was asked again");
         if (before >= 0) return;
     }
 }
 
-/* Opens a reader, and makes so many calls on it. Whether the stream goes on. */
+/* Opens a reader, and makes this number of calls on it. Returns whether the stream continues. */
 static bool feed(arrowflow_reader **reader, long calls) {
     size_t at = 0;
     arrowflow_step step = {0, 0, 0, 0, 0, 0, 0};
-    want(arrowflow_reader_open(arrowflow_standard_limits(), reader) == ARROWFLOW_KIND_FINE, "opened");
+    expect(arrowflow_reader_open(arrowflow_standard_limits(), reader) == ARROWFLOW_KIND_FINE, "opened");
     for (; calls > 0 && at < len && step.kind == ARROWFLOW_KIND_FINE && step.message != ARROWFLOW_MESSAGE_END; calls--) {
         size_t left = len - at, piece = len / 16 + 1;
         step = arrowflow_reader_read(*reader, bytes + at, left < piece ? left : piece);
@@ -205,11 +205,12 @@ static void close_readers(void) {
     for (long calls = 0, goes_on = 1; goes_on; calls++) {
         goes_on = feed(&reader, calls);
         arrowflow_reader_close(reader);
-        want(blocks == 0, "nothing left of a closed reader");
+        expect(blocks == 0, "nothing left of a closed reader");
     }
 }
 
-/* Readers and copiers that are not opened, with bad limits or without memory: there is nothing to close. */
+/* Readers and copiers that cannot be opened, because of bad limits or failing allocations: there is nothing to
+ * close. */
 static void open_none(void) {
     const arrowflow_options options = {false, false};
     arrowflow_limits fine = arrowflow_standard_limits(), high = fine;
@@ -217,31 +218,32 @@ static void open_none(void) {
     arrowflow_copier *copier;
     high.max_rows++;
     before = -1;
-    want(arrowflow_reader_open(high, &reader) == ARROWFLOW_KIND_BAD_LIMITS && reader == NULL, "no reader with bad limits");
-    want(arrowflow_copier_open(high, options, &copier) == ARROWFLOW_KIND_BAD_LIMITS && copier == NULL, "no copier with bad limits");
+    expect(arrowflow_reader_open(high, &reader) == ARROWFLOW_KIND_BAD_LIMITS && reader == NULL, "no reader with bad limits");
+    expect(arrowflow_copier_open(high, options, &copier) == ARROWFLOW_KIND_BAD_LIMITS && copier == NULL, "no copier with bad limits");
     before = 0;
-    want(arrowflow_reader_open(fine, &reader) == ARROWFLOW_KIND_MEMORY && reader == NULL, "no reader without memory");
+    expect(arrowflow_reader_open(fine, &reader) == ARROWFLOW_KIND_MEMORY && reader == NULL, "no reader without memory");
     before = 0;
-    want(arrowflow_copier_open(fine, options, &copier) == ARROWFLOW_KIND_MEMORY && copier == NULL, "no copier without memory");
-    want(blocks == 0, "nothing left of what was not opened");
+    expect(arrowflow_copier_open(fine, options, &copier) == ARROWFLOW_KIND_MEMORY && copier == NULL, "no copier without memory");
+    expect(blocks == 0, "nothing left of what was not opened");
 }
 
 /* ---- copiers ---- */
 
-/* Takes what waits, in rooms of 13 bytes. */
+/* Takes the waiting bytes into buffers of 13 bytes. */
 static size_t take(arrowflow_copier *copier, size_t size) {
     for (size_t got; (got = arrowflow_copier_take(copier, found + size, MOST - size < 13 ? MOST - size : 13)) > 0;) size += got;
     return size;
 }
 
-/* Copies the stream in pieces of this length, and takes the copy, with one allocation refused. How long it is. */
+/* Copies the stream in pieces of this length, and takes the copy, with one failing allocation. Returns the
+ * copy's length. */
 static size_t copy_starved(long number, size_t most, arrowflow_copied *copied) {
     const arrowflow_options options = {false, true};
     arrowflow_copier *copier;
     size_t size = 0;
     before = number;
     if (arrowflow_copier_open(arrowflow_standard_limits(), options, &copier) == ARROWFLOW_KIND_MEMORY)
-        want(arrowflow_copier_open(arrowflow_standard_limits(), options, &copier) == ARROWFLOW_KIND_FINE, "opened again");
+        expect(arrowflow_copier_open(arrowflow_standard_limits(), options, &copier) == ARROWFLOW_KIND_FINE, "opened again");
     for (size_t at = 0; at < len; at += most) {
         *copied = arrowflow_copier_put(copier, bytes + at, len - at < most ? len - at : most);
         if (at / most % 2 == 0) size = take(copier, size);
@@ -249,42 +251,43 @@ static size_t copy_starved(long number, size_t most, arrowflow_copied *copied) {
     }
     *copied = arrowflow_copier_end(copier);
     arrowflow_copied again = arrowflow_copier_put(copier, bytes, len);
-    want(copied->is_over && again.is_over && again.kind == copied->kind && again.place == copied->place, "it stays over");
-    want(again.waiting == copied->waiting, "nothing more is written");
+    expect(copied->is_over && again.is_over && again.kind == copied->kind && again.place == copied->place, "it stays over");
+    expect(again.waiting == copied->waiting, "nothing more is written");
     size_t whole = take(copier, size);
-    want(whole - size == copied->waiting && arrowflow_copier_end(copier).waiting == 0, "what waits is what can be taken");
+    expect(whole - size == copied->waiting && arrowflow_copier_end(copier).waiting == 0, "what waits is what can be taken");
     arrowflow_copier_close(copier);
-    want(blocks == 0, "nothing left of a copier");
+    expect(blocks == 0, "nothing left of a copier");
     return whole;
 }
 
 static void starve_copier(size_t most) {
     const arrowflow_options options = {false, true};
     before = -1;
-    arrowflow_text whole = arrowflow_copy(bytes, len, arrowflow_standard_limits(), options, wanted, MOST);
+    arrowflow_text whole = arrowflow_copy(bytes, len, arrowflow_standard_limits(), options, expected, MOST);
     for (long number = 0;; number++) {
         arrowflow_copied copied;
         size_t size = copy_starved(number, most, &copied);
-        want(size <= whole.size && memcmp(found, wanted, size) == 0, "the copy, or its front");
-        if (copied.kind == ARROWFLOW_KIND_MEMORY) want(before < 0 && size < MOST, "memory that was refused");
-        else want(copied.kind == whole.kind && copied.place == whole.place && size == whole.size, "the copy");
+        expect(size <= whole.size && memcmp(found, expected, size) == 0, "the copy, or its front");
+        if (copied.kind == ARROWFLOW_KIND_MEMORY) expect(before < 0 && size < MOST, "memory that was refused");
+        else expect(copied.kind == whole.kind && copied.place == whole.place && size == whole.size, "the copy");
         if (before >= 0) return;
     }
 }
 
-/* Closes a copier after so many bytes, before anything was taken, after a part was, and after its end. */
+/* Closes a copier after this number of bytes: before anything was taken, after some bytes were, and after its
+ * end. */
 static void close_copiers(void) {
     const arrowflow_options options = {true, false};
     before = -1;
     for (size_t most = 0; most <= len; most += len / 16 + 1)
         for (int how = 0; how < 3; how++) {
             arrowflow_copier *copier;
-            want(arrowflow_copier_open(arrowflow_standard_limits(), options, &copier) == ARROWFLOW_KIND_FINE, "opened");
+            expect(arrowflow_copier_open(arrowflow_standard_limits(), options, &copier) == ARROWFLOW_KIND_FINE, "opened");
             arrowflow_copier_put(copier, bytes, most);
             if (how > 0) arrowflow_copier_take(copier, found, 5);
             if (how > 1) arrowflow_copier_end(copier);
             arrowflow_copier_close(copier);
-            want(blocks == 0, "nothing left of a closed copier");
+            expect(blocks == 0, "nothing left of a closed copier");
         }
 }
 
@@ -292,7 +295,7 @@ static void close_copiers(void) {
 
 enum { MOST_ARRAYS = 64 };
 
-/* A sum of all that schemas and arrays have. */
+/* A sum over all contents of schemas and arrays. */
 static uint64_t sum;
 
 static void add(const void *from, size_t size) {
@@ -310,7 +313,7 @@ static void add_schema(const struct ArrowSchema *schema) {
     if (schema->dictionary != NULL) add_schema(schema->dictionary);
 }
 
-/* Bytes of a slot of these formats. */
+/* Bytes of a slot, for these formats. */
 static size_t width_of(const char *format) {
     if (strncmp(format, "d:", 2) == 0) {
         const char *bits = strrchr(format, ',');
@@ -344,7 +347,7 @@ static void add_array(const struct ArrowSchema *schema, const struct ArrowArray 
     if (array->dictionary != NULL) add_array(schema->dictionary, array->dictionary);
 }
 
-/* Gives the stream in pieces of 100 bytes. */
+/* Returns the stream in pieces of 100 bytes. */
 static ptrdiff_t give_piece(void *state, uint8_t *room, size_t most) {
     size_t *at = state, size = len - *at < 100 ? len - *at : 100;
     if (size > most) size = most;
@@ -359,18 +362,19 @@ static uint32_t open_arrays(bool in_pieces, size_t *at, struct ArrowArrayStream 
                      : arrowflow_stream_of_bytes(bytes, len, arrowflow_standard_limits(), stream);
 }
 
-/* How many calls of a stream answered ENOMEM and gave what was asked for when they were made again. */
+/* How many calls of a stream returned ENOMEM, and succeeded when they were made again. */
 static long again = 0;
 
 /* Whether a call is made again. */
 static bool is_starved(struct ArrowArrayStream *stream, int status, bool is_released) {
     if (status != ENOMEM) return false;
-    want(is_released && stream->get_last_error(stream) != NULL, "nothing given, and a text, without memory");
+    expect(is_released && stream->get_last_error(stream) != NULL, "nothing given, and a text, without memory");
     again++;
     return true;
 }
 
-/* Reads the stream as arrays with one allocation refused, and sums up all that they have when it is gone. */
+/* Reads the stream as arrays with one failing allocation, and sums up all their contents after the stream is
+ * released. */
 static uint64_t sum_starved(long number, bool in_pieces) {
     static struct ArrowArray arrays[MOST_ARRAYS];
     struct ArrowArrayStream stream;
@@ -380,7 +384,7 @@ static uint64_t sum_starved(long number, bool in_pieces) {
     before = number;
     sum = UINT64_C(14695981039346656037);
     if (open_arrays(in_pieces, &at, &stream) == ARROWFLOW_KIND_MEMORY)
-        want(stream.release == NULL && open_arrays(in_pieces, &at, &stream) == ARROWFLOW_KIND_FINE, "a stream opened again");
+        expect(stream.release == NULL && open_arrays(in_pieces, &at, &stream) == ARROWFLOW_KIND_FINE, "a stream opened again");
     while (is_starved(&stream, status = stream.get_schema(&stream, &schema), schema.release == NULL)) {}
     while (status == 0 && count < MOST_ARRAYS) {
         while (is_starved(&stream, status = stream.get_next(&stream, arrays + count), arrays[count].release == NULL)) {}
@@ -396,7 +400,7 @@ static uint64_t sum_starved(long number, bool in_pieces) {
         arrays[k].release(arrays + k);
     }
     if (schema.release != NULL) schema.release(&schema);
-    want(blocks == 0, "nothing left of a stream and its arrays");
+    expect(blocks == 0, "nothing left of a stream and its arrays");
     return sum;
 }
 
@@ -404,10 +408,10 @@ static void starve_arrays(bool in_pieces) {
     uint64_t whole = sum_starved(-1, in_pieces);
     again = 0;
     for (long number = 0;; number++) {
-        want(sum_starved(number, in_pieces) == whole, "the same arrays in the end");
+        expect(sum_starved(number, in_pieces) == whole, "the same arrays in the end");
         if (before >= 0) break;
     }
-    want(again > 0, "a call of a stream made again");
+    expect(again > 0, "a call of a stream made again");
 }
 
 int main(int argc, char **argv) {
@@ -431,7 +435,7 @@ int main(int argc, char **argv) {
     close_copiers();
     starve_arrays(false);
     starve_arrays(true);
-    want(refused > 0, "an allocation was refused");
-    want(kept > 0 || whole.batches < 2, "an allocation was refused after a batch");
+    expect(refused > 0, "an allocation was refused");
+    expect(kept > 0 || whole.batches < 2, "an allocation was refused after a batch");
     return 0;
 }

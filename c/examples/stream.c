@@ -1,14 +1,15 @@
 /* usage: stream [--types core|all] show bytes|fd|SIZE FILE, stream [--types core|all] threads FILE,
  *        stream each FILE, stream ends FILE, stream grows FILE, stream --bad FILE
  *
- * Prints what `arrowflow show` prints of a stream, out of arrays of the Arrow C data interface, and ends as
- * it does; of floating-point numbers it has the digits of `show`, and lays them out in another way. Each
- * schema and each array is checked against the interface's text first, when the stream, the bytes and the
- * reader are gone. The stream comes from bytes, from a file descriptor or from a callback in pieces of this
- * size. Then one thread and another release the arrays, with children that were moved out. With `threads`
- * each array is asked for on a thread of its own, and goes to another one while the stream is read on. With
- * `each` an array is printed and released before the next one is asked for. With `ends` it is told how many arrays a stream gives, and what it says then; with `grows`, how often the
- * dictionary of its first column was copied. With --bad sources fail.
+ * Prints what `arrowflow show` prints for a stream, from arrays of the Arrow C data interface, and exits with
+ * the same status. Floating-point numbers have the digits of `show`, in another format. Each schema and each
+ * array is checked against the text of the interface first, after the stream, the bytes and the reader were
+ * freed. The stream comes from bytes, from a file descriptor or from a callback in pieces of this size. Then
+ * two threads release the arrays, including children that were moved out. With `threads` each array is
+ * requested on a thread of its own, and passed to another one while the stream is read further. With `each` an
+ * array is printed and released before the next one is requested. With `ends` it prints how many arrays a
+ * stream returns, and its error text then; with `grows`, how often the dictionary of its first column was
+ * copied. With --bad the sources fail.
  */
 #define _POSIX_C_SOURCE 200809L
 #include "arrowflow_stream.h"
@@ -25,7 +26,7 @@
 #include <sys/time.h>
 #include <unistd.h>
 
-#define WANT(fact)                                                              \
+#define EXPECT(fact)                                                            \
     do {                                                                        \
         if (!(fact)) {                                                          \
             fprintf(stderr, "%s:%d: not so: %s\n", __FILE__, __LINE__, #fact);  \
@@ -43,17 +44,17 @@ static bool is_one_of(const struct ArrowSchema *schema, const char *letters) {
     return schema->format[1] == 0 && strchr(letters, *schema->format) != NULL;
 }
 
-/* Whether all lists have as many items, so that there are no offsets. */
+/* Whether all lists have the same number of items, so that there are no offsets. */
 static bool is_fixed_list(const struct ArrowSchema *schema) { return strncmp(schema->format, "+w:", 3) == 0; }
 
 static bool is_list(const struct ArrowSchema *schema) {
     return is_format(schema, "+l") || is_format(schema, "+L") || is_format(schema, "+m") || is_fixed_list(schema);
 }
 
-/* How many items each of such lists has. */
+/* How many items each of these lists has. */
 static size_t list_size(const struct ArrowSchema *schema) { return strtoul(schema->format + 3, NULL, 10); }
 
-/* Bytes of an offset, or 0 where there are none. */
+/* Bytes of an offset, or 0 if there are none. */
 static size_t offset_width(const struct ArrowSchema *schema) {
     if (is_one_of(schema, "zu") || is_format(schema, "+l") || is_format(schema, "+m")) return 4;
     return is_one_of(schema, "ZU") || is_format(schema, "+L") ? 8 : 0;
@@ -62,11 +63,11 @@ static size_t offset_width(const struct ArrowSchema *schema) {
 /* Bytes of a decimal, whose format has its bits after a second comma if they are not 128. */
 static size_t decimal_width(const char *format) {
     const char *scale = strchr(format, ','), *bits = scale == NULL ? NULL : strchr(scale + 1, ',');
-    WANT(scale != NULL && (bits == NULL || strcmp(bits, ",32") == 0 || strcmp(bits, ",64") == 0 || strcmp(bits, ",256") == 0));
+    EXPECT(scale != NULL && (bits == NULL || strcmp(bits, ",32") == 0 || strcmp(bits, ",64") == 0 || strcmp(bits, ",256") == 0));
     return bits == NULL ? 16 : strtoul(bits + 1, NULL, 10) / 8;
 }
 
-/* Bytes of a slot's value that is a number, an interval, a decimal or a byte string of one length. */
+/* Bytes of a slot's value if it is a number, an interval, a decimal or a byte string of fixed size. */
 static size_t value_width(const struct ArrowSchema *schema) {
     const char *format = schema->format;
     if (is_one_of(schema, "cC")) return 1;
@@ -76,10 +77,10 @@ static size_t value_width(const struct ArrowSchema *schema) {
     if (is_format(schema, "tin")) return 16;
     if (strncmp(format, "d:", 2) == 0) return decimal_width(format);
     if (strncmp(format, "w:", 2) == 0) return strtoul(format + 2, NULL, 10);
-    WANT(is_one_of(schema, "lLg") || is_format(schema, "tdm") || is_format(schema, "ttu") || is_format(schema, "ttn")
-         || is_format(schema, "tiD")
-         || (strncmp(format, "ts", 2) == 0 && format[2] != 0 && strchr("smun", format[2]) != NULL && format[3] == ':')
-         || (strncmp(format, "tD", 2) == 0 && format[2] != 0 && strchr("smun", format[2]) != NULL && format[3] == 0));
+    EXPECT(is_one_of(schema, "lLg") || is_format(schema, "tdm") || is_format(schema, "ttu") || is_format(schema, "ttn")
+           || is_format(schema, "tiD")
+           || (strncmp(format, "ts", 2) == 0 && format[2] != 0 && strchr("smun", format[2]) != NULL && format[3] == ':')
+           || (strncmp(format, "tD", 2) == 0 && format[2] != 0 && strchr("smun", format[2]) != NULL && format[3] == 0));
     return 8;
 }
 
@@ -89,38 +90,39 @@ static int64_t buffers_of(const struct ArrowSchema *schema) {
     return is_one_of(schema, "zZuU") ? 3 : 2;
 }
 
-/* ---- checks of what the interface asks for ---- */
+/* ---- checks of what the interface requires ---- */
 
-/* The pairs that metadata begin with a count of are there: a sanitizer reports a byte that is not. */
+/* Checks that metadata have as many pairs as the count at their start says: a sanitizer reports a byte that is
+ * not there. */
 static void check_metadata(const char *at) {
     int32_t pairs, len;
     unsigned sum = 0;
     memcpy(&pairs, at, sizeof pairs);
-    WANT(pairs > 0);
+    EXPECT(pairs > 0);
     at += sizeof pairs;
     for (int64_t k = 0; k < 2 * (int64_t)pairs; k++) {
         memcpy(&len, at, sizeof len);
-        WANT(len >= 0);
+        EXPECT(len >= 0);
         at += sizeof len;
         for (int32_t i = 0; i < len; i++) sum += (unsigned char)*at++;
     }
-    WANT(sum < UINT32_MAX);
+    EXPECT(sum < UINT32_MAX);
 }
 
 static void check_schema(const struct ArrowSchema *schema) {
-    WANT(schema->release != NULL && schema->format != NULL && schema->name != NULL);
+    EXPECT(schema->release != NULL && schema->format != NULL && schema->name != NULL);
     int64_t of_maps = is_format(schema, "+m") ? ARROW_FLAG_MAP_KEYS_SORTED : 0;
-    WANT((schema->flags & ~(ARROW_FLAG_DICTIONARY_ORDERED | ARROW_FLAG_NULLABLE | of_maps)) == 0);
-    WANT(is_format(schema, "+s") || schema->n_children == (is_list(schema) ? 1 : 0));
+    EXPECT((schema->flags & ~(ARROW_FLAG_DICTIONARY_ORDERED | ARROW_FLAG_NULLABLE | of_maps)) == 0);
+    EXPECT(is_format(schema, "+s") || schema->n_children == (is_list(schema) ? 1 : 0));
     if (schema->metadata != NULL) check_metadata(schema->metadata);
     for (int64_t k = 0; k < schema->n_children; k++) check_schema(schema->children[k]);
     if (schema->dictionary == NULL) {
-        WANT((schema->flags & ARROW_FLAG_DICTIONARY_ORDERED) == 0);
+        EXPECT((schema->flags & ARROW_FLAG_DICTIONARY_ORDERED) == 0);
         return;
     }
-    WANT(is_one_of(schema, "cCsSiIlL"));
+    EXPECT(is_one_of(schema, "cCsSiIlL"));
     check_schema(schema->dictionary);
-    WANT(schema->dictionary->dictionary == NULL);
+    EXPECT(schema->dictionary->dictionary == NULL);
 }
 
 static uint64_t number_at(const void *bytes, size_t width) {
@@ -142,7 +144,7 @@ static size_t offset_at(const struct ArrowSchema *schema, const struct ArrowArra
     return number_at((const uint8_t *)array->buffers[1] + width * i, width);
 }
 
-/* How long the front of the bytes is that is one letter in UTF-8, or 0. */
+/* The length of the first character in these UTF-8 bytes, or 0 if they do not begin with one. */
 static size_t letter(const uint8_t *at, size_t len) {
     size_t size = at[0] < 0x80 ? 1 : at[0] < 0xe0 ? 2 : at[0] < 0xf0 ? 3 : 4;
     if ((at[0] >= 0x80 && at[0] < 0xc2) || at[0] >= 0xf5 || size > len) return 0;
@@ -159,44 +161,44 @@ static bool is_utf8(const uint8_t *at, size_t len) {
     return true;
 }
 
-/* Whether a stream may be adding to a dictionary while its arrays are looked at. */
+/* Whether a stream may be adding to a dictionary while its arrays are checked. */
 static bool is_growing = false;
 
-/* A buffer of so many bytes: it is aligned, each byte is read, and zeros fill it up to 64 bytes. One of a dictionary
- * is filled with anything, which is read if nothing is added at this time. */
+/* Checks a buffer of this many bytes: it is aligned, each byte is read, and zeros pad it to a multiple of 64
+ * bytes. The padding of a dictionary's buffer may be anything, and is read if nothing is added at this time. */
 static void check_buffer(const void *buffer, size_t size, bool is_shared) {
     const uint8_t *at = buffer;
     uint64_t sum = 0, rest = 0;
-    WANT(at != NULL && (uintptr_t)at % 64 == 0);
+    EXPECT(at != NULL && (uintptr_t)at % 64 == 0);
     for (size_t k = 0; k < size; k++) sum += at[k];
     for (size_t k = size; k % 64 != 0 && !(is_shared && is_growing); k++) rest += at[k];
-    WANT(sum <= 255 * size && rest <= (is_shared ? 64 * 255 : 0));
+    EXPECT(sum <= 255 * size && rest <= (is_shared ? 64 * 255 : 0));
 }
 
 static void check_nulls(const struct ArrowArray *array, bool is_shared) {
     size_t length = (size_t)array->length;
     int64_t nulls = 0;
     for (size_t i = 0; i < length; i++) nulls += !has_value(array, i);
-    WANT(array->null_count == -1 || array->null_count == nulls);
+    EXPECT(array->null_count == -1 || array->null_count == nulls);
     if (array->n_buffers == 0) return;
-    if (array->buffers[0] == NULL) WANT(array->null_count == 0);
+    if (array->buffers[0] == NULL) EXPECT(array->null_count == 0);
     else check_buffer(array->buffers[0], (length + 7) / 8, is_shared);
 }
 
-/* Offsets that never fall, and texts that are UTF-8. */
+/* Checks that offsets never decrease, and that texts are UTF-8. */
 static void check_offsets(const struct ArrowSchema *schema, const struct ArrowArray *array, bool is_shared) {
     size_t length = (size_t)array->length, end = offset_at(schema, array, length);
     check_buffer(array->buffers[1], offset_width(schema) * (length + 1), is_shared);
-    WANT(end <= INT64_MAX && (offset_width(schema) == 8 || end <= INT32_MAX));
-    for (size_t i = 0; i < length; i++) WANT(offset_at(schema, array, i) <= offset_at(schema, array, i + 1));
+    EXPECT(end <= INT64_MAX && (offset_width(schema) == 8 || end <= INT32_MAX));
+    for (size_t i = 0; i < length; i++) EXPECT(offset_at(schema, array, i) <= offset_at(schema, array, i + 1));
     if (is_list(schema)) {
-        WANT(end <= (size_t)array->children[0]->length);
+        EXPECT(end <= (size_t)array->children[0]->length);
         return;
     }
     check_buffer(array->buffers[2], end, is_shared);
     for (size_t i = 0; i < length && is_one_of(schema, "uU"); i++) {
         size_t start = offset_at(schema, array, i), len = offset_at(schema, array, i + 1) - start;
-        if (has_value(array, i)) WANT(is_utf8((const uint8_t *)array->buffers[2] + start, len));
+        if (has_value(array, i)) EXPECT(is_utf8((const uint8_t *)array->buffers[2] + start, len));
     }
 }
 
@@ -208,17 +210,17 @@ static uint64_t number_of(const struct ArrowSchema *schema, const struct ArrowAr
     return is_negative ? number | UINT64_MAX << 8 * width : number;
 }
 
-/* Checks an array; one of a dictionary's values, or below these, `is_shared`. */
+/* Checks an array; `is_shared` if it is one of a dictionary's values, or below these. */
 static void check_values(const struct ArrowSchema *schema, const struct ArrowArray *array, bool is_shared) {
-    WANT(array->release != NULL && array->length >= 0 && array->offset == 0);
-    WANT(array->n_buffers == buffers_of(schema) && array->n_children == schema->n_children);
-    WANT((array->dictionary == NULL) == (schema->dictionary == NULL));
+    EXPECT(array->release != NULL && array->length >= 0 && array->offset == 0);
+    EXPECT(array->n_buffers == buffers_of(schema) && array->n_children == schema->n_children);
+    EXPECT((array->dictionary == NULL) == (schema->dictionary == NULL));
     size_t length = (size_t)array->length;
     check_nulls(array, is_shared);
     for (int64_t k = 0; k < array->n_children; k++) {
         check_values(schema->children[k], array->children[k], is_shared);
-        if (is_format(schema, "+s")) WANT(array->children[k]->length == array->length);
-        if (is_fixed_list(schema)) WANT((size_t)array->children[k]->length == list_size(schema) * length);
+        if (is_format(schema, "+s")) EXPECT(array->children[k]->length == array->length);
+        if (is_fixed_list(schema)) EXPECT((size_t)array->children[k]->length == list_size(schema) * length);
     }
     if (offset_width(schema) > 0) check_offsets(schema, array, is_shared);
     else if (is_format(schema, "b")) check_buffer(array->buffers[1], (length + 7) / 8, is_shared);
@@ -226,14 +228,14 @@ static void check_values(const struct ArrowSchema *schema, const struct ArrowArr
     if (schema->dictionary == NULL) return;
     check_values(schema->dictionary, array->dictionary, true);
     for (size_t i = 0; i < length; i++)
-        if (has_value(array, i)) WANT(number_of(schema, array, i) < (uint64_t)array->dictionary->length);
+        if (has_value(array, i)) EXPECT(number_of(schema, array, i) < (uint64_t)array->dictionary->length);
 }
 
 static void check_array(const struct ArrowSchema *schema, const struct ArrowArray *array) {
     check_values(schema, array, false);
 }
 
-/* ---- the text of a value, as `arrowflow show` has it ---- */
+/* ---- the text of a value, as `arrowflow show` prints it ---- */
 
 /* A field's text. */
 struct text {
@@ -245,7 +247,7 @@ static void add(struct text *to, const void *bytes, size_t len) {
     if (to->room - to->len < len) {
         to->room = 2 * to->room + len;
         to->at = realloc(to->at, to->room);
-        WANT(to->at != NULL);
+        EXPECT(to->at != NULL);
     }
     if (len > 0) memcpy(to->at + to->len, bytes, len);
     to->len += len;
@@ -270,7 +272,7 @@ static float half_at(uint64_t bits) {
     return bits >> 15 ? -size : size;
 }
 
-/* The fewest digits that read back as the number. */
+/* The fewest digits that are parsed as the same number. */
 static void add_float(struct text *to, double real, bool is_single) {
     char digits[40];
     if (isnan(real)) add_words(to, "NaN");
@@ -328,7 +330,7 @@ static void add_interval(struct text *to, const struct ArrowSchema *schema, cons
     }
 }
 
-/* Divides a number without a sign by ten, and gives what is left. */
+/* Divides an unsigned number by ten, and returns the remainder. */
 static unsigned without_last_digit(uint8_t *number, size_t width) {
     unsigned rest = 0;
     for (size_t k = width; k-- > 0;) {
@@ -339,7 +341,8 @@ static unsigned without_last_digit(uint8_t *number, size_t width) {
     return rest;
 }
 
-/* A decimal: the digits of its whole number, with a point before the last ones, as many as its scale says. */
+/* A decimal: the digits of its unscaled integer, with a point before as many of the last ones as its scale
+ * says. */
 static void add_decimal(struct text *to, const struct ArrowSchema *schema, const struct ArrowArray *array, size_t i) {
     enum { MOST_DIGITS = 96 };
     size_t width = value_width(schema), at = MOST_DIGITS;
@@ -409,7 +412,7 @@ static void add_value(struct text *to, const struct ArrowSchema *schema, const s
     else add_number(to, schema, array, i);
 }
 
-/* Prints a field after a comma, in quotes where it has to be, and empties it. */
+/* Prints a field after a comma, in quotes if it needs them, and empties it. */
 static void print(struct text *of) {
     bool is_quoted = false;
     for (size_t k = 0; k < of->len; k++) is_quoted |= of->at[k] != 0 && strchr(",\"\r\n", of->at[k]) != NULL;
@@ -448,7 +451,7 @@ static void print_rows(size_t number, const struct ArrowSchema *schema, const st
 
 /* ---- sources ---- */
 
-/* What a callback gives of: bytes in pieces, and at a place a failure instead, so many times. */
+/* What a callback reads from: bytes in pieces, with a failure at one offset this many times. */
 struct given {
     const uint8_t *bytes;
     size_t len, at, piece;
@@ -460,7 +463,7 @@ struct given {
 static ptrdiff_t give(void *state, uint8_t *room, size_t len) {
     struct given *it = state;
     size_t left = it->len - it->at, size = left < it->piece ? left : it->piece;
-    WANT(len > 0 && !it->has_ended);
+    EXPECT(len > 0 && !it->has_ended);
     if (it->at >= it->fails_at && it->times > 0) {
         it->times--;
         return it->failure;
@@ -472,7 +475,7 @@ static ptrdiff_t give(void *state, uint8_t *room, size_t len) {
     return (ptrdiff_t)size;
 }
 
-/* All of a file, which the caller frees. */
+/* Returns the contents of a file, which the caller frees. */
 static uint8_t *read_file(const char *name, size_t *len) {
     FILE *file = fopen(name, "rb");
     size_t room = 65536;
@@ -483,13 +486,13 @@ static uint8_t *read_file(const char *name, size_t *len) {
     }
     for (*len = 0; (*len += fread(bytes + *len, 1, room - *len, file)) == room;) {
         bytes = realloc(bytes, room *= 2);
-        WANT(bytes != NULL);
+        EXPECT(bytes != NULL);
     }
     fclose(file);
     return bytes;
 }
 
-/* ---- a stream, and what it gave ---- */
+/* ---- a stream, and what it returned ---- */
 
 enum { MOST_THREADS = 128 };
 
@@ -501,17 +504,17 @@ struct seen {
     char error[256];
 };
 
-/* Asks for the next array once more, where a stream is at an end: it answers the same. */
+/* Asks for the next array once more at the end of a stream: the result is the same. */
 static void ask_again(struct ArrowArrayStream *stream, const struct seen *seen) {
     struct ArrowArray array;
-    WANT(stream->get_next(stream, &array) == seen->status && array.release == NULL);
-    if (seen->status == 0) WANT(stream->get_last_error(stream) == NULL);
-    else WANT(strcmp(stream->get_last_error(stream), seen->error) == 0);
+    EXPECT(stream->get_next(stream, &array) == seen->status && array.release == NULL);
+    if (seen->status == 0) EXPECT(stream->get_last_error(stream) == NULL);
+    else EXPECT(strcmp(stream->get_last_error(stream), seen->error) == 0);
 }
 
 static void note_error(struct ArrowArrayStream *stream, struct seen *seen) {
     const char *error = stream->get_last_error(stream);
-    WANT((error == NULL) == (seen->status == 0));
+    EXPECT((error == NULL) == (seen->status == 0));
     snprintf(seen->error, sizeof seen->error, "%s", error == NULL ? "" : error);
 }
 
@@ -521,39 +524,39 @@ static void read_all(struct ArrowArrayStream *stream, struct seen *seen) {
     memset(seen, 0, sizeof *seen);
     seen->status = stream->get_schema(stream, &seen->schema);
     note_error(stream, seen);
-    WANT((seen->schema.release != NULL) == (seen->status == 0));
+    EXPECT((seen->schema.release != NULL) == (seen->status == 0));
     while (seen->status == 0) {
         seen->status = stream->get_next(stream, &array);
         note_error(stream, seen);
         if (array.release == NULL) break;
         seen->arrays = realloc(seen->arrays, (seen->count + 1) * sizeof array);
-        WANT(seen->arrays != NULL && seen->status == 0);
+        EXPECT(seen->arrays != NULL && seen->status == 0);
         seen->arrays[seen->count++] = array; /* moved, as the interface allows */
     }
     ask_again(stream, seen);
     ask_again(stream, seen);
 }
 
-/* A schema that is asked for again is the same one. */
+/* A schema that is requested again is the same. */
 static void check_same(const struct ArrowSchema *a, const struct ArrowSchema *b) {
-    WANT(strcmp(a->name, b->name) == 0 && strcmp(a->format, b->format) == 0 && a->flags == b->flags);
-    WANT((a->metadata == NULL) == (b->metadata == NULL) && a->n_children == b->n_children);
-    WANT((a->dictionary == NULL) == (b->dictionary == NULL));
+    EXPECT(strcmp(a->name, b->name) == 0 && strcmp(a->format, b->format) == 0 && a->flags == b->flags);
+    EXPECT((a->metadata == NULL) == (b->metadata == NULL) && a->n_children == b->n_children);
+    EXPECT((a->dictionary == NULL) == (b->dictionary == NULL));
     for (int64_t k = 0; k < a->n_children; k++) check_same(a->children[k], b->children[k]);
     if (a->dictionary != NULL) check_same(a->dictionary, b->dictionary);
 }
 
-/* Opens a stream of the file in the way named. */
+/* Opens a stream of the file in the way that is named. */
 static uint32_t open_as(const char *how, const char *name, struct given *given, int *fd, struct ArrowArrayStream *stream) {
     if (strcmp(how, "bytes") == 0) return arrowflow_stream_of_bytes(given->bytes, given->len, limits, stream);
     given->piece = strtoul(how, NULL, 10);
     if (strcmp(how, "fd") != 0) return arrowflow_stream_of(give, given, limits, stream);
     *fd = open(name, O_RDONLY);
-    WANT(*fd >= 0);
+    EXPECT(*fd >= 0);
     return arrowflow_stream_of_fd(*fd, limits, stream);
 }
 
-/* Reads a file as a stream, which is gone when this returns, as are its bytes. */
+/* Reads a file as a stream. The stream and its bytes are freed when this returns. */
 static void read_as(const char *how, const char *name, struct seen *seen) {
     struct ArrowArrayStream stream;
     struct ArrowSchema again;
@@ -561,19 +564,19 @@ static void read_as(const char *how, const char *name, struct seen *seen) {
     struct given given = {NULL, 0, 0, 0, SIZE_MAX, 0, 0, false};
     uint8_t *bytes = read_file(name, &given.len);
     given.bytes = bytes;
-    WANT(open_as(how, name, &given, &fd, &stream) == ARROWFLOW_KIND_FINE);
-    WANT(stream.get_last_error(&stream) == NULL);
+    EXPECT(open_as(how, name, &given, &fd, &stream) == ARROWFLOW_KIND_FINE);
+    EXPECT(stream.get_last_error(&stream) == NULL);
     read_all(&stream, seen);
-    WANT((stream.get_schema(&stream, &again) == 0) == (seen->schema.release != NULL));
+    EXPECT((stream.get_schema(&stream, &again) == 0) == (seen->schema.release != NULL));
     if (again.release != NULL) {
         check_same(&seen->schema, &again);
         again.release(&again);
-        WANT(again.release == NULL);
+        EXPECT(again.release == NULL);
     }
     stream.release(&stream);
-    WANT(stream.release == NULL);
+    EXPECT(stream.release == NULL);
     free(bytes);
-    if (fd >= 0) WANT(close(fd) == 0);
+    if (fd >= 0) EXPECT(close(fd) == 0);
 }
 
 /* Moves an array out of its parent. */
@@ -585,7 +588,7 @@ static struct ArrowArray moved(struct ArrowArray *from) {
 
 static void release(struct ArrowArray *array) {
     array->release(array);
-    WANT(array->release == NULL);
+    EXPECT(array->release == NULL);
 }
 
 static void release_all(struct seen *seen) {
@@ -594,7 +597,7 @@ static void release_all(struct seen *seen) {
     free(seen->arrays);
 }
 
-/* Checks an array, moves its last child out, and that one's dictionary or first child, and releases each. */
+/* Checks an array, moves its last child out, and the dictionary or first child of that, and releases each. */
 static void take_apart(const struct ArrowSchema *schema, struct ArrowArray *array) {
     check_array(schema, array);
     if (array->n_children == 0) {
@@ -617,7 +620,7 @@ static void take_apart(const struct ArrowSchema *schema, struct ArrowArray *arra
     }
 }
 
-/* The arrays of a stream that one thread takes: every second one. */
+/* The arrays of a stream that one thread releases: every second one. */
 struct share {
     const struct seen *seen;
     size_t first, step;
@@ -633,25 +636,25 @@ static void *take_share(void *state) {
 static void let_go(struct seen *seen) {
     struct share here = {seen, 0, 2}, there = {seen, 1, 2};
     pthread_t thread;
-    WANT(pthread_create(&thread, NULL, take_share, &there) == 0);
+    EXPECT(pthread_create(&thread, NULL, take_share, &there) == 0);
     take_share(&here);
-    WANT(pthread_join(thread, NULL) == 0);
+    EXPECT(pthread_join(thread, NULL) == 0);
     if (seen->schema.release != NULL) seen->schema.release(&seen->schema);
-    WANT(seen->schema.release == NULL);
+    EXPECT(seen->schema.release == NULL);
     free(seen->arrays);
 }
 
-/* Tells how a stream ended, as the program does. */
-static int tell_end(const struct seen *seen) {
+/* Reports how a stream ended, as the program does. */
+static int report_end(const struct seen *seen) {
     const char *meaning = strchr(seen->error, ',');
     if (seen->status == 0) return 0;
-    WANT(seen->status == EINVAL && strncmp(seen->error, "fault at byte ", 14) == 0 && meaning != NULL);
+    EXPECT(seen->status == EINVAL && strncmp(seen->error, "fault at byte ", 14) == 0 && meaning != NULL);
     fflush(stdout);
     fprintf(stderr, "%.*s\n", (int)(meaning - seen->error), seen->error);
     return 1;
 }
 
-/* Whether two arrays of a dictionary are the same memory; of Null values there is none. */
+/* Whether two arrays of a dictionary use the same memory; Null values have none. */
 static bool is_one_memory(const struct ArrowArray *a, const struct ArrowArray *b) {
     if (a->n_buffers > 1) return a->buffers[1] == b->buffers[1];
     return a->n_children > 0 && is_one_memory(a->children[0], b->children[0]);
@@ -661,12 +664,13 @@ static bool has_memory(const struct ArrowArray *of) {
     return of->n_buffers > 1 || (of->n_children > 0 && has_memory(of->children[0]));
 }
 
-/* A batch's column by a dictionary shares it with the batch before where no message of it came between. */
+/* Checks that a batch's dictionary-encoded column shares the dictionary with the batch before if no message of
+ * it arrived in between. */
 static void check_shared(const struct seen *seen, size_t batch, size_t column, bool is_new) {
     if (batch == 0) return;
     const struct ArrowArray *now = seen->arrays[batch].children[column]->dictionary;
     const struct ArrowArray *last = seen->arrays[batch - 1].children[column]->dictionary;
-    if (has_memory(now) && !is_new) WANT(is_one_memory(now, last));
+    if (has_memory(now) && !is_new) EXPECT(is_one_memory(now, last));
 }
 
 /* Whether a text is this one, up to its first zero byte. */
@@ -676,29 +680,29 @@ static bool is_text(const char *text, const uint8_t *at, size_t len) {
     return strlen(text) == size && memcmp(text, at, size) == 0;
 }
 
-/* A schema says what the reader tells of the field that the path leads to, and so do those below it. */
-static void check_told(arrowflow_reader *reader, size_t *path, size_t depth, const struct ArrowSchema *schema) {
+/* Checks that a schema is what the reader returns for the field that the path leads to, and for those below it. */
+static void check_field(arrowflow_reader *reader, size_t *path, size_t depth, const struct ArrowSchema *schema) {
     arrowflow_field field = arrowflow_reader_field(reader, path, depth, NULL, 0);
     uint8_t *texts = malloc(field.name_len + field.format_len + field.metadata_len + 1), *format, *metadata;
     arrowflow_reader_field(reader, path, depth, texts, field.name_len + field.format_len + field.metadata_len);
     format = texts + field.name_len;
     metadata = format + field.format_len;
-    WANT(is_text(schema->name, texts, field.name_len) && is_text(schema->format, format, field.format_len));
-    WANT((schema->metadata == NULL) == (field.metadata_len == 0));
-    if (schema->metadata != NULL) WANT(memcmp(schema->metadata, metadata, field.metadata_len) == 0);
-    WANT(schema->flags == field.flags && (uint64_t)schema->n_children == field.children);
-    WANT((schema->dictionary != NULL) == field.is_encoded);
+    EXPECT(is_text(schema->name, texts, field.name_len) && is_text(schema->format, format, field.format_len));
+    EXPECT((schema->metadata == NULL) == (field.metadata_len == 0));
+    if (schema->metadata != NULL) EXPECT(memcmp(schema->metadata, metadata, field.metadata_len) == 0);
+    EXPECT(schema->flags == field.flags && (uint64_t)schema->n_children == field.children);
+    EXPECT((schema->dictionary != NULL) == field.is_encoded);
     free(texts);
     for (size_t k = 0; k < field.children; k++) {
         path[depth] = k;
-        check_told(reader, path, depth + 1, schema->children[k]);
+        check_field(reader, path, depth + 1, schema->children[k]);
     }
     path[depth] = 0;
-    if (field.is_encoded) check_told(reader, path, depth + 1, schema->dictionary);
+    if (field.is_encoded) check_field(reader, path, depth + 1, schema->dictionary);
 }
 
-/* Checks which columns of the reader's batch share their dictionaries with the batch before, where
- * dictionaries of these ids came between. */
+/* Checks which columns of the reader's batch share their dictionaries with the batch before, if dictionaries of
+ * these ids arrived in between. */
 static void check_columns(arrowflow_reader *reader, const struct seen *seen, size_t batch, const int64_t *came, size_t ids) {
     for (size_t k = 0; k < (size_t)seen->schema.n_children; k++) {
         arrowflow_field field = arrowflow_reader_field(reader, &k, 1, NULL, 0);
@@ -708,7 +712,7 @@ static void check_columns(arrowflow_reader *reader, const struct seen *seen, siz
     }
 }
 
-/* Reads the stream once more, to see what the schema is, and which dictionaries come between batches. */
+/* Reads the stream once more, to compare the schema, and to find which dictionaries arrive between batches. */
 static void check_beside_reader(const char *name, const struct seen *seen) {
     enum { MOST_IDS = 256, MOST_LEVELS = 64 };
     size_t len, at = 0, batch = 0, ids = 0, path[MOST_LEVELS];
@@ -716,12 +720,12 @@ static void check_beside_reader(const char *name, const struct seen *seen) {
     uint8_t *bytes = read_file(name, &len);
     arrowflow_reader *reader = NULL;
     arrowflow_step step = {0, 0, 0, 0, 0, 0, 0};
-    WANT(arrowflow_reader_open(limits, &reader) == ARROWFLOW_KIND_FINE);
+    EXPECT(arrowflow_reader_open(limits, &reader) == ARROWFLOW_KIND_FINE);
     while (batch < seen->count || step.message == ARROWFLOW_MESSAGE_NONE) {
         step = arrowflow_reader_read(reader, bytes + at, len - at);
-        WANT(step.kind == ARROWFLOW_KIND_FINE && step.message != ARROWFLOW_MESSAGE_NONE && ids < MOST_IDS);
+        EXPECT(step.kind == ARROWFLOW_KIND_FINE && step.message != ARROWFLOW_MESSAGE_NONE && ids < MOST_IDS);
         at += step.taken;
-        if (step.message == ARROWFLOW_MESSAGE_SCHEMA) check_told(reader, path, 0, &seen->schema);
+        if (step.message == ARROWFLOW_MESSAGE_SCHEMA) check_field(reader, path, 0, &seen->schema);
         if (step.message == ARROWFLOW_MESSAGE_DICTIONARY) came[ids++] = step.id;
         if (step.message != ARROWFLOW_MESSAGE_BATCH) continue;
         check_columns(reader, seen, batch++, came, ids);
@@ -736,68 +740,68 @@ static int show(const char *how, const char *name) {
     read_as(how, name, &seen);
     if (seen.schema.release != NULL) {
         check_schema(&seen.schema);
-        WANT(is_format(&seen.schema, "+s"));
+        EXPECT(is_format(&seen.schema, "+s"));
         check_beside_reader(name, &seen);
         print_names(&seen.schema);
     }
     for (size_t k = 0; k < seen.count; k++) {
         check_array(&seen.schema, seen.arrays + k);
-        WANT(seen.arrays[k].buffers[0] == NULL);
+        EXPECT(seen.arrays[k].buffers[0] == NULL);
         print_rows(k, &seen.schema, seen.arrays + k);
     }
-    int status = tell_end(&seen);
+    int status = report_end(&seen);
     let_go(&seen);
     return status;
 }
 
-/* Prints the rows of each array, and releases it before the next one is asked for. */
+/* Prints the rows of each array, and releases it before the next one is requested. */
 static int show_each(const char *name) {
     struct ArrowArrayStream stream;
     struct ArrowSchema schema;
     struct ArrowArray array;
     size_t len;
     uint8_t *bytes = read_file(name, &len);
-    WANT(arrowflow_stream_of_bytes(bytes, len, limits, &stream) == ARROWFLOW_KIND_FINE);
-    WANT(stream.get_schema(&stream, &schema) == 0);
+    EXPECT(arrowflow_stream_of_bytes(bytes, len, limits, &stream) == ARROWFLOW_KIND_FINE);
+    EXPECT(stream.get_schema(&stream, &schema) == 0);
     print_names(&schema);
     for (size_t k = 0; stream.get_next(&stream, &array) == 0 && array.release != NULL; k++) {
         check_array(&schema, &array);
         print_rows(k, &schema, &array);
         release(&array);
     }
-    WANT(stream.get_last_error(&stream) == NULL);
+    EXPECT(stream.get_last_error(&stream) == NULL);
     stream.release(&stream);
     schema.release(&schema);
     free(bytes);
     return 0;
 }
 
-/* Tells how many arrays come, none of which is looked at, and the text at the end. */
-static int tell_ends(const char *name) {
+/* Prints how many arrays a stream returns, without reading them, and the text at the end. */
+static int print_ends(const char *name) {
     struct seen seen;
     read_as("bytes", name, &seen);
     bool is_long = strstr(seen.error, "too long") != NULL;
-    WANT(is_long == (seen.status == EOVERFLOW));
+    EXPECT(is_long == (seen.status == EOVERFLOW));
     printf("%zu, %s\n", seen.count, seen.status == 0 ? "the end" : seen.error);
     release_all(&seen);
     return 0;
 }
 
-/* Tells how often a buffer of the first column's dictionary is at another address than in the array before, which
- * is there until the next one is: all values were copied then, and else only added to them. */
-static int tell_growth(const char *name) {
+/* Prints how often a buffer of the first column's dictionary has another address than in the array before,
+ * which is kept until the next one is read: all values were copied then, and otherwise only appended. */
+static int print_growth(const char *name) {
     struct ArrowArrayStream stream;
     struct ArrowArray last = {0, 0, 0, 0, 0, NULL, NULL, NULL, NULL, NULL}, array;
     size_t len, count = 0, moves = 0;
     uint8_t *bytes = read_file(name, &len);
-    WANT(arrowflow_stream_of_bytes(bytes, len, limits, &stream) == ARROWFLOW_KIND_FINE);
+    EXPECT(arrowflow_stream_of_bytes(bytes, len, limits, &stream) == ARROWFLOW_KIND_FINE);
     for (; stream.get_next(&stream, &array) == 0 && array.release != NULL; last = array, count++) {
         const struct ArrowArray *values = array.children[0]->dictionary;
         for (int64_t k = 1; k < values->n_buffers && count > 0; k++)
             moves += values->buffers[k] != last.children[0]->dictionary->buffers[k];
         if (count > 0) release(&last);
     }
-    WANT(stream.get_last_error(&stream) == NULL && count > 0);
+    EXPECT(stream.get_last_error(&stream) == NULL && count > 0);
     printf("%zu, of %lld values, %zu\n", count, (long long)last.children[0]->dictionary->length, moves);
     release(&last);
     stream.release(&stream);
@@ -821,12 +825,12 @@ static void *ask(void *state) {
 static int ask_elsewhere(struct ArrowArrayStream *stream, struct ArrowArray *out) {
     struct asked asked = {stream, *out, 0};
     pthread_t thread;
-    WANT(pthread_create(&thread, NULL, ask, &asked) == 0 && pthread_join(thread, NULL) == 0);
+    EXPECT(pthread_create(&thread, NULL, ask, &asked) == 0 && pthread_join(thread, NULL) == 0);
     *out = asked.array;
     return asked.status;
 }
 
-/* Asks for each array on a thread, and hands it to another one as soon as it is there. */
+/* Requests each array on a thread, and passes it to another one as soon as it is there. */
 static int in_threads(const char *name) {
     struct ArrowArrayStream stream;
     struct ArrowArray array = {0, 0, 0, 0, 0, NULL, NULL, NULL, NULL, NULL};
@@ -837,7 +841,7 @@ static int in_threads(const char *name) {
     uint8_t *bytes = read_file(name, &len);
     int status = 0;
     is_growing = true;
-    WANT(arrowflow_stream_of_bytes(bytes, len, limits, &stream) == ARROWFLOW_KIND_FINE);
+    EXPECT(arrowflow_stream_of_bytes(bytes, len, limits, &stream) == ARROWFLOW_KIND_FINE);
     while (status == 0 && count < MOST_THREADS) {
         struct seen *it = seen + count;
         memset(it, 0, sizeof *it);
@@ -851,12 +855,12 @@ static int in_threads(const char *name) {
         it->count = 1;
         it->arrays[0] = array;
         all[count] = (struct share){it, 0, 1};
-        WANT(pthread_create(threads + count, NULL, take_share, all + count) == 0);
+        EXPECT(pthread_create(threads + count, NULL, take_share, all + count) == 0);
         count++;
     }
     stream.release(&stream);
     for (size_t k = 0; k < count; k++) {
-        WANT(pthread_join(threads[k], NULL) == 0);
+        EXPECT(pthread_join(threads[k], NULL) == 0);
         seen[k].schema.release(&seen[k].schema);
         free(seen[k].arrays);
     }
@@ -866,25 +870,25 @@ static int in_threads(const char *name) {
 
 /* ---- what fails ---- */
 
-/* Limits that are none, and streams that are let go before anything was read. */
+/* Invalid limits, and streams that are released before anything was read. */
 static void bad_limits(void) {
     struct ArrowArrayStream stream;
     struct given given = {NULL, 0, 0, 1, SIZE_MAX, 0, 0, false};
     arrowflow_limits high = limits;
     high.max_rows = UINT64_MAX;
-    WANT(arrowflow_stream_of_bytes(NULL, 0, high, &stream) == ARROWFLOW_KIND_BAD_LIMITS && stream.release == NULL);
-    WANT(arrowflow_stream_of_fd(0, high, &stream) == ARROWFLOW_KIND_BAD_LIMITS && stream.release == NULL);
-    WANT(arrowflow_stream_of(give, &given, high, &stream) == ARROWFLOW_KIND_BAD_LIMITS && stream.release == NULL);
-    WANT(arrowflow_stream_of(give, &given, limits, &stream) == ARROWFLOW_KIND_FINE);
+    EXPECT(arrowflow_stream_of_bytes(NULL, 0, high, &stream) == ARROWFLOW_KIND_BAD_LIMITS && stream.release == NULL);
+    EXPECT(arrowflow_stream_of_fd(0, high, &stream) == ARROWFLOW_KIND_BAD_LIMITS && stream.release == NULL);
+    EXPECT(arrowflow_stream_of(give, &given, high, &stream) == ARROWFLOW_KIND_BAD_LIMITS && stream.release == NULL);
+    EXPECT(arrowflow_stream_of(give, &given, limits, &stream) == ARROWFLOW_KIND_FINE);
     stream.release(&stream);
-    WANT(arrowflow_stream_of_bytes(NULL, 0, limits, &stream) == ARROWFLOW_KIND_FINE);
+    EXPECT(arrowflow_stream_of_bytes(NULL, 0, limits, &stream) == ARROWFLOW_KIND_FINE);
     struct seen seen;
     read_all(&stream, &seen);
-    WANT(seen.status == EINVAL && strcmp(seen.error, "fault at byte 0: NoSchema, the stream ended before a schema") == 0);
+    EXPECT(seen.status == EINVAL && strcmp(seen.error, "fault at byte 0: NoSchema, the stream ended before a schema") == 0);
     stream.release(&stream);
 }
 
-/* A stream that breaks at each place: its arrays are the first ones, and the fault comes again. */
+/* A stream that breaks at each offset: its arrays are the first ones, and the fault is returned again. */
 static void bad_ends(const uint8_t *bytes, size_t len, size_t batches) {
     size_t arrays = 0;
     for (size_t cut = 0; cut < len; cut++) {
@@ -894,25 +898,25 @@ static void bad_ends(const uint8_t *bytes, size_t len, size_t batches) {
         uint8_t *front = malloc(cut + 1);
         memcpy(front, bytes, cut);
         arrowflow_report report = arrowflow_check(front, cut, limits);
-        WANT(arrowflow_stream_of_bytes(front, cut, limits, &stream) == ARROWFLOW_KIND_FINE);
+        EXPECT(arrowflow_stream_of_bytes(front, cut, limits, &stream) == ARROWFLOW_KIND_FINE);
         read_all(&stream, &seen);
         stream.release(&stream);
         free(front);
-        WANT(arrowflow_error_text(report.kind, report.place, wanted, sizeof wanted) < sizeof wanted);
-        WANT(seen.status == (report.kind == ARROWFLOW_KIND_FINE ? 0 : EINVAL) && seen.count == report.batches);
-        WANT(report.kind == ARROWFLOW_KIND_FINE || strcmp(seen.error, wanted) == 0);
+        EXPECT(arrowflow_error_text(report.kind, report.place, wanted, sizeof wanted) < sizeof wanted);
+        EXPECT(seen.status == (report.kind == ARROWFLOW_KIND_FINE ? 0 : EINVAL) && seen.count == report.batches);
+        EXPECT(report.kind == ARROWFLOW_KIND_FINE || strcmp(seen.error, wanted) == 0);
         arrays += seen.count;
         for (size_t k = 0; k < seen.count; k++) check_array(&seen.schema, seen.arrays + k);
         release_all(&seen);
     }
-    WANT(batches == 0 || arrays > 0);
+    EXPECT(batches == 0 || arrays > 0);
 }
 
-/* Reads through a callback that fails at a place so many times. */
+/* Reads through a callback that fails at an offset this many times. */
 static int read_failing(struct given given, struct seen *seen, struct ArrowArrayStream *stream) {
     struct given *kept = malloc(sizeof given);
     *kept = given;
-    WANT(arrowflow_stream_of(give, kept, limits, stream) == ARROWFLOW_KIND_FINE);
+    EXPECT(arrowflow_stream_of(give, kept, limits, stream) == ARROWFLOW_KIND_FINE);
     read_all(stream, seen);
     int left = kept->times;
     stream->release(stream);
@@ -920,7 +924,8 @@ static int read_failing(struct given given, struct seen *seen, struct ArrowArray
     return left;
 }
 
-/* Callbacks that fail: once is enough, and the text says why. A count beyond the room is a failure. */
+/* Callbacks that fail: one failure is permanent, and the text says why. A count above the buffer's size is a
+ * failure. */
 static void bad_reads(const uint8_t *bytes, size_t len, size_t batches) {
     const int failures[] = {-EIO, -ECONNRESET, 65537, INT32_MIN};
     const int statuses[] = {EIO, ECONNRESET, EIO, EIO};
@@ -930,51 +935,51 @@ static void bad_reads(const uint8_t *bytes, size_t len, size_t batches) {
             struct seen seen;
             struct given given = {bytes, len, 0, 13, at, failures[k], 3, false};
             int left = read_failing(given, &seen, &stream);
-            WANT(left == 2 && seen.status == statuses[k]);
-            WANT(strncmp(seen.error, "read failed: ", 13) == 0 && strcmp(seen.error + 13, strerror(statuses[k])) == 0);
-            WANT(seen.count <= batches);
+            EXPECT(left == 2 && seen.status == statuses[k]);
+            EXPECT(strncmp(seen.error, "read failed: ", 13) == 0 && strcmp(seen.error + 13, strerror(statuses[k])) == 0);
+            EXPECT(seen.count <= batches);
             release_all(&seen);
         }
 }
 
-/* Streams that are released after a schema, and after each number of arrays, which live on. */
+/* Streams that are released after a schema, and after each number of arrays, which stay valid. */
 static void released_between(const uint8_t *bytes, size_t len, size_t batches) {
     for (size_t most = 0; most <= batches; most++) {
         struct ArrowArrayStream stream;
         struct seen seen;
         memset(&seen, 0, sizeof seen);
         seen.arrays = calloc(batches, sizeof *seen.arrays);
-        WANT(arrowflow_stream_of_bytes(bytes, len, limits, &stream) == ARROWFLOW_KIND_FINE);
-        WANT(seen.arrays != NULL && stream.get_schema(&stream, &seen.schema) == 0);
-        for (; seen.count < most; seen.count++) WANT(stream.get_next(&stream, seen.arrays + seen.count) == 0);
+        EXPECT(arrowflow_stream_of_bytes(bytes, len, limits, &stream) == ARROWFLOW_KIND_FINE);
+        EXPECT(seen.arrays != NULL && stream.get_schema(&stream, &seen.schema) == 0);
+        for (; seen.count < most; seen.count++) EXPECT(stream.get_next(&stream, seen.arrays + seen.count) == 0);
         stream.release(&stream);
-        WANT(stream.release == NULL);
+        EXPECT(stream.release == NULL);
         for (size_t k = 0; k < seen.count; k++) check_array(&seen.schema, seen.arrays + k);
         release_all(&seen);
     }
 }
 
-/* A callback that is out of memory is no end: the stream goes on where it is asked again. */
+/* A callback that is out of memory does not end the stream: it continues when it is called again. */
 static void scarce_reads(const uint8_t *bytes, size_t len, size_t batches) {
     struct ArrowArrayStream stream;
     struct given given = {bytes, len, 0, 13, len / 2, -ENOMEM, 3, false};
     size_t count = 0, refused = 0;
-    WANT(arrowflow_stream_of(give, &given, limits, &stream) == ARROWFLOW_KIND_FINE);
+    EXPECT(arrowflow_stream_of(give, &given, limits, &stream) == ARROWFLOW_KIND_FINE);
     for (;;) {
         struct ArrowArray array;
         int status = stream.get_next(&stream, &array);
-        WANT((status == 0) == (stream.get_last_error(&stream) == NULL));
+        EXPECT((status == 0) == (stream.get_last_error(&stream) == NULL));
         if (status == ENOMEM) {
-            WANT(array.release == NULL);
+            EXPECT(array.release == NULL);
             refused++;
             continue;
         }
-        WANT(status == 0);
+        EXPECT(status == 0);
         if (array.release == NULL) break;
         release(&array);
         count++;
     }
-    WANT(count == batches && refused == 3);
+    EXPECT(count == batches && refused == 3);
     stream.release(&stream);
 }
 
@@ -982,7 +987,7 @@ static atomic_int alarms = 0;
 
 static void note_alarm(int number) { atomic_fetch_add(&alarms, number == SIGALRM); }
 
-/* Bytes that are written into a pipe when reads of it were interrupted. */
+/* Bytes that are written to a pipe after reads of it were interrupted. */
 struct late {
     const uint8_t *bytes;
     size_t len;
@@ -999,14 +1004,14 @@ static void *write_late(void *state) {
     while (atomic_load(&alarms) < 3) nanosleep(&pause, NULL);
     for (size_t at = 0; at < it->len;) {
         ssize_t put = write(it->fd, it->bytes + at, it->len - at < 1000 ? it->len - at : 1000);
-        WANT(put > 0);
+        EXPECT(put > 0);
         at += (size_t)put;
     }
-    WANT(close(it->fd) == 0);
+    EXPECT(close(it->fd) == 0);
     return NULL;
 }
 
-/* A read that a signal interrupts is made again; a file descriptor that is closed is a failure. */
+/* A read that a signal interrupts is made again; a closed file descriptor is a failure. */
 static void interrupted_reads(const uint8_t *bytes, size_t len, size_t batches) {
     const struct itimerval often = {{0, 1000}, {0, 1000}}, never = {{0, 0}, {0, 0}};
     struct ArrowArrayStream stream;
@@ -1014,24 +1019,24 @@ static void interrupted_reads(const uint8_t *bytes, size_t len, size_t batches) 
     struct seen seen;
     pthread_t thread;
     int ends[2];
-    WANT(pipe(ends) == 0);
+    EXPECT(pipe(ends) == 0);
     struct late late = {bytes, len, ends[1]};
     memset(&action, 0, sizeof action);
     action.sa_handler = note_alarm;
-    WANT(sigaction(SIGALRM, &action, NULL) == 0);
-    WANT(pthread_create(&thread, NULL, write_late, &late) == 0);
-    WANT(setitimer(ITIMER_REAL, &often, NULL) == 0);
-    WANT(arrowflow_stream_of_fd(ends[0], limits, &stream) == ARROWFLOW_KIND_FINE);
+    EXPECT(sigaction(SIGALRM, &action, NULL) == 0);
+    EXPECT(pthread_create(&thread, NULL, write_late, &late) == 0);
+    EXPECT(setitimer(ITIMER_REAL, &often, NULL) == 0);
+    EXPECT(arrowflow_stream_of_fd(ends[0], limits, &stream) == ARROWFLOW_KIND_FINE);
     read_all(&stream, &seen);
-    WANT(setitimer(ITIMER_REAL, &never, NULL) == 0);
-    WANT(seen.status == 0 && seen.count == batches && atomic_load(&alarms) >= 3);
-    WANT(pthread_join(thread, NULL) == 0);
+    EXPECT(setitimer(ITIMER_REAL, &never, NULL) == 0);
+    EXPECT(seen.status == 0 && seen.count == batches && atomic_load(&alarms) >= 3);
+    EXPECT(pthread_join(thread, NULL) == 0);
     stream.release(&stream);
     release_all(&seen);
-    WANT(close(ends[0]) == 0);
-    WANT(arrowflow_stream_of_fd(ends[0], limits, &stream) == ARROWFLOW_KIND_FINE);
+    EXPECT(close(ends[0]) == 0);
+    EXPECT(arrowflow_stream_of_fd(ends[0], limits, &stream) == ARROWFLOW_KIND_FINE);
     read_all(&stream, &seen);
-    WANT(seen.status == EBADF && seen.schema.release == NULL);
+    EXPECT(seen.status == EBADF && seen.schema.release == NULL);
     stream.release(&stream);
 }
 
@@ -1039,7 +1044,7 @@ static int bad(const char *name) {
     size_t len;
     uint8_t *bytes = read_file(name, &len);
     arrowflow_report report = arrowflow_check(bytes, len, limits);
-    WANT(report.kind == ARROWFLOW_KIND_FINE && report.batches > 0);
+    EXPECT(report.kind == ARROWFLOW_KIND_FINE && report.batches > 0);
     bad_limits();
     bad_ends(bytes, len, report.batches);
     bad_reads(bytes, len, report.batches);
@@ -1060,8 +1065,8 @@ int main(int argc, char **argv) {
     if (argc == 3 && strcmp(argv[1], "--bad") == 0) return bad(argv[2]);
     if (argc == 3 && strcmp(argv[1], "threads") == 0) return in_threads(argv[2]);
     if (argc == 3 && strcmp(argv[1], "each") == 0) return show_each(argv[2]);
-    if (argc == 3 && strcmp(argv[1], "ends") == 0) return tell_ends(argv[2]);
-    if (argc == 3 && strcmp(argv[1], "grows") == 0) return tell_growth(argv[2]);
+    if (argc == 3 && strcmp(argv[1], "ends") == 0) return print_ends(argv[2]);
+    if (argc == 3 && strcmp(argv[1], "grows") == 0) return print_growth(argv[2]);
     if (argc == 4 && strcmp(argv[1], "show") == 0) return show(argv[2], argv[3]);
     fprintf(stderr, "usage: stream [--types core|all] show bytes|fd|SIZE FILE, stream [--types core|all] threads FILE, "
                     "stream each FILE, stream ends FILE, stream grows FILE, stream --bad FILE\n");

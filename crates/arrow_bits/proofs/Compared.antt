@@ -14,18 +14,18 @@ use Rattle.arrow_bits.specs.Offsets.{NeverFall}
 use Rattle.arrow_bits.proofs.Places.{number_in_part}
 use Rattle.arrow_bits.proofs.Reading.{number_at-lt}
 
--- std's word for the number of some bytes
+-- std's function for the number of some bytes
 number_l-number_of : (bytes : List ℕ) → number_l 256 bytes ≡ number_of bytes
 number_l-number_of [] = refl
 number_l-number_of (byte ∷ bytes) = ap (λ n. byte + 256 * n) (number_l-number_of bytes)
 
--- a lane in front
+-- a lane is prepended
 full_cons : (lanes : List Bool) → ((k : ℕ) → k < length lanes → get_or lanes k false ≡ true)
     → (k : ℕ) → k < suc (length lanes) → get_or (true ∷ lanes) k false ≡ true
 full_cons lanes all zero h = refl
 full_cons lanes all (suc k) h = all k (omega (arith, h))
 
--- a mask has all its bits where each lane has its own
+-- a mask has all its bits set exactly if each lane has
 mask_full : (lanes : List Bool) → (mask_l lanes ≡ 2 ^ length lanes - 1) ↔ ((k : ℕ) → k < length lanes → get_or lanes k false ≡ true)
 mask_full [] = ((λ e k h. absurd (omega (arith, h))), (λ all. refl))
 mask_full (true ∷ lanes) =
@@ -47,7 +47,7 @@ number_at_chunk : (width : ℕ) (bytes : List ℕ) (k : ℕ) → number_l 256 (c
 unfolding number_at
 number_at_chunk width bytes k = number_l-number_of (take width (drop (width * k) bytes))
 
--- so the mask of a comparison is full where it holds in each lane
+-- so the mask of a comparison is full exactly if it holds in each lane
 pub lanes_hold : (w : Width) (n : ℕ) (xs ys : List ℕ) → n ≤ 64 → length xs ≡ n → length ys ≡ n
     → IsTrue (nat_eq (mask_l (map (sign (hbits w)) (zip2 (λ a b. cond (leb a b) (2 ^ bits w - 1) 0) xs ys)) % 18446744073709551616) (2 ^ n - 1))
     ↔ ((k : ℕ) → k < n → get_or xs k 0 ≤ get_or ys k 0)
@@ -67,7 +67,7 @@ lanes_hold w n xs ys few low high =
           eq-eqb _ _ (mask ∙ full ∙ ap (λ m. 2 ^ m - 1) long)),
     )
 
--- a lane of `width` bytes is the number that stands at its place
+-- a lane of `width` bytes is the number at its offset
 pub lane_number : (width q : ℕ) → q ≡ 256 ^ width → (bytes : List ℕ) (at n : ℕ) → ((i : ℕ) → Fits w8 (get_or bytes i 0)) → (k : ℕ) → k < n
     → get_or (digits_l q n (number_l 256 (take (width * n) (drop at bytes)))) k 0 ≡ number_at bytes (at + width * k) width
 lane_number width q base bytes at n fits k h =
@@ -77,11 +77,11 @@ lane_number width q base bytes at n fits k h =
     ∙ number_at_chunk width part k
     ∙ number_in_part bytes at (width * n) (width * k) width (column_fits width k width n h (omega arith))
 
--- the place of a number further on
+-- the offset of a number further on
 further : (width i k : ℕ) → width * i + width * k ≡ width * (i + k)
 further width i k = omega arith
 
--- n lanes hold the numbers of `width` bytes from number i on and those behind them
+-- n lanes hold the numbers of `width` bytes from number i on and those after each of them
 pub block_falls_not : (width : ℕ) (bytes : List ℕ) (i n : ℕ)
     → ((k : ℕ) → k < n → number_at bytes (width * i + width * k) width ≤ number_at bytes (width * (i + 1) + width * k) width)
     ↔ NeverFall width bytes i (i + n)
@@ -112,21 +112,21 @@ block_at_most width bytes i n top = (
   (λ all k h. rw (further width i k) (all (i + k) (omega arith) (omega (arith, h)))),
 )
 
--- So their mask is full where none is above the top. Each stands beside the top, or beside the greatest number of the width
--- where the top is above that.
+-- So their mask is full exactly if none is above the top. Each lane is compared with the top, or with the greatest
+-- number of the width if the top is above that.
 pub block_holds : (w : Width) (width n : ℕ) (bytes : List ℕ) (i place top clipped : ℕ) (xs : List ℕ) → ((j : ℕ) → get_or bytes j 0 < 256)
     → place ≡ width * i → place + width * n ≤ length bytes → n ≤ 64 → clipped ≡ min top (256 ^ width - 1) → length xs ≡ n
     → ((k : ℕ) → k < n → get_or xs k 0 ≡ number_at bytes (place + width * k) width)
     → IsTrue (nat_eq (mask_l (map (sign (hbits w)) (zip2 (λ a b. cond (leb a b) (2 ^ bits w - 1) 0) xs (replicate n clipped))) % 18446744073709551616) (2 ^ n - 1))
     ↔ AreAtMost width bytes i (i + n) top
 block_holds w width n bytes i place top clipped xs small here inside few least long lanes =
-    let beside : (k : ℕ) → k < n → get_or (replicate n clipped) k 0 ≡ clipped = λ k h. get_or-replicate n k clipped 0 h in
+    let next_to : (k : ℕ) → k < n → get_or (replicate n clipped) k 0 ≡ clipped = λ k h. get_or-replicate n k clipped 0 h in
     let there : (k : ℕ) → number_at bytes (place + width * k) width ≡ number_at bytes (width * i + width * k) width =
     λ k. ap (λ p. number_at bytes (p + width * k) width) here in
     let fits : (k : ℕ) → k < n → number_at bytes (place + width * k) width < 256 ^ width =
     λ k h. number_at-lt (place + width * k) width bytes small (omega (arith, inside, column_fits width k width n h (omega arith))) in
     let hold = lanes_hold w n xs (replicate n clipped) few long (length-replicate n clipped) in
     let numbers = block_at_most width bytes i n top in (
-      (λ t. numbers.0 (λ k h. omega (arith, hold.0 t k h, beside k h, lanes k h, there k, least))),
-      (λ all. hold.1 (λ k h. omega (arith, numbers.1 all k h, beside k h, lanes k h, there k, fits k h, least))),
+      (λ t. numbers.0 (λ k h. omega (arith, hold.0 t k h, next_to k h, lanes k h, there k, least))),
+      (λ all. hold.1 (λ k h. omega (arith, numbers.1 all k h, next_to k h, lanes k h, there k, fits k h, least))),
     )

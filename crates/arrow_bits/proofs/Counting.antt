@@ -1,4 +1,4 @@
--- The set bits of bytes, counted in a byte or in eight at once.
+-- The set bits of bytes, counted in one byte or in eight at once.
 use Rattle.std.proofs.Common.{◌≡◌, ℕ, zero, suc, ◌+◌, ◌*◌, ◌/◌, ◌%◌, ◌^◌, ◌<◌, ◌≤◌, cond, List, length, take, drop, get_or, refl, ap, ◌∙◌, sym, arith, add-one, add-zero, drop-cons}
 use Rattle.std.specs.Prelude.{count_ones, ◌==◌}
 use Rattle.std.specs.Int.{bit_at}
@@ -47,7 +47,7 @@ ones_part bytes i (suc r) h =
     let next : 8 * i + suc r ≡ 8 * i + r + 1 = omega arith in
     rw (next, sym (add-one r)) (omega (arith, before, more, low, flag))
 
--- the last byte, of which some bits are left out
+-- the last byte, some of whose bits are left out
 pub ones_rest : (bytes : List ℕ) (len : ℕ)
     → ones_of len bytes ≡ ones_of (8 * (len / 8)) bytes + count_ones (get_or bytes (len / 8) 0 % (1 * 2 ^ (len % 8) % 256))
 ones_rest bytes len =
@@ -56,14 +56,14 @@ ones_rest bytes len =
     let whole : 8 * (len / 8) + len % 8 ≡ len = omega arith in
     rw power (ap (λ n. ones_of n bytes) (sym whole) ∙ part)
 
--- a whole byte
+-- a full byte
 pub ones_byte : (bytes : List ℕ) (i : ℕ) → get_or bytes i 0 < 256 → ones_of (8 * (i + 1)) bytes ≡ ones_of (8 * i) bytes + count_ones (get_or bytes i 0)
 ones_byte bytes i small =
     let whole : get_or bytes i 0 % 2 ^ 8 ≡ get_or bytes i 0 = omega (arith, small) in
     let next : 8 * (i + 1) ≡ 8 * i + 8 = omega arith in
     ap (λ n. ones_of n bytes) next ∙ ones_part bytes i 8 (omega arith) ∙ ap (λ b. ones_of (8 * i) bytes + count_ones b) whole
 
--- some bytes, by the number that they make
+-- some bytes, by the number that they form
 ones_number : (bytes : List ℕ) (n i : ℕ) → ((k : ℕ) → get_or bytes k 0 < 256) → i + n ≤ length bytes
     → ones_of (8 * (i + n)) bytes ≡ ones_of (8 * i) bytes + count_ones (number_of (take n (drop i bytes)))
 ones_number bytes zero i small h = rw (add-zero i, ones_digit 0 (omega arith)) (sym (add-zero (ones_of (8 * i) bytes)))

@@ -1,4 +1,4 @@
--- One bit more in packed bytes.
+-- One more bit in packed bytes.
 use Rattle.std.proofs.Common.{◌≡◌, ◌≢◌, ℕ, zero, suc, ◌+◌, ◌*◌, ◌/◌, ◌%◌, ◌^◌, ◌<◌, ◌≤◌, Bool, true, false, cond, List, [], ◌∷◌, ◌++◌, length, map, get_or, set, refl, ap, ◌∙◌, sym, subst, arith, w8, inl, inr, bit_or, length-set, length-append}
 use Rattle.std.specs.Prelude.{◌==◌}
 use Rattle.std.specs.List.{range_with_len}
@@ -11,14 +11,14 @@ use Rattle.std.proofs.lemmas.Nat.Bits.{bit_at-zero, bit_at-pow_other, bit_at_set
 use Rattle.arrow_bits.specs.Bitmap.{bit_of, bits_of, IsPacked}
 use Rattle.arrow_bits.proofs.Listed.{length_bits, more_bits}
 
--- two functions that agree on the numbers of a range list the same
+-- two functions that agree on a range give the same list
 same_on_range : (f g : ℕ → Bool) (a n : ℕ) → ((j : ℕ) → j < a + n → f j ≡ g j) → map f (range_with_len a n) ≡ map g (range_with_len a n)
 same_on_range f g a zero same = refl
 same_on_range f g a (suc n) same =
     ap (λ b. b ∷ map f (range_with_len (a + 1) n)) (same a (omega arith))
     ∙ ap (λ bs. g a ∷ bs) (same_on_range f g (a + 1) n (λ j h. same j (omega (arith, h))))
 
--- the new bytes are packed, and hold one bit more
+-- the new bytes are packed, and hold one more bit
 pub record IsGrown (len : ℕ) (old new : List ℕ) (bit : Bool) : Type 0 where
   pub packed : IsPacked (bits_of (len + 1) new) new
   pub more : bits_of (len + 1) new ≡ bits_of len old ++ bit ∷ []
@@ -50,7 +50,7 @@ past_end bytes j h = rw (get_or-eq_default bytes 0 h, bit_at-zero (j % 8)) refl
 pub packed_empty : (bytes : List ℕ) → bytes ≡ [] → IsPacked (bits_of 0 bytes) bytes
 packed_empty bytes empty = record { few = ap length empty; same = refl; spare = λ j h. past_end bytes j (rw empty (omega arith)) }
 
--- nothing is written where the bit is 0
+-- nothing is written if the bit is 0
 pub grown_clear : (len : ℕ) (bytes : List ℕ) → IsPacked (bits_of len bytes) bytes → len % 8 ≢ 0 → IsGrown len bytes bytes false
 grown_clear len bytes packed inner =
     let long = length_bits len bytes in
@@ -82,7 +82,7 @@ grown_set len bytes packed inner =
     (rw (at_byte, bit_at_set_same w8 byte (len % 8) (omega arith)) refl)
     (λ j h. other j (λ e. omega (arith, h, e)) ∙ packed.spare j (omega (arith, long, h)))
 
--- a byte of one bit has it at its least significant end, and no other
+-- a byte of one bit has it as its least significant bit
 flag_first : (bit : Bool) → (bit_at (cond bit 1 0) 0 == 1) ≡ bit
 flag_first true = refl
 flag_first false = refl

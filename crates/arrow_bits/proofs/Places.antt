@@ -1,9 +1,9 @@
--- A place in a part of bytes is a place in the whole.
+-- An offset in a part of the bytes is an offset in all of them.
 use Rattle.std.proofs.Common.{◌≡◌, ℕ, ◌+◌, ◌-◌, ◌≤◌, List, take, drop, refl, arith}
 use Rattle.std.proofs.lemmas.List.{drop-drop, drop-take, take-take}
 use Rattle.arrow_bits.specs.Numbers.{number_at}
 
--- a number in the first n bytes from a place
+-- a number in the first n bytes from an offset on
 pub number_in_part : (bytes : List ℕ) (from n place width : ℕ) → place + width ≤ n
     → number_at (take n (drop from bytes)) place width ≡ number_at bytes (from + place) width
 unfolding number_at

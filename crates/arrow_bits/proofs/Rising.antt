@@ -11,7 +11,7 @@ use Rattle.arrow_bits.specs.Numbers.{number_at, signed_at}
 use Rattle.arrow_bits.specs.Offsets.{offset_of, AreOffsetsOf, signed_list, plain_list, offsets_of, large_offsets_of, NeverFall}
 use Rattle.arrow_bits.proofs.Reading.{number_at-lt}
 
--- there is one more than slots
+-- there is one more than there are slots
 length_list : (width len : ℕ) (bytes : List ℕ) → length (plain_list width len bytes) ≡ len + 1
 length_list width len bytes = length-map-range_with_len (λ j. number_at bytes (width * j) width) 0 (len + 1)
 
@@ -20,14 +20,14 @@ found_in_list : (width len : ℕ) (bytes : List ℕ) (i : ℕ) → i < len + 1
     → slice_index (plain_list width len bytes) i ≡ number_at bytes (width * i) width
 found_in_list width len bytes i h = get_or-map-range_with_len (λ j. number_at bytes (width * j) width) 0 (len + 1) i i 0 h (omega arith)
 
--- both of offsets of 32 bits
+-- both facts for offsets of 32 bits
 pub length_offsets : (len : ℕ) (bytes : List ℕ) → length (offsets_of len bytes) ≡ len + 1
 length_offsets len bytes = length_list 4 len bytes
 
 pub offset_found : (len : ℕ) (bytes : List ℕ) (i : ℕ) → i < len + 1 → slice_index (offsets_of len bytes) i ≡ number_at bytes (4 * i) 4
 offset_found len bytes i h = found_in_list 4 len bytes i h
 
--- both of offsets of 64 bits
+-- both facts for offsets of 64 bits
 pub length_large_offsets : (len : ℕ) (bytes : List ℕ) → length (large_offsets_of len bytes) ≡ len + 1
 length_large_offsets len bytes = length_list 8 len bytes
 
@@ -35,7 +35,7 @@ pub large_offset_found : (len : ℕ) (bytes : List ℕ) (i : ℕ) → i < len + 
     → slice_index (large_offsets_of len bytes) i ≡ number_at bytes (8 * i) 8
 large_offset_found len bytes i h = found_in_list 8 len bytes i h
 
--- where all have room, each has
+-- if there is room for all, there is room for each
 has_room : (width len n : ℕ) → width * (len + 1) ≤ n → (j : ℕ) → j ≤ len → width * j + width ≤ n
 has_room width len n there j h = omega (arith, there, column_fits width j width (len + 1) (omega (arith, h)) (omega arith))
 
@@ -44,7 +44,7 @@ number_fits : (width place : ℕ) (bytes : List ℕ) → ((i : ℕ) → get_or b
     → number_at bytes place width < 2 ^ (8 * width)
 number_fits width place bytes small inside = omega (arith, number_at-lt place width bytes small inside, pow256 width)
 
--- an offset that is not negative is its number without a sign
+-- an offset that is not negative equals its number read as unsigned
 pub unsigned_offset : (width : ℕ) (bytes : List ℕ) (j : ℕ) → ((i : ℕ) → get_or bytes i 0 < 256) → width * j + width ≤ length bytes
     → pos 0 ≤ℤ offset_of width bytes j → offset_of width bytes j ≡ pos (number_at bytes (width * j) width)
 unfolding signed_at
@@ -58,13 +58,13 @@ no_sign width bytes len top are zero h = are.first
 no_sign width bytes len top are (suc j) h =
     omega (arith, ints, no_sign width bytes len top are j (omega arith), subst (λ k. offset_of width bytes j ≤ℤ offset_of width bytes k) (add-one j) (are.rise j (omega arith)))
 
--- so each is its number without a sign
+-- so each equals its number read as unsigned
 pub plain_offset : (width : ℕ) (bytes : List ℕ) (len top : ℕ) → ((i : ℕ) → get_or bytes i 0 < 256) → AreOffsetsOf width bytes len top
     → (j : ℕ) → j ≤ len → offset_of width bytes j ≡ pos (number_at bytes (width * j) width)
 plain_offset width bytes len top small are j h =
     unsigned_offset width bytes j small (has_room width len (length bytes) are.there j h) (no_sign width bytes len top are j h)
 
--- none falls, also not to one further on
+-- an offset is not above a later one, adjacent or not
 pub offsets_order : (width : ℕ) (bytes : List ℕ) (len top : ℕ) → AreOffsetsOf width bytes len top → (i k : ℕ) → i + k ≤ len
     → offset_of width bytes i ≤ℤ offset_of width bytes (i + k)
 offsets_order width bytes len top are i zero h = rw (add-zero i) (omega (arith, ints))
@@ -74,7 +74,7 @@ offsets_order width bytes len top are i (suc k) h =
     let e : i + k + 1 ≡ i + suc k = omega arith in
     subst (λ m. offset_of width bytes i ≤ℤ offset_of width bytes m) e (omega (arith, ints, far, near))
 
--- the list of the offsets does not fall
+-- the list of the offsets is non-decreasing
 pub offsets_rise : (width : ℕ) (bytes : List ℕ) (len top : ℕ) → ((i : ℕ) → get_or bytes i 0 < 256) → AreOffsetsOf width bytes len top
     → IsNonDecreasing (plain_list width len bytes)
 offsets_rise width bytes len top small are i j d le inside =
@@ -98,7 +98,7 @@ offsets_inside width bytes len top small are j d inside =
     let at_place = get_or-map-range_with_len (λ m. number_at bytes (width * m) width) 0 (len + 1) j j d (omega (arith, inside, room)) (omega arith) in
     rw at_place (omega (arith, ints, value, order, are.last))
 
--- two functions that agree on the numbers of a range list the same
+-- two functions that agree on a range give the same list
 same_on_range : (f : ℕ → ℤ) (g : ℕ → ℕ) (a n : ℕ) → ((j : ℕ) → j < a + n → f j ≡ pos (g j))
     → map pos (map g (range_with_len a n)) ≡ map f (range_with_len a n)
 same_on_range f g a zero same = refl
@@ -126,7 +126,7 @@ no_sign_bit width bytes j small inside sign =
     let fits = number_fits width (width * j) bytes small inside in
     grind (arith, ints, fits, sign)
 
--- numbers that never fall are not above the last
+-- numbers that never fall are not above the last one
 below_last : (width : ℕ) (bytes : List ℕ) (len k : ℕ) → NeverFall width bytes 0 len → k ≤ len → number_at bytes (width * (len - k)) width ≤ number_at bytes (width * len) width
 below_last width bytes len zero never h =
     let same : len - 0 ≡ len = omega arith in
@@ -137,7 +137,7 @@ below_last width bytes len (suc k) never h =
     let far = below_last width bytes len k never (omega (arith, h)) in
     omega (arith, far, subst (λ m. number_at bytes (width * (len - suc k)) width ≤ number_at bytes (width * m) width) next near)
 
--- the test without signs is the test
+-- the unsigned test implies the signed one
 pub offsets_from_numbers : (width : ℕ) (bytes : List ℕ) (len top : ℕ) → width * (len + 1) ≤ length bytes → number_at bytes (width * len) width < 2 ^ (8 * width - 1)
     → number_at bytes (width * len) width ≤ top → NeverFall width bytes 0 len → AreOffsetsOf width bytes len top
 offsets_from_numbers width bytes len top there low le never =
@@ -159,7 +159,7 @@ pub record HasNumbers (width : ℕ) (bytes : List ℕ) (len top : ℕ) : Type 0 
   pub le : number_at bytes (width * len) width ≤ top
   pub never : NeverFall width bytes 0 len
 
--- and the other way
+-- and conversely
 pub numbers_from_offsets : (width : ℕ) (bytes : List ℕ) (len top : ℕ) → ((i : ℕ) → get_or bytes i 0 < 256) → AreOffsetsOf width bytes len top → HasNumbers width bytes len top
 numbers_from_offsets width bytes len top small are =
     let plain = plain_offset width bytes len top small are in

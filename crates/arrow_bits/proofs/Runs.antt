@@ -1,4 +1,4 @@
--- Bits that are set one behind another, counted in a byte or in eight at once.
+-- Consecutive set bits, counted in one byte or in eight at once.
 use Rattle.std.proofs.Common.{◌≡◌, ⊎_elim, ℕ, zero, suc, ◌+◌, ◌-◌, ◌*◌, ◌/◌, ◌%◌, ◌^◌, ◌<◌, ◌≤◌, true, false, List, length, take, drop, get_or, refl, ap, ◌∙◌, sym, arith, drop-cons, w8, w64}
 use Rattle.std.specs.Prelude.{◌==◌}
 use Rattle.std.specs.Int.{Width, bit_at, trailing_ones}
@@ -11,7 +11,7 @@ use Rattle.arrow_bits.specs.Numbers.{number_of, number_at}
 use Rattle.arrow_bits.specs.Bitmap.{bit_of}
 use Rattle.arrow_bits.proofs.Counting.{bit_in_byte}
 
--- the bits of the number that bytes make are theirs
+-- the bits of the number that bytes form are the bits of the bytes
 bits_of_number : (bytes : List ℕ) (n i : ℕ) → ((k : ℕ) → get_or bytes k 0 < 256) → i + n ≤ length bytes
     → (r : ℕ) → r < 8 * n → bit_of bytes (8 * i + r) ≡ (bit_at (number_of (take n (drop i bytes))) r == 1)
 bits_of_number bytes zero i small h r l = absurd (omega arith)
@@ -36,13 +36,13 @@ record LowOnes (w : Width) (y : ℕ) : Type 0 where
   set : (k : ℕ) → k < trailing_ones w y → bit_at y k ≡ 1
   none : trailing_ones w y ≡ 0 → bit_at y 0 ≡ 0
 
--- where not all bits are set, they end at one that is not
+-- if not all bits are set, they end at one that is not
 low_ones_some : (w : Width) (y : ℕ) → y + 1 < 2 ^ bits w → LowOnes w y
 low_ones_some w y below =
     let found = bit_at-trailing_ones w y below in
     record { set = found.2; none = λ e. ap (bit_at y) (sym e) ∙ found.1 }
 
--- where all are, they are all
+-- if all are set, all are counted
 low_ones_all : (w : Width) (y : ℕ) → trailing_ones w (2 ^ bits w - 1) ≡ bits w → 0 < bits w → y ≡ 2 ^ bits w - 1 → LowOnes w y
 low_ones_all w y whole some e =
     let all : trailing_ones w y ≡ bits w = ap (trailing_ones w) e ∙ whole in
@@ -58,12 +58,12 @@ low_ones w y whole some small = ⊎_elim
     (λ (top : 2 ^ bits w ≤ y + 1). low_ones_all w y whole some (omega (arith, small, top)))
     (cases_lt (y + 1) (2 ^ bits w))
 
--- the bits from bit j on that a count of ones passes over, and the one that none passes over
+-- the bits from bit j on that a count of ones covers are set, and if it covers none, bit j is not
 pub record HasRun (bytes : List ℕ) (j ones : ℕ) : Type 0 where
   pub set : (i : ℕ) → j ≤ i → i < j + ones → bit_of bytes i ≡ true
   pub none : ones ≡ 0 → bit_of bytes j ≡ false
 
--- what is counted in the number x of some bytes of a width
+-- the count in the number x of some bytes of a width
 run_counted : (w : Width) (bytes : List ℕ) (j x : ℕ) → trailing_ones w (2 ^ bits w - 1) ≡ bits w → 0 < bits w → x < 2 ^ bits w
     → ((r : ℕ) → r < bits w → bit_of bytes (8 * (j / 8) + r) ≡ (bit_at x r == 1)) → j % 8 < bits w
     → HasRun bytes j (trailing_ones w (x / 2 ^ (j % 8)))

@@ -1,4 +1,4 @@
--- Numbers of a fixed width, read without a sign, that are not above one.
+-- Numbers of a fixed width, read as unsigned, that are not above a bound.
 use Rattle.std.specs.Prelude.{ℕ, ◌*◌, ◌≤◌, ◌<◌, List}
 use Rattle.arrow_bits.specs.Numbers.{number_at}
 

@@ -23,7 +23,7 @@ pub record IsFirstUnset (bytes : List ℕ) (start stop i : ℕ) : Type 0 where
   pub set : (j : ℕ) → start ≤ j → j < i → bit_of bytes j ≡ true
   pub unset : i < stop → bit_of bytes i ≡ false
 
--- the bytes hold these bits and nothing else: they are as few as can be, and the bits behind are 0
+-- the bytes hold these bits and nothing else: there are as few bytes as possible, and the bits after the last are 0
 pub record IsPacked (bits : List Bool) (bytes : List ℕ) : Type 0 where
   pub few : length bytes ≡ div_ceil (length bits) 8
   pub same : bits_of (length bits) bytes ≡ bits

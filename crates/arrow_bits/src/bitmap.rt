@@ -1,4 +1,4 @@
-//! Bits in bytes: one of them, and a list of the first.
+//! Bits in bytes: a single bit, and a list of the first bits.
 
 ghost use Rattle.std.specs.Prelude.{◌≡◌, ◌+◌, ◌*◌, ◌^◌, ◌≤◌, ◌<◌, ◌↔◌, ◌==◌, ℕ, length, slice_get};
 ghost use Rattle.std.specs.Prelude.{IfSome, IsSome, Some, count_by, not, true, false};
@@ -12,8 +12,8 @@ use std::marker::Model;
 /// That is the numbering of validity bitmaps and of truth values (Columnar Format, "Validity
 /// bitmaps").
 ///
-/// Condition: the byte lies inside the slice, as of an index. A column tests once, when it is made,
-/// that its bitmaps have a bit for each slot, and then asks for bits of slots alone. Where nothing
+/// Condition: the byte lies inside the slice, as for an index. A column tests once, when it is
+/// made, that its bitmaps have a bit for each slot, and then reads only bits of slots. If nothing
 /// was tested, [`Bits::new`] is the test.
 #[tactic(auto, unfolding(crate::specs::Bitmap::bit_of))]
 pub fn bit(bytes: &[u8], j: usize) -> bool
@@ -23,14 +23,14 @@ pub fn bit(bytes: &[u8], j: usize) -> bool
     (bytes[j / 8] >> (j % 8)) % 2 == 1
 }
 
-/// The first of the bits from bit `start` on that is 0, or `stop` where each one before `stop` is 1.
+/// The first of the bits from bit `start` on that is 0, or `stop` if each one before `stop` is 1.
 ///
-/// Bits are numbered as by [`bit`]. In a validity bitmap it is the first null of some slots, and the
-/// end of a run of valid ones. The time grows with the number of bytes up to the answer, of which
-/// eight are looked at at once.
+/// Bits are numbered as by [`bit`]. In a validity bitmap it is the first null of some slots, and
+/// the end of a run of valid ones. The time grows with the number of bytes up to the result, of
+/// which eight are read at once.
 ///
-/// Condition: the range is one, and the bytes have its bits, as of a range of a slice. Where nothing
-/// was tested, [`Bits::new`] is the test.
+/// Condition: the range is valid, and the bytes have its bits, as for a range of a slice. If
+/// nothing was tested, [`Bits::new`] is the test.
 pub fn first_unset(bytes: &[u8], start: usize, stop: usize) -> usize
     requires order { start ≤ stop }
     requires inside { stop ≤ 8 * length bytes.now }
@@ -50,8 +50,9 @@ pub fn first_unset(bytes: &[u8], start: usize, stop: usize) -> usize
     stop
 }
 
-// How many bits from bit `j` on are 1, one behind another: up to the end of the eight bytes that
-// begin with its own at most, or of its byte where eight are not there.
+/// The number of consecutive bits from bit `j` on that are 1, counted at most up to the end of the
+/// eight bytes that begin with the byte of bit `j`, or up to the end of that byte if eight are not
+/// there.
 fn ones_from(bytes: &[u8], j: usize) -> usize
     requires { j < 8 * length bytes.now }
     ensures set { (i : ℕ) → j ≤ i → i < j + result → bit_of bytes.now i ≡ true }
@@ -69,7 +70,7 @@ fn ones_from(bytes: &[u8], j: usize) -> usize
 /// The first bits of a slice of bytes, as a list of truth values.
 ///
 /// Bit 0 is the least significant of the first byte (Columnar Format, "Validity bitmaps"). The
-/// bytes are lent and are not copied. Bits behind the last, and bytes behind that, may hold
+/// bytes are borrowed and are not copied. Bits after the last, and bytes after that, may hold
 /// anything.
 #[derive(Debug, Drop)]
 pub struct Bits<'a> {
@@ -90,7 +91,7 @@ impl<'a> Model for Bits<'a> {
 
 #[tactic(auto, using(crate::proofs::Listed::bit_lists))]
 impl<'a> Bits<'a> {
-    /// The first `len` bits of the bytes, or None where the bytes have fewer bits than that.
+    /// The first `len` bits of the bytes, or None if the bytes have fewer bits than that.
     pub fn new(bytes: &'a [u8], len: usize) -> Option<Bits<'a>>
         ensures found { IsSome result ↔ (len ≤ 8 * length bytes.now) }
         ensures value { IfSome result (λ b. b ≡ bits_of len bytes.now) }
@@ -124,7 +125,7 @@ impl<'a> Bits<'a> {
         bit(self.bytes, i)
     }
 
-    /// How many of the bits are 0: the number of nulls, for a validity bitmap.
+    /// The number of bits that are 0: the number of nulls, for a validity bitmap.
     ///
     /// The time grows with the number of bytes, of which eight are counted at once.
     pub fn count_zero(&self) -> usize
@@ -134,8 +135,8 @@ impl<'a> Bits<'a> {
     }
 }
 
-// How many of the first bits are set: those of whole words of 64 bits, of the whole bytes behind
-// them, and of the byte that is left.
+/// How many of the first bits are set: those of full words of 64 bits, of the full bytes after them,
+/// and of the byte that is left.
 fn count_ones(bytes: &[u8], len: usize) -> usize
     requires { len ≤ 8 * length bytes.now }
     ensures { result ≡ ones_of len bytes.now }
@@ -151,7 +152,7 @@ fn count_ones(bytes: &[u8], len: usize) -> usize
     ones
 }
 
-// How many bits of the first words of 64 bits are set.
+/// How many bits of the first words of 64 bits are set.
 fn count_ones_in_words(bytes: &[u8], words: usize) -> usize
     requires inside { 8 * words ≤ length bytes.now }
     requires few { 64 * words < 2 ^ 64 }

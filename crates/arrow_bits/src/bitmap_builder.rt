@@ -29,7 +29,7 @@ impl Model for BitsBuilder {
 
 #[tactic(auto, using(crate::proofs::Listed::length_bits))]
 impl BitsBuilder {
-    /// A list of no bits, whose bytes will come from this allocator. It takes no memory yet.
+    /// A list of no bits, whose bytes will come from this allocator. It allocates nothing yet.
     pub fn new(alloc: Global) -> BitsBuilder
         ensures { result ≡ [] }
     {
@@ -55,8 +55,8 @@ impl BitsBuilder {
 
     /// Appends a bit.
     ///
-    /// The only error is `AllocError`, where the list found no memory to grow (or holds
-    /// `usize::MAX` bits already, more than any memory has), and the list is then as it was.
+    /// The only error is `AllocError`, if an allocation failed (or the list holds `usize::MAX` bits
+    /// already, more than any memory has), and the list is then as it was.
     pub fn push(&mut self, bit: bool) -> Result<(), AllocError>
         ensures ok { OnOk result (self.new ≡ self.old ++ bit ∷ []) }
         ensures err { OnErr result (self.new ≡ self.old) }
@@ -72,14 +72,14 @@ impl BitsBuilder {
         Ok(())
     }
 
-    /// The bytes that hold the bits, one for each eight and one for what is left.
+    /// The bytes that hold the bits, one for each eight and one for the remaining ones.
     pub fn as_bytes(&self) -> &[u8]
         ensures { IsPacked self.now result.now }
     {
         self.bytes.as_slice()
     }
 
-    /// The same bytes as a list of their own. It takes no memory.
+    /// The same bytes as a list of their own. It allocates nothing.
     pub fn into_bytes(self) -> Vec<u8>
         ensures { IsPacked self result.items }
     {

@@ -7,11 +7,11 @@ ghost use Rattle.arrow_bits.specs.Offsets.{NeverFall};
 use crate::numbers::u32_at;
 use std::simd::prelude::*;
 
-/// How many numbers are compared at once.
+/// The number of numbers compared at once.
 pub(crate) const LANES: usize = 16;
 
-// Whether none of the first `len` numbers of 32 bits is above the one behind it: sixteen at a time,
-// then the rest.
+/// Whether none of the first `len` numbers of 32 bits is above the next one: sixteen at a time, then
+/// the remaining ones.
 pub(crate) fn never_fall(bytes: &[u8], len: usize) -> bool
     requires { 4 * (len + 1) ≤ length bytes.now }
     ensures { IsTrue result ↔ NeverFall 4 bytes.now 0 len }
@@ -26,7 +26,7 @@ pub(crate) fn never_fall(bytes: &[u8], len: usize) -> bool
     rest_rises(bytes, i, len)
 }
 
-// The same of the numbers from number `from` on, one at a time.
+/// The same for the numbers from number `from` on, one at a time.
 fn rest_rises(bytes: &[u8], from: usize, len: usize) -> bool
     requires order { from ≤ len }
     requires inside { 4 * (len + 1) ≤ length bytes.now }
@@ -40,7 +40,7 @@ fn rest_rises(bytes: &[u8], from: usize, len: usize) -> bool
     true
 }
 
-// Whether none of the sixteen numbers from number `i` on is above the one behind it.
+/// Whether none of the sixteen numbers from number `i` on is above the next one.
 fn sixteen_rise(bytes: &[u8], i: usize) -> bool
     requires { 4 * (i + 17) ≤ length bytes.now }
     ensures { IsTrue result ↔ NeverFall 4 bytes.now i (i + 16) }
@@ -50,7 +50,7 @@ fn sixteen_rise(bytes: &[u8], i: usize) -> bool
     low.simd_le(high).all()
 }
 
-// The sixteen numbers at a place.
+/// The sixteen numbers at offset `at`.
 pub(crate) fn sixteen_at(bytes: &[u8], at: usize) -> u32x16
     requires { at + 64 ≤ length bytes.now }
     ensures long { length result ≡ 16 }

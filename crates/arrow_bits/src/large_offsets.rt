@@ -14,10 +14,10 @@ use std::marker::Model;
 /// The offsets of a column of variable size in its large variant: one more than it has slots, and
 /// none below the one before it.
 ///
-/// Slot `j` of the column is what lies from offset `j` up to offset `j + 1` (Columnar Format,
+/// Slot `j` of the column is the range from offset `j` up to offset `j + 1` (Columnar Format,
 /// "Variable-size Binary Layout" and "Variable-size List Layout", the large variants). Each offset
-/// is a signed number of 64 bits in the bytes, which are lent and are not copied. Bytes behind the
-/// last offset may hold anything. `Offsets` is the same with 32 bits.
+/// is a signed number of 64 bits in the bytes, which are borrowed and are not copied. Bytes after
+/// the last offset may hold anything. `Offsets` is the same with 32 bits.
 #[derive(Debug, Drop)]
 pub struct LargeOffsets<'a> {
     bytes: &'a [u8],
@@ -40,8 +40,8 @@ impl<'a> LargeOffsets<'a> {
     /// Whether there are `len + 1` signed offsets of 64 bits that begin at 0 or above, do not fall
     /// and stay within `top`.
     ///
-    /// `len` counts slots. `top` counts what the offsets lead into, bytes or slots of a child, and
-    /// may be more than an offset can hold. Neighbours are compared eight at a time.
+    /// `len` counts slots. `top` counts the elements that the offsets refer to, bytes or slots of a
+    /// child, and may be more than an offset can hold. Neighbours are compared eight at a time.
     pub fn check(bytes: &[u8], len: usize, top: u64) -> bool
         ensures { IsTrue result ↔ AreLargeOffsets bytes.now len top }
     {
@@ -52,7 +52,7 @@ impl<'a> LargeOffsets<'a> {
         }
     }
 
-    /// The `len + 1` offsets in the bytes, or None where `check` is false.
+    /// The `len + 1` offsets in the bytes, or None if `check` is false.
     pub fn new(bytes: &'a [u8], len: usize, top: u64) -> Option<LargeOffsets<'a>>
         ensures found { IsSome result ↔ AreLargeOffsets bytes.now len top }
         ensures value { IfSome result (λ o. o ≡ large_offsets_of len bytes.now) }
@@ -67,7 +67,7 @@ impl<'a> LargeOffsets<'a> {
         }
     }
 
-    /// The `len + 1` offsets in bytes that are known to pass `check`, without looking at them.
+    /// The `len + 1` offsets in bytes that are known to pass `check`, without checking them.
     ///
     /// For a column that was tested when it was made: the call takes the same time for every
     /// length.
@@ -105,7 +105,7 @@ impl<'a> LargeOffsets<'a> {
     }
 }
 
-// Offset `i` of the bytes, by its sign.
+/// Offset `i` of the bytes, read as signed.
 pub(crate) fn large_offset(bytes: &[u8], i: usize) -> i64
     requires { 8 * i + 8 ≤ length bytes.now }
     ensures { result ≡ large_offset_at bytes.now i }
@@ -113,8 +113,8 @@ pub(crate) fn large_offset(bytes: &[u8], i: usize) -> i64
     u64_at(bytes, 8 * i).cast_signed()
 }
 
-// What `check` answers, by numbers without a sign: where they never fall and the last has no sign
-// bit, none has one.
+/// The result of `check`, computed with unsigned numbers: if they never fall and the last has no
+/// sign bit, none has one.
 fn check_lanes(bytes: &[u8], len: usize, top: u64) -> bool
     ensures { IsTrue result ↔ AreLargeOffsets bytes.now len top }
 {

@@ -11,9 +11,8 @@ use std::alloc::AllocError;
 ///
 /// Slots are counted from 0, and slot `i` is the bytes from `width * i` up to `width * (i + 1)`,
 /// the least significant first (Columnar Format, "Fixed-size Primitive Layout"). `width` is 1, 2, 4
-/// or 8, or 16 where `signed` holds. Where it holds the bytes are read as two's complement, else as
-/// a number that is 0 or more. The slot has to lie inside the bytes. No call fails, and none takes
-/// memory.
+/// or 8, or 16 if `signed` holds. If it holds the bytes are read as two's complement, else as an
+/// unsigned number. The slot has to lie inside the bytes. No call fails, and none allocates.
 pub fn int_at(bytes: &[u8], width: usize, signed: bool, i: usize) -> i128
     requires width { IsIntWidth width signed }
     requires inside { width * i + width ≤ length bytes.now }
@@ -27,7 +26,7 @@ pub fn int_at(bytes: &[u8], width: usize, signed: bool, i: usize) -> i128
     }
 }
 
-// The number of the two bytes at a place.
+/// The number of the two bytes at offset `place`.
 fn u16_at(bytes: &[u8], place: usize) -> u16
     requires { place + 2 ≤ length bytes.now }
     ensures { result ≡ number_at bytes.now place 2 }
@@ -35,7 +34,7 @@ fn u16_at(bytes: &[u8], place: usize) -> u16
     LittleEndian::read_u16(&bytes[place..])
 }
 
-// The number of the four bytes at a place.
+/// The number of the four bytes at offset `place`.
 pub(crate) fn u32_at(bytes: &[u8], place: usize) -> u32
     requires { place + 4 ≤ length bytes.now }
     ensures { result ≡ number_at bytes.now place 4 }
@@ -43,7 +42,7 @@ pub(crate) fn u32_at(bytes: &[u8], place: usize) -> u32
     LittleEndian::read_u32(&bytes[place..])
 }
 
-// The number of the eight bytes at a place.
+/// The number of the eight bytes at offset `place`.
 pub(crate) fn u64_at(bytes: &[u8], place: usize) -> u64
     requires { place + 8 ≤ length bytes.now }
     ensures { result ≡ number_at bytes.now place 8 }
@@ -51,7 +50,7 @@ pub(crate) fn u64_at(bytes: &[u8], place: usize) -> u64
     LittleEndian::read_u64(&bytes[place..])
 }
 
-// The number of the sixteen bytes at a place.
+/// The number of the sixteen bytes at offset `place`.
 fn u128_at(bytes: &[u8], place: usize) -> u128
     requires { place + 16 ≤ length bytes.now }
     ensures { result ≡ number_at bytes.now place 16 }
@@ -59,7 +58,7 @@ fn u128_at(bytes: &[u8], place: usize) -> u128
     LittleEndian::read_u128(&bytes[place..])
 }
 
-// The number of the `width` bytes at a place.
+/// The number of the `width` bytes at offset `place`.
 pub(crate) fn read_unsigned(bytes: &[u8], width: usize, place: usize) -> u64
     requires width { IsWidth width }
     requires inside { place + width ≤ length bytes.now }
@@ -69,12 +68,12 @@ pub(crate) fn read_unsigned(bytes: &[u8], width: usize, place: usize) -> u64
         1 => u64::from(bytes[place]),
         2 => u64::from(u16_at(bytes, place)),
         4 => u64::from(u32_at(bytes, place)),
-        // 8, the width that is left
+        // 8, the remaining width
         _ => u64_at(bytes, place),
     }
 }
 
-// The signed number of the `width` bytes at a place.
+/// The signed number of the `width` bytes at offset `place`.
 fn read_signed(bytes: &[u8], width: usize, place: usize) -> i128
     requires width { IsAnyWidth width }
     requires inside { place + width ≤ length bytes.now }
@@ -85,7 +84,7 @@ fn read_signed(bytes: &[u8], width: usize, place: usize) -> i128
         2 => i128::from(u16_at(bytes, place).cast_signed()),
         4 => i128::from(u32_at(bytes, place).cast_signed()),
         8 => i128::from(u64_at(bytes, place).cast_signed()),
-        // 16, the width that is left
+        // 16, the remaining width
         _ => u128_at(bytes, place).cast_signed(),
     }
 }
@@ -93,9 +92,9 @@ fn read_signed(bytes: &[u8], width: usize, place: usize) -> i128
 /// Appends an integer of `width` bytes, the least significant first.
 ///
 /// `width` is 1, 2, 4, 8 or 16. The value has to lie in the range of the signed or of the unsigned
-/// integers of this width; a negative one is written as two's complement, so that `int_at` reads it
-/// back by the sign for which it fits. The only error is `AllocError`, where the list found no
-/// memory to grow, and the list is then as it was.
+/// integers of this width; a negative one is written as two's complement, so that `int_at` reads
+/// the value again, as signed or unsigned, whichever it fits. The only error is `AllocError`, if an
+/// allocation failed, and the list is then as it was.
 pub fn put_int(out: &mut Vec<u8>, width: usize, value: i128) -> Result<(), AllocError>
     requires width { IsAnyWidth width }
     requires fits { FitsWidth width value }
@@ -111,7 +110,7 @@ pub fn put_int(out: &mut Vec<u8>, width: usize, value: i128) -> Result<(), Alloc
     }
 }
 
-// The same of 64 bits at most, which are faster to cut than 128.
+/// The same for at most 64 bits, which are faster to split into bytes than 128.
 fn put_narrow(out: &mut Vec<u8>, width: usize, value: i128) -> Result<(), AllocError>
     requires width { IsWidth width }
     requires fits { FitsWidth width value }

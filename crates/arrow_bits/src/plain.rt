@@ -13,7 +13,7 @@ use crate::offsets::offset;
 
 /// How many of the first `len` bits are 0.
 ///
-/// Condition: the bytes have that many bits, as `Bits::new` tests of the list that it makes: a
+/// Condition: the bytes have that many bits, as `Bits::new` tests for the list that it makes: a
 /// number of bits that are not there would mean nothing.
 #[tactic(auto, using(crate::proofs::Listed::more_zeros))]
 pub fn count_zero(bytes: &[u8], len: usize) -> usize
@@ -29,7 +29,7 @@ pub fn count_zero(bytes: &[u8], len: usize) -> usize
     zeros
 }
 
-/// Whether `len + 1` offsets of 32 bits stand there that begin at 0 or above, never fall and end at
+/// Whether there are `len + 1` offsets of 32 bits that begin at 0 or above, never fall and end at
 /// `top` or below.
 pub fn check_offsets(bytes: &[u8], len: usize, top: u64) -> bool
     ensures { IsTrue result ↔ AreOffsets bytes.now len top }
@@ -51,7 +51,7 @@ pub fn check_offsets(bytes: &[u8], len: usize, top: u64) -> bool
     last as u64 <= top
 }
 
-/// Whether `len + 1` offsets of 64 bits stand there that begin at 0 or above, never fall and end at
+/// Whether there are `len + 1` offsets of 64 bits that begin at 0 or above, never fall and end at
 /// `top` or below.
 pub fn check_large_offsets(bytes: &[u8], len: usize, top: u64) -> bool
     ensures { IsTrue result ↔ AreLargeOffsets bytes.now len top }

@@ -13,7 +13,7 @@ pub use Rattle.arrow_body_laws.specs.Stored
 pub use Rattle.arrow_body_laws.specs.Size
 pub use Rattle.arrow_body_laws.specs.Entries
 pub use Rattle.arrow_body_laws.specs.Formed
-pub use Rattle.arrow_body_laws.specs.Tidy
+pub use Rattle.arrow_body_laws.specs.Canonical
 pub use Rattle.arrow_body_laws.specs.Laws
 pub use Rattle.arrow_body_writer.specs.Align
 pub use Rattle.arrow_body_writer.specs.Packing

@@ -16,7 +16,7 @@ lowest : (b : Bool) (n : ℕ) → (cond b 1 0 + 2 * n) % 2 ≡ cond b 1 0
 lowest true n = omega arith
 lowest false n = omega arith
 
--- what the other bits make
+-- the number of the other bits
 others : (b : Bool) (n : ℕ) → (cond b 1 0 + 2 * n) / 2 ≡ n
 others true n = omega arith
 others false n = omega arith
@@ -28,7 +28,7 @@ bit_number (b ∷ bits) zero = bit_at_lowest (cond b 1 0 + 2 * number_of_bits bi
 bit_number (b ∷ bits) (suc i) =
     bit_at-suc (cond b 1 0 + 2 * number_of_bits bits) i ∙ ap (λ n. bit_at n i) (others b (number_of_bits bits)) ∙ bit_number bits i
 
--- a bit is one where it is set
+-- a bit is one if it is set
 is_one : (b : Bool) → (cond b 1 0 == 1) ≡ b
 is_one true = refl
 is_one false = refl
@@ -37,7 +37,7 @@ is_one false = refl
 pub packed_few : (bits : List Bool) → length (packed bits) ≡ div_ceil (length bits) 8
 packed_few bits = length-map-range_with_len (λ k. number_of_bits (take 8 (drop (8 * k) bits))) 0 (div_ceil (length bits) 8)
 
--- a bit of a byte that is there
+-- a bit of a byte that is present
 packed_at : (bits : List Bool) (j : ℕ) → j / 8 < div_ceil (length bits) 8 → bit_of (packed bits) j ≡ get_or bits j false
 unfolding bit_of
 packed_at bits j inside =
@@ -71,7 +71,7 @@ spare_by : (b : Bool) (bits : List Bool) (j : ℕ) → length bits ≤ j → nat
 spare_by true bits j h e = packed_at bits j (ltb-true (j / 8) (div_ceil (length bits) 8) e) ∙ get_or-eq_default bits false h
 spare_by false bits j h e = past (packed bits) j (omega (arith, packed_few bits, ltb-false (j / 8) (div_ceil (length bits) 8) e))
 
--- the bits behind the last are 0
+-- the bits after the last are 0
 pub packed_spare : (bits : List Bool) (j : ℕ) → length bits ≤ j → bit_of (packed bits) j ≡ false
 packed_spare bits j h = spare_by (nat_lt (j / 8) (div_ceil (length bits) 8)) bits j h refl
 

@@ -1,15 +1,15 @@
 -- The definitions at values: nodes, buffers and bytes written out by hand from the standard's layouts.
 use Rattle.std.proofs.Common.{◌≡◌, ℕ, true, false, [], ◌∷◌, refl, take}
 use Rattle.std.specs.Prelude.{pos, negsuc, None, Some}
-use Rattle.arrow_types.specs.DataType.{Tag, null, boolean, int, large_binary, fixed_size_binary, utf8, list, struct}
+use Rattle.arrow_types.specs.DataType.{TypeId, null, boolean, int, large_binary, fixed_size_binary, utf8, list, struct}
 use Rattle.arrow_types.specs.declared.data_type.BitWidth.TheVariants.{Eight, ThirtyTwo}
-use Rattle.arrow_types.specs.Field.{Fields, none, more}
+use Rattle.arrow_types.specs.Field.{FieldTree, none, more}
 use Rattle.arrow_data.specs.PlainValue.{PlainValue, null_value, bool_value, int_value, binary_value, utf8_value, list_value, struct_value, values_of}
 use Rattle.arrow_body_laws.specs.Stored.{stored}
 use Rattle.arrow_body_laws.specs.Size.{size_of}
 
 -- a column of a type
-abbrev column : Tag → Fields → Fields
+abbrev column : TypeId → FieldTree → FieldTree
 column tag children = more (record { name = []; nullable = true; tag = tag; encoding = None }) children none
 
 -- a number that is not negative
@@ -92,7 +92,7 @@ fixed : stored 8 (column (fixed_size_binary 3) none) ((null_value ∷ binary_val
 }
 fixed = refl
 
--- nulls have a node alone
+-- nulls have only a node
 only_nulls : stored 8 (column null none) ((null_value ∷ null_value ∷ []) ∷ []) ≡ record {
   nodes = record { length = pos 2; null_count = pos 2 } ∷ [];
   buffers = [];
@@ -100,7 +100,7 @@ only_nulls : stored 8 (column null none) ((null_value ∷ null_value ∷ []) ∷
 }
 only_nulls = refl
 
--- a dictionary-encoded column of lists has just its indices, here of one byte
+-- a dictionary-encoded column of lists has only its indices, here of one byte
 indices : stored 8 (more (record { name = []; nullable = true; tag = list; encoding = Some (record { id = pos 5; index = record { bits = Eight; signed = true }; ordered = false }) }) (column utf8 none) none)
     ((number 1 ∷ null_value ∷ number 0 ∷ []) ∷ []) ≡ record {
       nodes = record { length = pos 3; null_count = pos 1 } ∷ [];

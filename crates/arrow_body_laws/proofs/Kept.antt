@@ -1,11 +1,11 @@
--- One tidy node holds just what is stored of its values.
+-- One canonical node holds exactly the stored form of its values.
 use Rattle.std.proofs.Common.{◌≡◌, ℕ, zero, suc, ◌+◌, ◌*◌, ◌-◌, ◌<◌, ◌≤◌, false, List, [], ◌∷◌, ◌++◌, length, map, take, drop, get_or, refl, ap, ◌∙◌, sym, subst, arith, length-take, length-drop}
 use Rattle.std.specs.Prelude.{replicate}
 use Rattle.std.specs.List.{AllByRecursion, flat_map}
 use Rattle.std.proofs.Math.Nat.{mul-suc}
 use Rattle.std.proofs.lemmas.List.{drop-drop, get_or-drop, get_or-map, get_or-replicate, get_or-take, length-map, length-replicate, same_lists, take-append-drop}
 use Rattle.std.proofs.lemmas.List.FromFn.{get_or-map-range_with_len, length-map-range_with_len}
-use Rattle.arrow_types.specs.Field.{Fields, width}
+use Rattle.arrow_types.specs.Field.{FieldTree, width}
 use Rattle.arrow_data.specs.Form.{buffers_of}
 use Rattle.arrow_data.specs.Layout.{HoldsSlots, buffer, child_count}
 use Rattle.arrow_data.specs.Node.{AreBytes}
@@ -20,29 +20,29 @@ use Rattle.arrow_data.proofs.Lists.{list_again}
 use Rattle.arrow_data.proofs.Shown.{items_inside}
 use Rattle.arrow_body_laws.specs.Raws.{bytes_in_value, items_in_value, raws_below}
 use Rattle.arrow_body_laws.specs.Stored.{own_chunks, validity_bytes}
-use Rattle.arrow_body_laws.specs.Tidy.{BelowNulls, IsSpare, IsTidyLayout, IsTidyOffsets, IsTidyValidity}
+use Rattle.arrow_body_laws.specs.Canonical.{BelowNulls, IsSpare, IsCanonicalLayout, IsCanonicalOffsets, IsCanonicalValidity}
 use Rattle.arrow_body_laws.proofs.Joined.{no_elements}
 use Rattle.arrow_body_laws.proofs.Reranged.{AreRanged, offsets_again, ranges_again}
 use Rattle.arrow_body_laws.proofs.Reslotted.{AreShown, are_shown, are_valid, bools_again, fixed_again, ints_again, slot_by, validity_again}
 use Rattle.arrow_body_laws.proofs.Slotted.{any_default}
 
--- each of the values side by side is null at a slot
+-- slot j of each column is null
 abbrev pub AreNullAt : ℕ → List (List PlainValue) → Type 0
 AreNullAt j raws = AllByRecursion (λ values. value_at values j ≡ null_value) raws
 
--- What is known of a tidy node that holds these values, by its buffers and the values below it.
-pub record IsKept (form : Form) (c : Fields) (vs : List PlainValue) (b : List (List ℕ)) (below : List (List PlainValue)) : Type 0 where
+-- The properties of a canonical node that holds these values, in terms of its buffers and the values below it.
+pub record IsKept (form : Form) (c : FieldTree) (vs : List PlainValue) (b : List (List ℕ)) (below : List (List PlainValue)) : Type 0 where
   pub read : slots (length vs) (value_slot form b below) ≡ vs
   pub many : length b ≡ buffers_of form
   pub small : (k : ℕ) → AreBytes (buffer b k)
-  pub validity : IsTidyValidity (length vs) (buffer b 0)
+  pub validity : IsCanonicalValidity (length vs) (buffer b 0)
   pub spare : IsSpare (length vs) (buffer b 0)
-  pub layout : IsTidyLayout form (length vs) b (map length below)
+  pub layout : IsCanonicalLayout form (length vs) b (map length below)
   pub laid : HoldsSlots form (length vs) b (map length below)
   pub hidden : BelowNulls form (length vs) (buffer b 0) (λ j. AreNullAt j below)
   pub long : length below ≡ length (raws_below form c vs)
 
--- so many lists are these
+-- a list of one list is its first element
 one_of : {A : Type 0} (xs : List (List A)) → length xs ≡ 1 → xs ≡ get_or xs 0 [] ∷ []
 one_of [] long = absurd (omega (arith, long))
 one_of (x ∷ xs) long = ap (λ ys. x ∷ ys) (no_elements xs (omega (arith, long)))
@@ -56,7 +56,7 @@ three_of [] long = absurd (omega (arith, long))
 three_of (x ∷ xs) long = ap (λ ys. x ∷ ys) (two_of xs (omega (arith, long)))
 
 -- the bitmap of a node whose slots are these values or null
-bitmap_kept : (form : Form) (c : Fields) (vs : List PlainValue) (b : List (List ℕ)) (below : List (List PlainValue)) (payload : ℕ → PlainValue) → IsKept form c vs b below
+bitmap_kept : (form : Form) (c : FieldTree) (vs : List PlainValue) (b : List (List ℕ)) (below : List (List PlainValue)) (payload : ℕ → PlainValue) → IsKept form c vs b below
     → ((j : ℕ) → is_null_value (payload j) ≡ false) → AreShown vs (λ j. or_null (buffer b 0) j (payload j)) → buffer b 0 ≡ validity_bytes vs
 bitmap_kept form c vs b below payload k full shown = validity_again vs (buffer b 0) (are_valid vs (buffer b 0) payload full shown) (k.small 0) k.validity k.spare
 
@@ -64,7 +64,7 @@ bitmap_kept form c vs b below payload k full shown = validity_again vs (buffer b
 child_long : (below : List (List PlainValue)) → length below ≡ 1 → child_count (map length below) ≡ length (get_or below 0 [])
 child_long below long = get_or-map length below 0 [] 0 (omega (arith, long))
 
-ranged_lists : (w : OffsetWidth) (c : Fields) (vs : List PlainValue) (b : List (List ℕ)) (below : List (List PlainValue)) → IsKept (forms.Lists (lists.Offsets w)) c vs b below
+ranged_lists : (w : OffsetWidth) (c : FieldTree) (vs : List PlainValue) (b : List (List ℕ)) (below : List (List PlainValue)) → IsKept (forms.Lists (lists.Offsets w)) c vs b below
     → AreRanged w (items_in_value 0) (λ ys. list_value (values_of ys)) vs (buffer b 0) (buffer b 1) (get_or below 0 [])
 ranged_lists w c vs b below k =
     let count = child_long below k.long in
@@ -73,34 +73,34 @@ ranged_lists w c vs b below k =
       read = list_again;
       nothing = refl;
       small = k.small 1;
-      tidy = subst (λ n. IsTidyOffsets w (length vs) (buffer b 0) (buffer b 1) n) count k.layout;
+      canonical = subst (λ n. IsCanonicalOffsets w (length vs) (buffer b 0) (buffer b 1) n) count k.layout;
       rising = subst (λ n. HasOffsets w (length vs) n (buffer b 1)) count k.laid.rising;
     }
 
-ranged_strings : (w : OffsetWidth) (c : Fields) (vs : List PlainValue) (b : List (List ℕ)) (below : List (List PlainValue)) → IsKept (forms.Bytes w) c vs b below
+ranged_strings : (w : OffsetWidth) (c : FieldTree) (vs : List PlainValue) (b : List (List ℕ)) (below : List (List PlainValue)) → IsKept (forms.Bytes w) c vs b below
     → AreRanged w bytes_in_value binary_value vs (buffer b 0) (buffer b 1) (buffer b 2)
 ranged_strings w c vs b below k = record {
   shown = are_shown vs (value_slot (forms.Bytes w) b below) k.read;
   read = λ ys. refl;
   nothing = refl;
   small = k.small 1;
-  tidy = k.layout;
+  canonical = k.layout;
   rising = k.laid.rising;
 }
 
-ranged_texts : (w : OffsetWidth) (c : Fields) (vs : List PlainValue) (b : List (List ℕ)) (below : List (List PlainValue)) → IsKept (forms.Texts w) c vs b below
+ranged_texts : (w : OffsetWidth) (c : FieldTree) (vs : List PlainValue) (b : List (List ℕ)) (below : List (List PlainValue)) → IsKept (forms.Texts w) c vs b below
     → AreRanged w bytes_in_value utf8_value vs (buffer b 0) (buffer b 1) (buffer b 2)
 ranged_texts w c vs b below k = record {
   shown = are_shown vs (value_slot (forms.Texts w) b below) k.read;
   read = λ ys. refl;
   nothing = refl;
   small = k.small 1;
-  tidy = k.layout;
+  canonical = k.layout;
   rising = k.laid.rising;
 }
 
--- the buffers of a node are those that are stored
-pub kept_chunks : (form : Form) (c : Fields) (vs : List PlainValue) (b : List (List ℕ)) (below : List (List PlainValue)) → IsKept form c vs b below → b ≡ own_chunks form vs
+-- the buffers of a node are the stored ones
+pub kept_chunks : (form : Form) (c : FieldTree) (vs : List PlainValue) (b : List (List ℕ)) (below : List (List PlainValue)) → IsKept form c vs b below → b ≡ own_chunks form vs
 kept_chunks forms.Nulls c vs b below k = no_elements b k.many
 kept_chunks forms.Bits c vs b below k =
     let shown = are_shown vs (value_slot forms.Bits b below) k.read in
@@ -143,7 +143,7 @@ kept_chunks forms.Structs c vs b below k =
     let first = bitmap_kept forms.Structs c vs b below _ k (λ j. refl) shown in
     one_of b k.many ∙ (λ i. first i ∷ [])
 
--- one of values that all have it
+-- a property of all values is one of each
 all_at : {A : Type 0} (P : A → Type 0) (xs : List A) (i : ℕ) (d : A) → i < length xs → AllByRecursion P xs → P (get_or xs i d)
 all_at P [] i d h all = absurd (omega (arith, h))
 all_at P (x ∷ xs) zero d h all = all.0
@@ -156,7 +156,7 @@ nth_of (x ∷ xs) zero = refl
 nth_of (x ∷ xs) (suc k) = nth_of xs k
 
 -- the children of a struct have its values, null under a null
-part_kept : (c : Fields) (vs : List PlainValue) (b : List (List ℕ)) (below : List (List PlainValue)) → IsKept forms.Structs c vs b below → (n j : ℕ) → n < length below → j < length vs
+part_kept : (c : FieldTree) (vs : List PlainValue) (b : List (List ℕ)) (below : List (List PlainValue)) → IsKept forms.Structs c vs b below → (n j : ℕ) → n < length below → j < length vs
     → value_at (get_or below n []) j ≡ field_value n (value_at vs j)
 part_kept c vs b below k n j h there =
     let row = map (λ values. value_at values j) below in
@@ -165,7 +165,7 @@ part_kept c vs b below k n j h there =
     (λ valid. sym (nth_of row n ∙ get_or-map (λ values. value_at values j) below n [] null_value h))
     (λ null. all_at (λ values. value_at values j ≡ null_value) below n [] h (k.hidden j there null))
 
-parts_kept : (c : Fields) (vs : List PlainValue) (b : List (List ℕ)) (below : List (List PlainValue)) → IsKept forms.Structs c vs b below → (n : ℕ) → n < length below
+parts_kept : (c : FieldTree) (vs : List PlainValue) (b : List (List ℕ)) (below : List (List PlainValue)) → IsKept forms.Structs c vs b below → (n : ℕ) → n < length below
     → get_or below n [] ≡ map (field_value n) vs
 parts_kept c vs b below k n h =
     let part = get_or below n [] in
@@ -176,7 +176,7 @@ parts_kept c vs b below k n h =
     (λ j d at. let there : j < length vs = omega (arith, at, long) in
     any_default part j d null_value at ∙ part_kept c vs b below k n j h there ∙ sym (get_or-map (field_value n) vs j null_value d there))
 
-structs_kept : (c : Fields) (vs : List PlainValue) (b : List (List ℕ)) (below : List (List PlainValue)) → IsKept forms.Structs c vs b below → below ≡ raws_below forms.Structs c vs
+structs_kept : (c : FieldTree) (vs : List PlainValue) (b : List (List ℕ)) (below : List (List PlainValue)) → IsKept forms.Structs c vs b below → below ≡ raws_below forms.Structs c vs
 structs_kept c vs b below k =
     let column : ℕ → List PlainValue = λ n. map (field_value n) vs in
     let many = length-map-range_with_len column 0 (width c) in
@@ -184,7 +184,7 @@ structs_kept c vs b below k =
     (λ n d at. any_default below n d [] at ∙ parts_kept c vs b below k n at
     ∙ sym (get_or-map-range_with_len column 0 (width c) n n d (omega (arith, at, k.long, many)) (omega arith)))
 
--- a part of a list whose elements all are null
+-- a range of a list whose elements are all null
 nulls_taken : (n a : ℕ) (xs : List PlainValue) → a + n ≤ length xs → ((k : ℕ) → k < n → value_at xs (a + k) ≡ null_value) → take n (drop a xs) ≡ replicate n null_value
 nulls_taken n a xs inside nulls =
     let long : length (take n (drop a xs)) ≡ n = omega (arith, length-take n (drop a xs), length-drop a xs, inside) in
@@ -192,7 +192,7 @@ nulls_taken n a xs inside nulls =
     (λ k d at. let here : k < n = omega (arith, at, long) in
     get_or-take n (drop a xs) k d here ∙ get_or-drop a xs k d ∙ any_default xs (a + k) d null_value (omega (arith, inside, here)) ∙ nulls k here ∙ sym (get_or-replicate n k null_value d here))
 
--- a list is its parts of one length, one after another
+-- a list is its parts of equal length, one after another
 parts_joined : (n : ℕ) (g : PlainValue → List PlainValue) (vs xs : List PlainValue) → length xs ≡ n * length vs
     → ((j : ℕ) → j < length vs → take n (drop (n * j) xs) ≡ g (value_at vs j)) → xs ≡ flat_map g vs
 parts_joined n g [] xs long each = no_elements xs (omega (arith, long))
@@ -206,7 +206,7 @@ parts_joined n g (v ∷ vs) xs long each =
     sym (take-append-drop n xs) ∙ (λ i. first i ++ rest i)
 
 -- the child of fixed-size lists has their items, nulls under a null
-part_of_lists : (size : ℕ) (c : Fields) (vs : List PlainValue) (b : List (List ℕ)) (below : List (List PlainValue)) → IsKept (forms.Lists (lists.Fixed size)) c vs b below
+part_of_lists : (size : ℕ) (c : FieldTree) (vs : List PlainValue) (b : List (List ℕ)) (below : List (List PlainValue)) → IsKept (forms.Lists (lists.Fixed size)) c vs b below
     → length (get_or below 0 []) ≡ size * length vs → (j : ℕ) → j < length vs → take size (drop (size * j) (get_or below 0 [])) ≡ items_in_value size (value_at vs j)
 part_of_lists size c vs b below k many j h =
     let child = get_or below 0 [] in
@@ -220,15 +220,15 @@ part_of_lists size c vs b below k many j h =
     (λ null. nulls_taken size (size * j) child (omega (arith, next, inside.1))
     (λ n small. all_at (λ values. value_at values (size * j + n) ≡ null_value) below 0 [] (omega (arith, k.long)) (k.hidden j h null n small)))
 
-fixed_lists_kept : (size : ℕ) (c : Fields) (vs : List PlainValue) (b : List (List ℕ)) (below : List (List PlainValue)) → IsKept (forms.Lists (lists.Fixed size)) c vs b below
+fixed_lists_kept : (size : ℕ) (c : FieldTree) (vs : List PlainValue) (b : List (List ℕ)) (below : List (List PlainValue)) → IsKept (forms.Lists (lists.Fixed size)) c vs b below
     → get_or below 0 [] ≡ flat_map (items_in_value size) vs
 fixed_lists_kept size c vs b below k =
     let many : length (get_or below 0 []) ≡ size * length vs =
     sym (child_long below k.long) ∙ all_at (λ count. count ≡ size * length vs) (map length below) 0 0 (omega (arith, length-map below length, k.long)) k.layout in
     parts_joined size (items_in_value size) vs (get_or below 0 []) many (part_of_lists size c vs b below k many)
 
--- and the values below it are those that are sent there
-pub kept_below : (form : Form) (c : Fields) (vs : List PlainValue) (b : List (List ℕ)) (below : List (List PlainValue)) → IsKept form c vs b below → below ≡ raws_below form c vs
+-- and the values below it are those that are stored there
+pub kept_below : (form : Form) (c : FieldTree) (vs : List PlainValue) (b : List (List ℕ)) (below : List (List PlainValue)) → IsKept form c vs b below → below ≡ raws_below form c vs
 kept_below forms.Nulls c vs b below k = no_elements below k.long
 kept_below forms.Bits c vs b below k = no_elements below k.long
 kept_below (forms.Numbers number) c vs b below k = no_elements below k.long

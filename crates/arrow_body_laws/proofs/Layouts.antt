@@ -1,4 +1,4 @@
--- The buffers of what is stored hold the slots.
+-- The buffers of a stored body hold the slots.
 use Rattle.std.proofs.Common.{◌≡◌, ℕ, zero, suc, ◌+◌, ◌*◌, ◌<◌, ◌≤◌, Bool, true, false, cond, not, List, [], ◌∷◌, length, map, take, refl, ap, ◌∙◌, sym, subst, arith, inr, if◌then◌else◌}
 use Rattle.std.specs.Prelude.{pos, nat_eq, IsUtf8, count_by}
 use Rattle.std.specs.List.{AllByRecursion, flat_map, sum_by, range_with_len}
@@ -11,7 +11,7 @@ use Rattle.arrow_bits.specs.Bitmap.{bit_of, bits_of}
 use Rattle.arrow_bits.specs.Numbers.{int_bytes, number_at}
 use Rattle.arrow_bits.proofs.Listed.{length_bits}
 use Rattle.arrow_bits.proofs.Rising.{offsets_from_numbers}
-use Rattle.arrow_types.specs.Field.{Fields, width}
+use Rattle.arrow_types.specs.Field.{FieldTree, width}
 use Rattle.arrow_data.specs.Form.{greatest_offset, number_width, offset_bytes}
 use Rattle.arrow_data.specs.Layout.{HasBools, HasFixed, HasStrings, HoldsSlots, HoldsTexts, buffer, list_offsets}
 use Rattle.arrow_data.specs.PlainValue.{PlainValue, null_value, bool_value, int_value, binary_value, utf8_value, list_value, struct_value, value_at, is_null_value, field_value}
@@ -33,7 +33,7 @@ bits_by : (b : Bool) (vs : List PlainValue) → HasBits (length vs) (if b then [
 bits_by true vs = λ h. absurd (omega (arith, h))
 bits_by false vs = λ h. omega (arith, packed_few (map (λ v. not (is_null_value v)) vs), length-map vs (λ v. not (is_null_value v)))
 
--- the bitmap has a bit for each slot, or is not there
+-- the bitmap has a bit for each slot, or is absent
 pub has_bits : (vs : List PlainValue) → HasBits (length vs) (validity_bytes vs)
 has_bits vs = bits_by (nat_eq (nulls_in vs) 0) vs
 
@@ -44,11 +44,11 @@ ints_long w vs = pieces_long (int_bytes w) w (map number_in vs) (all_wide (int_b
 has_ints : (w : ℕ) (vs : List PlainValue) → HasFixed (length vs) w (validity_bytes vs) (number_buffer w vs)
 has_ints w vs = record { bits = has_bits vs; long = omega (arith, ints_long w vs) }
 
--- so many bytes for each slot
-pub fixed_long : (w : ℕ) (c : Fields) (vs : List PlainValue) → AllByRecursion (IsOwn (forms.FixedBytes w) c) vs → length (flat_map (fixed_in w) vs) ≡ w * length vs
+-- the bytes of the width for each slot
+pub fixed_long : (w : ℕ) (c : FieldTree) (vs : List PlainValue) → AllByRecursion (IsOwn (forms.FixedBytes w) c) vs → length (flat_map (fixed_in w) vs) ≡ w * length vs
 fixed_long w c vs own = pieces_long (fixed_in w) w vs (all_fixed w c vs own)
 
-has_fixed : (w : ℕ) (c : Fields) (vs : List PlainValue) → AllByRecursion (IsOwn (forms.FixedBytes w) c) vs → HasFixed (length vs) w (validity_bytes vs) (flat_map (fixed_in w) vs)
+has_fixed : (w : ℕ) (c : FieldTree) (vs : List PlainValue) → AllByRecursion (IsOwn (forms.FixedBytes w) c) vs → HasFixed (length vs) w (validity_bytes vs) (flat_map (fixed_in w) vs)
 has_fixed w c vs own = record { bits = has_bits vs; long = omega (arith, fixed_long w c vs own) }
 
 -- a bit for each slot
@@ -77,8 +77,8 @@ strings_long vs = omega (arith, length-flat_map bytes_in_value vs)
 items_long : (vs : List PlainValue) → sum_by (λ v. length (items_in_value 0 v)) vs ≤ length (flat_map (items_in_value 0) vs)
 items_long vs = omega (arith, length-flat_map (items_in_value 0) vs)
 
--- the items of lists, in a child that has just these
-has_items : (w : ListForm) (c : Fields) (vs : List PlainValue) → AllByRecursion (IsOwn (forms.Lists w) c) vs → last_item w vs ≤ item_limit w
+-- the items of lists, in a child that has exactly these
+has_items : (w : ListForm) (c : FieldTree) (vs : List PlainValue) → AllByRecursion (IsOwn (forms.Lists w) c) vs → last_item w vs ≤ item_limit w
     → HasItemPlaces w (length vs) (length (flat_map (items_in_value (nulls_under w)) vs)) (list_offsets w (validity_bytes vs ∷ list_chunks w vs))
 has_items (lists.Offsets w) c vs own near = has_offsets w (λ v. length (items_in_value 0 v)) vs (length (flat_map (items_in_value 0) vs)) near (items_long vs)
 has_items (lists.Fixed size) c vs own near = omega (arith, pieces_long (items_in_value size) size vs (all_items size c vs own))
@@ -92,7 +92,7 @@ columns_longer vs a zero = tt
 columns_longer vs a (suc n) = (omega (arith, length-map vs (field_value a)), columns_longer vs (a + 1) n)
 
 -- the buffers of a node hold its slots
-pub is_laid : (form : Form) (c : Fields) (vs : List PlainValue) → AllByRecursion (IsOwn form c) vs → IsSmall form vs
+pub is_laid : (form : Form) (c : FieldTree) (vs : List PlainValue) → AllByRecursion (IsOwn form c) vs → IsSmall form vs
     → HoldsSlots form (length vs) (own_chunks form vs) (map length (raws_below form c vs))
 is_laid forms.Nulls c vs own small = tt
 is_laid forms.Bits c vs own small = has_bools vs
@@ -143,7 +143,7 @@ nulls_are vs = nulls_by (nat_eq (nulls_in vs) 0) vs refl
 is_count : (vs : List PlainValue) → IsCount (own_node vs) (validity_bytes vs)
 is_count vs = inr (ap pos (sym (nulls_are vs)))
 
--- the node tells them
+-- the node's null count is their number
 pub is_counted : (form : Form) (vs : List PlainValue) → IsCountOf form (own_node vs) (buffer (own_chunks form vs) 0)
 is_counted forms.Nulls vs = tt
 is_counted forms.Bits vs = is_count vs
@@ -155,7 +155,7 @@ is_counted (forms.Lists w) vs = is_count vs
 is_counted forms.Structs vs = is_count vs
 
 -- a value of texts that is not null is a text
-textual : (w : OffsetWidth) (c : Fields) (v : PlainValue) → IsOwn (forms.Texts w) c v → not (is_null_value v) ≡ true → IsUtf8 (bytes_in_value v)
+textual : (w : OffsetWidth) (c : FieldTree) (v : PlainValue) → IsOwn (forms.Texts w) c v → not (is_null_value v) ≡ true → IsUtf8 (bytes_in_value v)
 textual w c null_value own h = cc
 textual w c (bool_value b) own h = cc
 textual w c (int_value b) own h = absurd own
@@ -164,13 +164,13 @@ textual w c (utf8_value b) own h = own
 textual w c (list_value b) own h = absurd own
 textual w c (struct_value b) own h = let other = own.0 in cc
 
-are_texts : (w : OffsetWidth) (c : Fields) (vs : List PlainValue) → AllByRecursion (IsOwn (forms.Texts w) c) vs → sum_by (λ v. length (bytes_in_value v)) vs ≤ greatest_offset w
+are_texts : (w : OffsetWidth) (c : FieldTree) (vs : List PlainValue) → AllByRecursion (IsOwn (forms.Texts w) c) vs → sum_by (λ v. length (bytes_in_value v)) vs ≤ greatest_offset w
     → AreTexts w (length vs) (validity_bytes vs) (offsets_bytes w (map (λ v. length (bytes_in_value v)) vs)) (flat_map bytes_in_value vs)
 are_texts w c vs own near = λ j h valid.
     subst IsUtf8 (sym (read_range w bytes_in_value vs j h near)) (textual w c (value_at vs j) (in_slot (IsOwn (forms.Texts w) c) vs j h own) (sym (read_valid vs j h) ∙ valid))
 
 -- its texts are UTF-8
-pub is_text : (form : Form) (c : Fields) (vs : List PlainValue) → AllByRecursion (IsOwn form c) vs → IsSmall form vs
+pub is_text : (form : Form) (c : FieldTree) (vs : List PlainValue) → AllByRecursion (IsOwn form c) vs → IsSmall form vs
     → HoldsTexts form (length vs) (own_chunks form vs)
 is_text forms.Nulls c vs own small = tt
 is_text forms.Bits c vs own small = tt

@@ -8,10 +8,10 @@ pub mod Readback
 pub mod Layouts
 pub mod Soundness
 pub mod Below
-pub mod Standing
+pub mod Resolved
 pub mod Indexed
 pub mod Whole
-pub mod Tidied
+pub mod MadeCanonical
 pub mod Raised
 pub mod Named
 pub mod Packings

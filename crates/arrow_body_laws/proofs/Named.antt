@@ -1,7 +1,7 @@
 -- Names and nullability are not stored.
 use Rattle.std.proofs.Common.{◌≡◌, List, [], ◌∷◌, ◌++◌, refl}
 use Rattle.std.specs.List.{flat_map}
-use Rattle.arrow_types.specs.Field.{Fields, none, more}
+use Rattle.arrow_types.specs.Field.{FieldTree, none, more}
 use Rattle.arrow_data.specs.Column.{AreOf, Column}
 use Rattle.arrow_data.specs.Form.{node_form}
 use Rattle.arrow_data.specs.PlainValue.{PlainValue}
@@ -10,7 +10,7 @@ use Rattle.arrow_body_laws.specs.Raws.{raws_below}
 use Rattle.arrow_body_laws.specs.Stored.{fields_of_columns, own_chunks, own_node, padded, places_from, stored_chunks, stored_nodes}
 
 -- the columns of the fields are stored as the fields are: their nodes
-same_nodes : (fields : Fields) (cs : List Column) (raws : List (List PlainValue)) → AreOf fields cs → stored_nodes (fields_of_columns cs) raws ≡ stored_nodes fields raws
+same_nodes : (fields : FieldTree) (cs : List Column) (raws : List (List PlainValue)) → AreOf fields cs → stored_nodes (fields_of_columns cs) raws ≡ stored_nodes fields raws
 same_nodes none [] raws are = refl
 same_nodes none (d ∷ cs) raws are = absurd are
 same_nodes (more h c rest) [] raws are = absurd are
@@ -19,7 +19,7 @@ same_nodes (more h c rest) (d ∷ cs) (vs ∷ raws) are = λ i.
     own_node vs ∷ (stored_nodes (are.0 i).children (raws_below (node_form (are.0 i).tag (are.1 i)) (are.0 i).children vs) ++ same_nodes rest cs raws are.2 i)
 
 -- and their buffers
-same_chunks : (fields : Fields) (cs : List Column) (raws : List (List PlainValue)) → AreOf fields cs → stored_chunks (fields_of_columns cs) raws ≡ stored_chunks fields raws
+same_chunks : (fields : FieldTree) (cs : List Column) (raws : List (List PlainValue)) → AreOf fields cs → stored_chunks (fields_of_columns cs) raws ≡ stored_chunks fields raws
 same_chunks none [] raws are = refl
 same_chunks none (d ∷ cs) raws are = absurd are
 same_chunks (more h c rest) [] raws are = absurd are

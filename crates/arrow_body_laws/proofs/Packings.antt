@@ -25,7 +25,7 @@ pub record HoldBits (bits : List Bool) (bytes : List ℕ) : Type 0 where
   pub same : (j : ℕ) → j < length bits → bit_of bytes j ≡ get_or bits j false
   pub spare : (j : ℕ) → length bits ≤ j → bit_of bytes j ≡ false
 
--- so they have the bits of the packed ones
+-- so their bits are those of the packed bytes
 same_bit : (b : Bool) (bits : List Bool) (bytes : List ℕ) (j : ℕ) → nat_lt j (length bits) ≡ b → HoldBits bits bytes → bit_of bytes j ≡ bit_of (packed bits) j
 same_bit true bits bytes j e hold = let h = ltb-true j (length bits) e in hold.same j h ∙ sym (packed_bit bits j h)
 same_bit false bits bytes j e hold = let h = ltb-false j (length bits) e in hold.spare j h ∙ sym (packed_spare bits j h)

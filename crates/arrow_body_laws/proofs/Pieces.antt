@@ -8,17 +8,17 @@ use Rattle.std.proofs.Math.Nat.{mul-suc}
 use Rattle.std.proofs.lemmas.Int.{ints}
 use Rattle.std.proofs.lemmas.List.Sums.{sum_by-cons, sum_by-take-le}
 use Rattle.arrow_bits.specs.Numbers.{number_of, number_at, signed_at, twos_complement, int_of, FitsInt, number_bytes, int_bytes}
-use Rattle.arrow_bits.proofs.Written.{int_behind}
+use Rattle.arrow_bits.proofs.Written.{int_after}
 use Rattle.arrow_data.specs.Form.{greatest_offset, offset_bytes}
 use Rattle.arrow_data.specs.declared.form.OffsetWidth.{OffsetWidth}
 use Rattle.arrow_data.specs.declared.form.OffsetWidth.TheVariants.{Small, Large}
 use Rattle.arrow_body_laws.specs.Packed.{ints_bytes, sums_from, offsets_bytes}
 
--- the pieces of these are of one width
+-- the pieces of these elements are of one width
 abbrev pub HaveWidth : {X A : Type 0} → (X → List A) → ℕ → List X → Type 0
 HaveWidth f w xs = AllByRecursion (λ x. length (f x) ≡ w) xs
 
--- where every piece is of the width, those of these are
+-- if every piece is of the width, those of these elements are
 pub all_wide : {X A : Type 0} (f : X → List A) (w : ℕ) → ((x : X) → length (f x) ≡ w) → (xs : List X) → HaveWidth f w xs
 all_wide f w long [] = tt
 all_wide f w long (x ∷ xs) = (long x, all_wide f w long xs)
@@ -37,7 +37,7 @@ piece f w (x ∷ xs) long (suc j) d h =
     ∙ ap (take w) (drop-append-add (f x) (flat_map f xs) (w * j))
     ∙ piece f w xs long.1 j d (omega (arith, h))
 
--- how long they are together
+-- their total length
 pub pieces_long : {X A : Type 0} (f : X → List A) (w : ℕ) (xs : List X) → HaveWidth f w xs → length (flat_map f xs) ≡ w * length xs
 pieces_long f w [] long = omega arith
 pieces_long f w (x ∷ xs) long =
@@ -54,7 +54,7 @@ cut g (x ∷ xs) (suc j) d h =
     ∙ ap (take (length (g (get_or xs j d)))) (drop-append-add (g x) (flat_map g xs) (sum_by (λ x. length (g x)) (take j xs)))
     ∙ cut g xs j d (omega (arith, h))
 
--- the bytes of a number are as many as its width
+-- the number of bytes of a number is its width
 pub length_number : (width n : ℕ) → length (number_bytes width n) ≡ width
 length_number zero n = refl
 length_number (suc width) n = ap suc (length_number width (n / 256))
@@ -74,7 +74,7 @@ pub number_piece : {X : Type 0} (f : X → List ℕ) (w : ℕ) (xs : List X) →
 unfolding number_at
 number_piece f w xs long j d h = ap number_of (piece f w xs long j d h)
 
--- the number of bytes that are no more
+-- the number in bytes that hold nothing else
 number_alone : (w : ℕ) (bytes : List ℕ) → length bytes ≡ w → number_at bytes 0 w ≡ number_of bytes
 unfolding number_at
 number_alone w bytes long = ap number_of (take_all w bytes (omega (arith, long)))
@@ -85,7 +85,7 @@ int_read width signed zs j one h fits =
     let z = get_or zs j (pos 0) in
     same_int (ints_bytes width zs) (int_bytes width z) (width * j) 0 width signed
     (number_piece (int_bytes width) width zs (all_wide (int_bytes width) width (length_int width) zs) j (pos 0) h ∙ sym (number_alone width (int_bytes width z) (length_int width z)))
-    ∙ int_behind [] width z one signed fits
+    ∙ int_after [] width z one signed fits
 
 -- numbers that are not negative are the same as integers and as naturals
 positive : (m n : ℕ) → pos m ≡ pos n → m ≡ n
@@ -96,7 +96,7 @@ pub length_sums : (n : ℕ) (ks : List ℕ) → length (sums_from n ks) ≡ leng
 length_sums n [] = refl
 length_sums n (k ∷ ks) = omega (arith, length_sums (n + k) ks)
 
--- offset j is what stands before
+-- offset j is the sum of the lengths before it
 pub sum_at : {X : Type 0} (f : X → ℕ) (n : ℕ) (xs : List X) (j : ℕ) → j ≤ length xs → get_or (sums_from n (map f xs)) j 0 ≡ n + sum_by f (take j xs)
 sum_at f n [] zero h = omega arith
 sum_at f n [] (suc j) h = absurd (omega (arith, h))
@@ -105,7 +105,7 @@ sum_at f n (x ∷ xs) (suc j) h =
     let rest : get_or (sums_from n (map f (x ∷ xs))) (suc j) 0 ≡ get_or (sums_from (n + f x) (map f xs)) j 0 = refl in
     omega (arith, rest, sum_by-cons f x (take j xs), sum_at f (n + f x) xs j (omega (arith, h)))
 
--- with one element more
+-- the sum with one more element
 pub sum_next : {X : Type 0} (f : X → ℕ) (xs : List X) (j : ℕ) (d : X) → j < length xs → sum_by f (take (j + 1) xs) ≡ sum_by f (take j xs) + f (get_or xs j d)
 sum_next f [] j d h = absurd (omega (arith, h))
 sum_next f (x ∷ xs) zero d h = omega (arith, sum_by-cons f x [])
@@ -113,13 +113,13 @@ sum_next f (x ∷ xs) (suc j) d h =
     let one : suc j + 1 ≡ suc (j + 1) = omega arith in
     omega (arith, ap (λ n. sum_by f (take n (x ∷ xs))) one, sum_by-cons f x (take j xs), sum_by-cons f x (take (j + 1) xs), sum_next f xs j d (omega (arith, h)))
 
--- the number of its own bytes
+-- the number read from its own bytes
 number_again : (width n : ℕ) → 1 ≤ width → n < 2 ^ (8 * width) → number_of (number_bytes width n) ≡ n
 number_again width n one h =
     sym (number_alone width (number_bytes width n) (length_number width n))
-    ∙ positive (number_at (number_bytes width n) 0 width) n (int_behind [] width (pos n) one false (omega (arith, ints), omega (arith, ints, h)))
+    ∙ positive (number_at (number_bytes width n) 0 width) n (int_after [] width (pos n) one false (omega (arith, ints), omega (arith, ints, h)))
 
--- an offset has one byte at least
+-- an offset has at least one byte
 pub some_offset : (w : OffsetWidth) → 1 ≤ offset_bytes w
 some_offset Small = omega arith
 some_offset Large = omega arith
@@ -140,7 +140,7 @@ offsets_long w f xs =
     pieces_long (number_bytes (offset_bytes w)) (offset_bytes w) sums (all_wide (number_bytes (offset_bytes w)) (offset_bytes w) (length_number (offset_bytes w)) sums)
     ∙ ap (λ n. offset_bytes w * n) (length_sums 0 (map f xs) ∙ ap (λ n. n + 1) (length-map xs f))
 
--- offset j is what stands before range j
+-- offset j is the sum of the lengths before range j
 pub place_read : {X : Type 0} (w : OffsetWidth) (f : X → ℕ) (xs : List X) (j : ℕ) → j ≤ length xs → sum_by f xs ≤ greatest_offset w
     → number_at (offsets_bytes w (map f xs)) (offset_bytes w * j) (offset_bytes w) ≡ sum_by f (take j xs)
 place_read w f xs j h near =

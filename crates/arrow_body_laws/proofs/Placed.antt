@@ -10,7 +10,7 @@ use Rattle.std.proofs.lemmas.Int.{ints}
 use Rattle.arrow_body_reader.specs.Held.{IsHeld, bytes_in}
 use Rattle.arrow_body_laws.specs.Stored.{rounded, padded, places_from}
 
--- rounding doesn't cut
+-- rounding does not truncate
 pub rounded-le : (align n : ℕ) → 0 < align → n ≤ rounded align n
 rounded-le align n some = (div_ceil_times n align some).0
 
@@ -19,7 +19,7 @@ padded_long align chunk some =
     let zeros = rounded align (length chunk) - length chunk in
     omega (arith, rounded-le align (length chunk) some, length-append chunk (replicate zeros 0), length-replicate {A = ℕ} zeros 0)
 
--- the body is as long as the rounded buffers together
+-- the length of the body is the sum of the rounded lengths of the buffers
 pub body_long : (align : ℕ) (chunks : List (List ℕ)) → 0 < align → length (flat_map (padded align) chunks) ≡ sum_by (rounded align) (map length chunks)
 body_long align [] some = refl
 body_long align (c ∷ cs) some =

@@ -1,9 +1,9 @@
--- The columns of what is stored have the raw values.
+-- The columns of a stored body have the raw values.
 use Rattle.std.proofs.Common.{◌≡◌, ℕ, ◌+◌, List, [], ◌∷◌, length, map, drop, refl, ap, ◌∙◌}
 use Rattle.std.specs.Prelude.{ℤ, Option, None, Some}
 use Rattle.std.specs.List.{AllByRecursion}
-use Rattle.arrow_types.specs.DataType.{Tag}
-use Rattle.arrow_types.specs.Field.{Fields, none, more}
+use Rattle.arrow_types.specs.DataType.{TypeId}
+use Rattle.arrow_types.specs.Field.{FieldTree, none, more}
 use Rattle.arrow_types.specs.declared.field.Encoding.{Encoding}
 use Rattle.arrow_types.specs.declared.node.FieldNode.{FieldNode}
 use Rattle.arrow_types.specs.declared.node.Buffer.{Buffer}
@@ -23,7 +23,7 @@ use Rattle.arrow_body_laws.proofs.Slotted.{read_nulls, read_bools, read_fixed, r
 use Rattle.arrow_body_laws.proofs.Walk.{AreStored, inner_raws, own_node_is, own_bytes_are, stored_inside, stored_next}
 
 -- the slots of a node of the form
-pub layout_read : (form : Form) (c : Fields) (vs : List PlainValue) → AllByRecursion (IsOwn form c) vs → IsSmall form vs
+pub layout_read : (form : Form) (c : FieldTree) (vs : List PlainValue) → AllByRecursion (IsOwn form c) vs → IsSmall form vs
     → slots (length vs) (value_slot form (own_chunks form vs) (raws_below form c vs)) ≡ vs
 layout_read forms.Nulls c vs own small = read_nulls c vs own
 layout_read forms.Bits c vs own small = read_bools c vs own
@@ -35,7 +35,7 @@ layout_read (forms.Lists w) c vs own small = read_lists w c vs own small.near
 layout_read forms.Structs c vs own small = read_structs c vs own
 
 -- the raw values of a node
-pub node_read : (tag : Tag) (e : Option Encoding) (c : Fields) (vs : List PlainValue) (len : ℕ) (b : List (List ℕ)) (cs : List Column) (values : List PlainValue)
+pub node_read : (tag : TypeId) (e : Option Encoding) (c : FieldTree) (vs : List PlainValue) (len : ℕ) (b : List (List ℕ)) (cs : List Column) (values : List PlainValue)
     → AllByRecursion (IsOwn (node_form tag e) c) vs → IsSmall (node_form tag e) vs → len ≡ length vs → b ≡ own_chunks (node_form tag e) vs
     → (e ≡ None → map (λ (d : Column). d.raw) cs ≡ raws_below (node_form tag e) c vs)
     → (node_column (record { tag = tag; children = c }) e len b cs values).raw ≡ vs
@@ -50,7 +50,7 @@ if_none None cs h = refl
 if_none (Some e) cs h = cc
 
 -- the raw values of all columns
-pub columns_read : (body : List ℕ) (ds : List (ℤ × ValueList)) (fields : Fields) (raws : List (List PlainValue)) (ns : List FieldNode) (bs : List Buffer)
+pub columns_read : (body : List ℕ) (ds : List (ℤ × ValueList)) (fields : FieldTree) (raws : List (List PlainValue)) (ns : List FieldNode) (bs : List Buffer)
     → AreStored body fields raws ns bs → map (λ (c : Column). c.raw) (columns_of body ds fields ns bs) ≡ raws
 columns_read body ds none [] ns bs s = refl
 columns_read body ds none (vs ∷ raws) ns bs s = absurd s.raw

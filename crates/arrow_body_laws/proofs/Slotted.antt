@@ -9,7 +9,7 @@ use Rattle.std.proofs.lemmas.List.FromFn.{get_or-map-range_with_len, length-map-
 use Rattle.std.proofs.lemmas.List.Sums.{sum_by-cons}
 use Rattle.arrow_bits.specs.Bitmap.{bit_of}
 use Rattle.arrow_bits.specs.Numbers.{FitsInt, int_of}
-use Rattle.arrow_types.specs.Field.{Fields, width}
+use Rattle.arrow_types.specs.Field.{FieldTree, width}
 use Rattle.arrow_data.specs.declared.form.NumberForm.TheVariants as numbers
 use Rattle.arrow_data.specs.declared.form.NumberForm.{NumberForm}
 use Rattle.arrow_types.specs.declared.data_type.BitWidth.TheVariants as widths
@@ -29,13 +29,13 @@ use Rattle.arrow_body_laws.specs.Stored.{list_chunks, nulls_in, number_buffer, v
 use Rattle.arrow_body_laws.proofs.Bits.{packed_bit, packed_few}
 use Rattle.arrow_body_laws.proofs.Pieces.{HaveWidth, cut, int_read, piece, place_read, sum_next}
 
--- the default is not asked for
+-- the default is not used
 pub any_default : {X : Type 0} (xs : List X) (i : ℕ) (d e : X) → i < length xs → get_or xs i d ≡ get_or xs i e
 any_default [] i d e h = absurd (omega (arith, h))
 any_default (x ∷ xs) zero d e h = refl
 any_default (x ∷ xs) (suc i) d e h = any_default xs i d e (omega (arith, h))
 
--- what holds of each value holds in each slot
+-- a property of each value is one of each slot
 pub in_slot : (P : PlainValue → Type 0) (vs : List PlainValue) (j : ℕ) → j < length vs → AllByRecursion P vs → P (value_at vs j)
 in_slot P [] j h all = absurd (omega (arith, h))
 in_slot P (v ∷ vs) zero h all = all.0
@@ -48,12 +48,12 @@ slots_same vs f same =
     (λ k d h. let here : k < length vs = omega (arith, h, length_slots (length vs) f) in
     get_or-map-range_with_len f 0 (length vs) k k d here (omega arith) ∙ same k here ∙ any_default vs k null_value d here)
 
--- what counts as none is not there
+-- a bit that counts as 0 is not set
 not_one : (b : Bool) → ◌≡◌ {A = ℕ} (cond b 1 0) 0 → b ≡ false
 not_one true h = absurd (omega (arith, h))
 not_one false h = refl
 
--- where no value is null, that of a slot is not
+-- if no value is null, that of a slot is not
 no_null : (vs : List PlainValue) (j : ℕ) → j < length vs → nulls_in vs ≡ 0 → is_null_value (value_at vs j) ≡ false
 no_null [] j h e = absurd (omega (arith, h))
 no_null (v ∷ vs) zero h e = not_one (is_null_value v) (omega (arith, sum_by-cons (λ v. cond (is_null_value v) 1 0) v vs, e))
@@ -77,7 +77,7 @@ valid_by false vs j h e =
     let some : 0 < length (packed bits) = omega (arith, packed_few bits, length-map vs (λ v. not (is_null_value v)), h) in
     ap (λ b. b || bit_of (packed bits) j) (not_zero (length (packed bits)) some) ∙ bitmap_bit vs j h
 
--- a slot is valid where its value is not null
+-- a slot is valid exactly if its value is not null
 pub read_valid : (vs : List PlainValue) (j : ℕ) → j < length vs → is_valid_at (validity_bytes vs) j ≡ not (is_null_value (value_at vs j))
 read_valid vs j h = valid_by (nat_eq (nulls_in vs) 0) vs j h refl
 
@@ -91,12 +91,12 @@ chosen (utf8_value b) payload same = same refl
 chosen (list_value b) payload same = same refl
 chosen (struct_value b) payload same = same refl
 
--- a slot is its value where what is read of a valid one is
+-- a slot is its value if the payload read from a valid slot is
 pub slot_same : (vs : List PlainValue) (j : ℕ) (payload : PlainValue) → j < length vs → (is_null_value (value_at vs j) ≡ false → payload ≡ value_at vs j) → or_null (validity_bytes vs) j payload ≡ value_at vs j
 slot_same vs j payload h same = ap (λ b. if b then payload else null_value) (read_valid vs j h) ∙ chosen (value_at vs j) payload same
 
 -- nulls
-null_of : (c : Fields) (v : PlainValue) → IsOwn forms.Nulls c v → null_value ≡ v
+null_of : (c : FieldTree) (v : PlainValue) → IsOwn forms.Nulls c v → null_value ≡ v
 null_of c null_value own = refl
 null_of c (bool_value b) own = cc
 null_of c (int_value z) own = absurd own
@@ -105,11 +105,11 @@ null_of c (utf8_value b) own = absurd own
 null_of c (list_value b) own = absurd own
 null_of c (struct_value b) own = let other = own.0 in cc
 
-pub read_nulls : (c : Fields) (vs : List PlainValue) → AllByRecursion (IsOwn forms.Nulls c) vs → slots (length vs) (λ j. null_value) ≡ vs
+pub read_nulls : (c : FieldTree) (vs : List PlainValue) → AllByRecursion (IsOwn forms.Nulls c) vs → slots (length vs) (λ j. null_value) ≡ vs
 read_nulls c vs own = slots_same vs (λ j. null_value) (λ j h. null_of c (value_at vs j) (in_slot (IsOwn forms.Nulls c) vs j h own))
 
 -- truth values
-truth_of : (c : Fields) (v : PlainValue) → IsOwn forms.Bits c v → is_null_value v ≡ false → bool_value (truth_in v) ≡ v
+truth_of : (c : FieldTree) (v : PlainValue) → IsOwn forms.Bits c v → is_null_value v ≡ false → bool_value (truth_in v) ≡ v
 truth_of c null_value own h = cc
 truth_of c (bool_value b) own h = refl
 truth_of c (int_value b) own h = absurd own
@@ -118,14 +118,14 @@ truth_of c (utf8_value b) own h = absurd own
 truth_of c (list_value b) own h = absurd own
 truth_of c (struct_value b) own h = let other = own.0 in cc
 
-pub read_bools : (c : Fields) (vs : List PlainValue) → AllByRecursion (IsOwn forms.Bits c) vs → slots (length vs) (bool_slot (validity_bytes vs) (packed (map truth_in vs))) ≡ vs
+pub read_bools : (c : FieldTree) (vs : List PlainValue) → AllByRecursion (IsOwn forms.Bits c) vs → slots (length vs) (bool_slot (validity_bytes vs) (packed (map truth_in vs))) ≡ vs
 read_bools c vs own =
     slots_same vs (bool_slot (validity_bytes vs) (packed (map truth_in vs)))
     (λ j h. slot_same vs j (bool_value (bit_of (packed (map truth_in vs)) j)) h
     (λ full. ap bool_value (packed_bit (map truth_in vs) j (omega (arith, h, length-map vs truth_in)) ∙ get_or-map truth_in vs j null_value false h)
     ∙ truth_of c (value_at vs j) (in_slot (IsOwn forms.Bits c) vs j h own) full))
 
--- a number has one byte at least
+-- a number has at least one byte
 pub some_bytes : (number : NumberForm) → 1 ≤ number_width number
 some_bytes (numbers.Int widths.Eight signed) = omega arith
 some_bytes (numbers.Int widths.Sixteen signed) = omega arith
@@ -134,7 +134,7 @@ some_bytes (numbers.Int widths.SixtyFour signed) = omega arith
 some_bytes numbers.Int128 = omega arith
 
 -- numbers
-pub number_of : (number : NumberForm) (c : Fields) (v : PlainValue) → IsOwn (forms.Numbers number) c v → is_null_value v ≡ false
+pub number_of : (number : NumberForm) (c : FieldTree) (v : PlainValue) → IsOwn (forms.Numbers number) c v → is_null_value v ≡ false
     → FitsInt (number_width number) (has_sign number) (number_in v) × (int_value (number_in v) ≡ v)
 number_of number c null_value own h = cc
 number_of number c (bool_value b) own h = cc
@@ -144,7 +144,7 @@ number_of number c (utf8_value b) own h = absurd own
 number_of number c (list_value b) own h = absurd own
 number_of number c (struct_value b) own h = let other = own.0 in cc
 
-pub read_ints : (number : NumberForm) (c : Fields) (vs : List PlainValue) → AllByRecursion (IsOwn (forms.Numbers number) c) vs
+pub read_ints : (number : NumberForm) (c : FieldTree) (vs : List PlainValue) → AllByRecursion (IsOwn (forms.Numbers number) c) vs
     → slots (length vs) (int_slot (number_width number) (has_sign number) (validity_bytes vs) (number_buffer (number_width number) vs)) ≡ vs
 read_ints number c vs own =
     let w = number_width number in
@@ -156,7 +156,7 @@ read_ints number c vs own =
     ap int_value (int_read w (has_sign number) (map number_in vs) j (some_bytes number) (omega (arith, h, length-map vs number_in)) fits ∙ at) ∙ known.1))
 
 -- bytes of a fixed width
-fixed_wide : (w : ℕ) (c : Fields) (v : PlainValue) → IsOwn (forms.FixedBytes w) c v → length (fixed_in w v) ≡ w
+fixed_wide : (w : ℕ) (c : FieldTree) (v : PlainValue) → IsOwn (forms.FixedBytes w) c v → length (fixed_in w v) ≡ w
 fixed_wide w c null_value own = length-replicate {A = ℕ} w 0
 fixed_wide w c (bool_value b) own = length-replicate {A = ℕ} w 0
 fixed_wide w c (int_value b) own = length-replicate {A = ℕ} w 0
@@ -165,11 +165,11 @@ fixed_wide w c (utf8_value b) own = length-replicate {A = ℕ} w 0
 fixed_wide w c (list_value b) own = length-replicate {A = ℕ} w 0
 fixed_wide w c (struct_value b) own = length-replicate {A = ℕ} w 0
 
-pub all_fixed : (w : ℕ) (c : Fields) (vs : List PlainValue) → AllByRecursion (IsOwn (forms.FixedBytes w) c) vs → HaveWidth (fixed_in w) w vs
+pub all_fixed : (w : ℕ) (c : FieldTree) (vs : List PlainValue) → AllByRecursion (IsOwn (forms.FixedBytes w) c) vs → HaveWidth (fixed_in w) w vs
 all_fixed w c [] own = tt
 all_fixed w c (v ∷ vs) own = (fixed_wide w c v own.0, all_fixed w c vs own.1)
 
-fixed_of : (w : ℕ) (c : Fields) (v : PlainValue) → IsOwn (forms.FixedBytes w) c v → is_null_value v ≡ false → binary_value (fixed_in w v) ≡ v
+fixed_of : (w : ℕ) (c : FieldTree) (v : PlainValue) → IsOwn (forms.FixedBytes w) c v → is_null_value v ≡ false → binary_value (fixed_in w v) ≡ v
 fixed_of w c null_value own h = cc
 fixed_of w c (bool_value b) own h = cc
 fixed_of w c (int_value b) own h = absurd own
@@ -178,7 +178,7 @@ fixed_of w c (utf8_value b) own h = absurd own
 fixed_of w c (list_value b) own h = absurd own
 fixed_of w c (struct_value b) own h = let other = own.0 in cc
 
-pub read_fixed : (w : ℕ) (c : Fields) (vs : List PlainValue) → AllByRecursion (IsOwn (forms.FixedBytes w) c) vs
+pub read_fixed : (w : ℕ) (c : FieldTree) (vs : List PlainValue) → AllByRecursion (IsOwn (forms.FixedBytes w) c) vs
     → slots (length vs) (fixed_slot w (validity_bytes vs) (flat_map (fixed_in w) vs)) ≡ vs
 read_fixed w c vs own =
     let bytes = flat_map (fixed_in w) vs in
@@ -202,7 +202,7 @@ read_range w g vs j h near =
     ∙ cut g vs j null_value h
 
 -- byte strings
-string_of : (w : OffsetWidth) (c : Fields) (v : PlainValue) → IsOwn (forms.Bytes w) c v → is_null_value v ≡ false → binary_value (bytes_in_value v) ≡ v
+string_of : (w : OffsetWidth) (c : FieldTree) (v : PlainValue) → IsOwn (forms.Bytes w) c v → is_null_value v ≡ false → binary_value (bytes_in_value v) ≡ v
 string_of w c null_value own h = cc
 string_of w c (bool_value b) own h = cc
 string_of w c (int_value b) own h = absurd own
@@ -211,7 +211,7 @@ string_of w c (utf8_value b) own h = absurd own
 string_of w c (list_value b) own h = absurd own
 string_of w c (struct_value b) own h = let other = own.0 in cc
 
-pub read_strings : (w : OffsetWidth) (c : Fields) (vs : List PlainValue) → AllByRecursion (IsOwn (forms.Bytes w) c) vs → sum_by (λ v. length (bytes_in_value v)) vs ≤ greatest_offset w
+pub read_strings : (w : OffsetWidth) (c : FieldTree) (vs : List PlainValue) → AllByRecursion (IsOwn (forms.Bytes w) c) vs → sum_by (λ v. length (bytes_in_value v)) vs ≤ greatest_offset w
     → slots (length vs) (binary_slot w (validity_bytes vs) (offsets_bytes w (map (λ v. length (bytes_in_value v)) vs)) (flat_map bytes_in_value vs)) ≡ vs
 read_strings w c vs own near =
     let o = offsets_bytes w (map (λ v. length (bytes_in_value v)) vs) in
@@ -220,7 +220,7 @@ read_strings w c vs own near =
     (λ full. ap binary_value (read_range w bytes_in_value vs j h near) ∙ string_of w c (value_at vs j) (in_slot (IsOwn (forms.Bytes w) c) vs j h own) full))
 
 -- texts
-text_of : (w : OffsetWidth) (c : Fields) (v : PlainValue) → IsOwn (forms.Texts w) c v → is_null_value v ≡ false → utf8_value (bytes_in_value v) ≡ v
+text_of : (w : OffsetWidth) (c : FieldTree) (v : PlainValue) → IsOwn (forms.Texts w) c v → is_null_value v ≡ false → utf8_value (bytes_in_value v) ≡ v
 text_of w c null_value own h = cc
 text_of w c (bool_value b) own h = cc
 text_of w c (int_value b) own h = absurd own
@@ -229,7 +229,7 @@ text_of w c (utf8_value b) own h = refl
 text_of w c (list_value b) own h = absurd own
 text_of w c (struct_value b) own h = let other = own.0 in cc
 
-pub read_texts : (w : OffsetWidth) (c : Fields) (vs : List PlainValue) → AllByRecursion (IsOwn (forms.Texts w) c) vs → sum_by (λ v. length (bytes_in_value v)) vs ≤ greatest_offset w
+pub read_texts : (w : OffsetWidth) (c : FieldTree) (vs : List PlainValue) → AllByRecursion (IsOwn (forms.Texts w) c) vs → sum_by (λ v. length (bytes_in_value v)) vs ≤ greatest_offset w
     → slots (length vs) (utf8_slot w (validity_bytes vs) (offsets_bytes w (map (λ v. length (bytes_in_value v)) vs)) (flat_map bytes_in_value vs)) ≡ vs
 read_texts w c vs own near =
     let o = offsets_bytes w (map (λ v. length (bytes_in_value v)) vs) in
@@ -238,7 +238,7 @@ read_texts w c vs own near =
     (λ full. ap utf8_value (read_range w bytes_in_value vs j h near) ∙ text_of w c (value_at vs j) (in_slot (IsOwn (forms.Texts w) c) vs j h own) full))
 
 -- lists
-list_of : (n : ℕ) (w : ListForm) (c : Fields) (v : PlainValue) → IsOwn (forms.Lists w) c v → is_null_value v ≡ false → list_value (values_of (items_in_value n v)) ≡ v
+list_of : (n : ℕ) (w : ListForm) (c : FieldTree) (v : PlainValue) → IsOwn (forms.Lists w) c v → is_null_value v ≡ false → list_value (values_of (items_in_value n v)) ≡ v
 list_of n w c null_value own h = cc
 list_of n w c (bool_value b) own h = cc
 list_of n w c (int_value b) own h = absurd own
@@ -248,7 +248,7 @@ list_of n w c (list_value b) own h = ap list_value (values_again b)
 list_of n w c (struct_value b) own h = let other = own.0 in cc
 
 -- the items of a value of fixed-size lists, nulls in place of them under a null
-item_wide : (size : ℕ) (c : Fields) (v : PlainValue) → IsOwn (forms.Lists (lists.Fixed size)) c v → length (items_in_value size v) ≡ size
+item_wide : (size : ℕ) (c : FieldTree) (v : PlainValue) → IsOwn (forms.Lists (lists.Fixed size)) c v → length (items_in_value size v) ≡ size
 item_wide size c null_value own = length-replicate size null_value
 item_wide size c (bool_value b) own = length-replicate size null_value
 item_wide size c (int_value b) own = length-replicate size null_value
@@ -257,11 +257,11 @@ item_wide size c (utf8_value b) own = length-replicate size null_value
 item_wide size c (list_value b) own = own
 item_wide size c (struct_value b) own = length-replicate size null_value
 
-pub all_items : (size : ℕ) (c : Fields) (vs : List PlainValue) → AllByRecursion (IsOwn (forms.Lists (lists.Fixed size)) c) vs → HaveWidth (items_in_value size) size vs
+pub all_items : (size : ℕ) (c : FieldTree) (vs : List PlainValue) → AllByRecursion (IsOwn (forms.Lists (lists.Fixed size)) c) vs → HaveWidth (items_in_value size) size vs
 all_items size c [] own = tt
 all_items size c (v ∷ vs) own = (item_wide size c v own.0, all_items size c vs own.1)
 
-pub read_lists : (w : ListForm) (c : Fields) (vs : List PlainValue) → AllByRecursion (IsOwn (forms.Lists w) c) vs → last_item w vs ≤ item_limit w
+pub read_lists : (w : ListForm) (c : FieldTree) (vs : List PlainValue) → AllByRecursion (IsOwn (forms.Lists w) c) vs → last_item w vs ≤ item_limit w
     → slots (length vs) (list_slot w (validity_bytes vs) (list_offsets w (validity_bytes vs ∷ list_chunks w vs)) (flat_map (items_in_value (nulls_under w)) vs)) ≡ vs
 read_lists (lists.Offsets w) c vs own near =
     let o = offsets_bytes w (map (λ v. length (items_in_value 0 v)) vs) in
@@ -295,7 +295,7 @@ parts_again n b own =
     get_or-map-range_with_len (λ k. nth_value k b) 0 n k k d here (omega arith) ∙ nth_same b k ∙ any_default (list_of_values b) k null_value d (omega (arith, here, own))) in
     ap (λ vs. struct_value (values_of vs)) same ∙ ap struct_value (values_again b)
 
-struct_of : (c : Fields) (v : PlainValue) → IsOwn forms.Structs c v → is_null_value v ≡ false → struct_value (values_of (map (λ k. field_value k v) (range_with_len 0 (width c)))) ≡ v
+struct_of : (c : FieldTree) (v : PlainValue) → IsOwn forms.Structs c v → is_null_value v ≡ false → struct_value (values_of (map (λ k. field_value k v) (range_with_len 0 (width c)))) ≡ v
 struct_of c null_value own h = cc
 struct_of c (bool_value b) own h = cc
 struct_of c (int_value b) own h = absurd own
@@ -309,7 +309,7 @@ row_same : (vs : List PlainValue) (j a n : ℕ) → j < length vs
 row_same vs j a zero h = refl
 row_same vs j a (suc n) h = λ i. get_or-map (field_value a) vs j null_value null_value h i ∷ row_same vs j (a + 1) n h i
 
-pub read_structs : (c : Fields) (vs : List PlainValue) → AllByRecursion (IsOwn forms.Structs c) vs
+pub read_structs : (c : FieldTree) (vs : List PlainValue) → AllByRecursion (IsOwn forms.Structs c) vs
     → slots (length vs) (struct_slot (validity_bytes vs) (raws_below forms.Structs c vs)) ≡ vs
 read_structs c vs own =
     slots_same vs (struct_slot (validity_bytes vs) (raws_below forms.Structs c vs))

@@ -1,4 +1,4 @@
--- What is stored is laid as it should be.
+-- A stored body is well-formed.
 use Rattle.std.proofs.Common.{◌≡◌, ℕ, suc, ◌+◌, ◌<◌, Bool, true, false, not, List, [], ◌∷◌, ◌++◌, length, map, drop, refl, ap, ◌∙◌, sym, subst, arith}
 use Rattle.std.specs.Prelude.{pos, Option, None, Some, ◌≤ℤ◌, nat_eq, if◌then◌else◌}
 use Rattle.std.specs.List.{AllByRecursion}
@@ -6,8 +6,8 @@ use Rattle.std.specs.Int.{div_ceil}
 use Rattle.std.proofs.lemmas.Int.{ints}
 use Rattle.std.proofs.lemmas.List.{length-map, append-nil}
 use Rattle.std.proofs.lemmas.List.Concat.{length-flat_map}
-use Rattle.arrow_types.specs.DataType.{Tag}
-use Rattle.arrow_types.specs.Field.{Fields, Head, none, more}
+use Rattle.arrow_types.specs.DataType.{TypeId}
+use Rattle.arrow_types.specs.Field.{FieldTree, FieldHeader, none, more}
 use Rattle.arrow_types.specs.declared.field.Encoding.{Encoding}
 use Rattle.arrow_types.specs.declared.node.FieldNode.{FieldNode}
 use Rattle.arrow_types.specs.declared.node.Buffer.{Buffer}
@@ -30,10 +30,10 @@ use Rattle.arrow_body_laws.proofs.Pieces.{offsets_long}
 use Rattle.arrow_body_laws.proofs.Placed.{places_held, places_read}
 use Rattle.arrow_body_laws.proofs.Walk.{AreStored, all_take, head_form, if_made, inner_raws, own_bytes_are, own_node_is, stored_inside, stored_next}
 
--- what holds of each field's own node by its raw values holds of all
-pub all_nodes : (P : Head → Fields → List FieldNode → List Buffer → Type 0) (body : List ℕ)
-    → ((h : Head) (c rest : Fields) (vs : List PlainValue) (raws : List (List PlainValue)) (ns : List FieldNode) (bs : List Buffer) → AreStored body (more h c rest) (vs ∷ raws) ns bs → P h c ns bs)
-    → (fields : Fields) (raws : List (List PlainValue)) (ns : List FieldNode) (bs : List Buffer) → AreStored body fields raws ns bs → AllNodes P fields ns bs
+-- a property that each field's own node has by its raw values is one of all nodes
+pub all_nodes : (P : FieldHeader → FieldTree → List FieldNode → List Buffer → Type 0) (body : List ℕ)
+    → ((h : FieldHeader) (c rest : FieldTree) (vs : List PlainValue) (raws : List (List PlainValue)) (ns : List FieldNode) (bs : List Buffer) → AreStored body (more h c rest) (vs ∷ raws) ns bs → P h c ns bs)
+    → (fields : FieldTree) (raws : List (List PlainValue)) (ns : List FieldNode) (bs : List Buffer) → AreStored body fields raws ns bs → AllNodes P fields ns bs
 all_nodes P body each none raws ns bs s = tt
 all_nodes P body each (more h c rest) [] ns bs s = absurd s.raw
 all_nodes P body each (more h c rest) (vs ∷ raws) ns bs s = (
@@ -44,11 +44,11 @@ all_nodes P body each (more h c rest) (vs ∷ raws) ns bs s = (
 )
 
 -- a node has as many slots as values
-pub slots_are : (body : List ℕ) (h : Head) (c rest : Fields) (vs : List PlainValue) (raws : List (List PlainValue)) (ns : List FieldNode) (bs : List Buffer) → AreStored body (more h c rest) (vs ∷ raws) ns bs → slots_at ns ≡ length vs
+pub slots_are : (body : List ℕ) (h : FieldHeader) (c rest : FieldTree) (vs : List PlainValue) (raws : List (List PlainValue)) (ns : List FieldNode) (bs : List Buffer) → AreStored body (more h c rest) (vs ∷ raws) ns bs → slots_at ns ≡ length vs
 slots_are body h c rest vs raws ns bs s = ap (λ (n : FieldNode). slots_at (n ∷ [])) (own_node_is body h c rest vs raws ns bs s)
 
--- the lengths of nodes side by side
-pub lengths_are : (body : List ℕ) (fields : Fields) (raws : List (List PlainValue)) (ns : List FieldNode) (bs : List Buffer) → AreStored body fields raws ns bs → lengths_of fields ns ≡ map length raws
+-- the lengths of the nodes of all fields
+pub lengths_are : (body : List ℕ) (fields : FieldTree) (raws : List (List PlainValue)) (ns : List FieldNode) (bs : List Buffer) → AreStored body fields raws ns bs → lengths_of fields ns ≡ map length raws
 lengths_are body none [] ns bs s = refl
 lengths_are body none (vs ∷ raws) ns bs s = absurd s.raw
 lengths_are body (more h c rest) [] ns bs s = absurd s.raw
@@ -56,20 +56,20 @@ lengths_are body (more h c rest) (vs ∷ raws) ns bs s = λ i.
     slots_are body h c rest vs raws ns bs s i
     ∷ lengths_are body rest raws (drop (1 + flattened h.encoding (taken_nodes c)) ns) (drop (own_buffers h + flattened h.encoding (taken_buffers c)) bs) (stored_next body h c rest vs raws ns bs s) i
 
-below_by : (tag : Tag) (e : Option Encoding) (c : Fields) (vs : List PlainValue) (ns : List FieldNode) → (e ≡ None → lengths_of c ns ≡ map length (raws_below (node_form tag e) c vs))
+below_by : (tag : TypeId) (e : Option Encoding) (c : FieldTree) (vs : List PlainValue) (ns : List FieldNode) → (e ≡ None → lengths_of c ns ≡ map length (raws_below (node_form tag e) c vs))
     → lengths_of (below e c) ns ≡ map length (raws_below (node_form tag e) c vs)
 below_by tag None c vs ns same = same refl
 below_by tag (Some e) c vs ns same = refl
 
 -- and of those below a field
-pub lengths_below : (body : List ℕ) (h : Head) (c rest : Fields) (vs : List PlainValue) (raws : List (List PlainValue)) (ns : List FieldNode) (bs : List Buffer) → AreStored body (more h c rest) (vs ∷ raws) ns bs
+pub lengths_below : (body : List ℕ) (h : FieldHeader) (c rest : FieldTree) (vs : List PlainValue) (raws : List (List PlainValue)) (ns : List FieldNode) (bs : List Buffer) → AreStored body (more h c rest) (vs ∷ raws) ns bs
     → lengths_of (below h.encoding c) (drop 1 ns) ≡ map length (inner_raws h c vs)
 lengths_below body h c rest vs raws ns bs s =
     below_by h.tag h.encoding c vs (drop 1 ns)
     (λ e. lengths_are body c (inner_raws h c vs) (drop 1 ns) (drop (own_buffers h) bs) (stored_inside body h c rest vs raws ns bs s e))
 
--- a field's own node and buffers are laid
-pub node_laid : (body : List ℕ) (h : Head) (c rest : Fields) (vs : List PlainValue) (raws : List (List PlainValue)) (ns : List FieldNode) (bs : List Buffer) → AreStored body (more h c rest) (vs ∷ raws) ns bs → IsNodeLaid body h c ns bs
+-- a field's own node and buffers are well-formed
+pub node_laid : (body : List ℕ) (h : FieldHeader) (c rest : FieldTree) (vs : List PlainValue) (raws : List (List PlainValue)) (ns : List FieldNode) (bs : List Buffer) → AreStored body (more h c rest) (vs ∷ raws) ns bs → IsNodeLaid body h c ns bs
 node_laid body h c rest vs raws ns bs s =
     let node = own_node_is body h c rest vs raws ns bs s in
     let long = slots_are body h c rest vs raws ns bs s in
@@ -87,25 +87,25 @@ node_laid body h c rest vs raws ns bs s =
     }
 
 -- and its texts are UTF-8
-pub node_text : (body : List ℕ) (h : Head) (c rest : Fields) (vs : List PlainValue) (raws : List (List PlainValue)) (ns : List FieldNode) (bs : List Buffer) → AreStored body (more h c rest) (vs ∷ raws) ns bs → IsNodeText body h c ns bs
+pub node_text : (body : List ℕ) (h : FieldHeader) (c rest : FieldTree) (vs : List PlainValue) (raws : List (List PlainValue)) (ns : List FieldNode) (bs : List Buffer) → AreStored body (more h c rest) (vs ∷ raws) ns bs → IsNodeText body h c ns bs
 node_text body h c rest vs raws ns bs s =
     subst (λ n. IsText h.tag h.encoding n (own_bytes body h bs)) (sym (slots_are body h c rest vs raws ns bs s))
     (subst (λ b. IsText h.tag h.encoding (length vs) b) (sym (own_bytes_are body h c rest vs raws ns bs s)) (is_text (head_form h) c vs s.raw.0 s.small.0))
 
--- what is stored, from its beginning
-pub are_stored : (align : ℕ) (fields : Fields) (raws : List (List PlainValue)) → 0 < align → AreRaws fields raws → AreSmall fields raws
+-- a stored body, from its beginning
+pub are_stored : (align : ℕ) (fields : FieldTree) (raws : List (List PlainValue)) → 0 < align → AreRaws fields raws → AreSmall fields raws
     → AreStored (stored align fields raws).bytes fields raws (stored align fields raws).nodes (stored align fields raws).buffers
 are_stored align fields raws some raw small = record {
   raw = raw;
   small = small;
   others = [];
-  behind = [];
+  past = [];
   nodes = sym (append-nil (stored_nodes fields raws));
   chunks = places_read align [] (stored align fields raws).bytes 0 (stored_chunks fields raws) some refl refl ∙ sym (append-nil (stored_chunks fields raws));
   held = places_held align [] (stored align fields raws).bytes 0 (stored_chunks fields raws) some refl refl;
 }
 
--- each buffer has its place
+-- each buffer has its offset
 pub places_long : (align from : ℕ) (chunks : List (List ℕ)) → length (places_from align from chunks) ≡ length chunks
 places_long align from [] = refl
 places_long align from (c ∷ cs) = ap suc (places_long align (from + rounded align (length c)) cs)
@@ -119,7 +119,7 @@ validity_long : (vs : List PlainValue) → length (validity_bytes vs) ≡ validi
 validity_long vs = validity_by (nat_eq (nulls_in vs) 0) vs
 
 -- the bytes of a node's buffers
-own_sized : (form : Form) (c : Fields) (vs : List PlainValue) → AllByRecursion (IsOwn form c) vs → map length (own_chunks form vs) ≡ own_sizes form vs
+own_sized : (form : Form) (c : FieldTree) (vs : List PlainValue) → AllByRecursion (IsOwn form c) vs → map length (own_chunks form vs) ≡ own_sizes form vs
 own_sized forms.Nulls c vs own = refl
 own_sized forms.Bits c vs own = λ i. validity_long vs i ∷ (packed_few (map truth_in vs) ∙ ap (λ n. div_ceil n 8) (length-map vs truth_in)) i ∷ []
 own_sized (forms.Numbers number) c vs own = λ i. validity_long vs i ∷ ints_long (number_width number) vs i ∷ []
@@ -135,18 +135,18 @@ map_append f [] ys = refl
 map_append f (x ∷ xs) ys = ap (λ zs. f x ∷ zs) (map_append f xs ys)
 
 -- without raw values there are none
-none_sized : (c : Fields) → map length (stored_chunks c []) ≡ sizes_of c []
+none_sized : (c : FieldTree) → map length (stored_chunks c []) ≡ sizes_of c []
 none_sized none = refl
 none_sized (more h c rest) = refl
 
-sized_inside : (tag : Tag) (e : Option Encoding) (c : Fields) (vs : List PlainValue) → IfFlattened e (AreRaws c (raws_below (node_form tag e) c vs))
+sized_inside : (tag : TypeId) (e : Option Encoding) (c : FieldTree) (vs : List PlainValue) → IfFlattened e (AreRaws c (raws_below (node_form tag e) c vs))
     → (AreRaws c (raws_below (node_form tag e) c vs) → map length (stored_chunks c (raws_below (node_form tag e) c vs)) ≡ sizes_of c (raws_below (node_form tag e) c vs))
     → map length (stored_chunks c (raws_below (node_form tag e) c vs)) ≡ sizes_of c (raws_below (node_form tag e) c vs)
 sized_inside tag None c vs raws same = same raws
 sized_inside tag (Some e) c vs raws same = none_sized c
 
 -- the bytes of all buffers
-pub chunks_sized : (fields : Fields) (raws : List (List PlainValue)) → AreRaws fields raws → map length (stored_chunks fields raws) ≡ sizes_of fields raws
+pub chunks_sized : (fields : FieldTree) (raws : List (List PlainValue)) → AreRaws fields raws → map length (stored_chunks fields raws) ≡ sizes_of fields raws
 chunks_sized none raws are = refl
 chunks_sized (more h c rest) [] are = refl
 chunks_sized (more h c rest) (vs ∷ raws) are =

@@ -1,4 +1,4 @@
--- What is stored is a body of its raw values.
+-- A stored body is a body of its raw values.
 use Rattle.std.proofs.Common.{ap, ◌∙◌}
 use Rattle.std.specs.List.{sum_by}
 use Rattle.arrow_body_reader.specs.Sound.{IsNodeLaid, IsNodeText}
@@ -10,7 +10,7 @@ use Rattle.arrow_body_laws.proofs.Readback.{columns_read}
 use Rattle.arrow_body_laws.proofs.Soundness.{all_nodes, are_stored, chunks_sized, node_laid, node_text, places_long}
 use Rattle.arrow_body_laws.proofs.Walk.{chunks_long, nodes_long}
 
--- what is stored is a body of its raw values
+-- a stored body is a body of its raw values
 pub is_read : StoredIsRead
 is_read = λ align fields raws some raw small.
     let s = are_stored align fields raws some raw small in

@@ -1,16 +1,16 @@
 -- When dictionaries have the entries of indices (Columnar Format, "Dictionary-encoded Layout").
 use Rattle.std.specs.Prelude.{◌≡◌, ℤ, List, [], ◌∷◌, map, ⊤, Option, Some}
-use Rattle.arrow_types.specs.Field.{Fields, none, more}
+use Rattle.arrow_types.specs.Field.{FieldTree, none, more}
 use Rattle.arrow_data.specs.PlainValue.{PlainValue}
 use Rattle.arrow_data.specs.Resolve.{resolve}
 
--- each of the values stands for something
-abbrev pub StandFor : (PlainValue → Option PlainValue) → List PlainValue → Type 0
-StandFor f raw = (resolved : List PlainValue) × (map f raw ≡ map Some resolved)
+-- each of the values resolves
+abbrev pub ResolveTo : (PlainValue → Option PlainValue) → List PlainValue → Type 0
+ResolveTo f raw = (resolved : List PlainValue) × (map f raw ≡ map Some resolved)
 
 -- each valid index of these columns has its entry in the dictionaries, on every level
-abbrev pub HaveEntries : (ℤ → List PlainValue) → Fields → List (List PlainValue) → Type 0
+abbrev pub HaveEntries : (ℤ → List PlainValue) → FieldTree → List (List PlainValue) → Type 0
 HaveEntries dictionaries none raws = ⊤
 HaveEntries dictionaries (more head children rest) [] = ⊤
 HaveEntries dictionaries (more head children rest) (raw ∷ raws) =
-    StandFor (resolve head.encoding children dictionaries) raw × HaveEntries dictionaries rest raws
+    ResolveTo (resolve head.encoding children dictionaries) raw × HaveEntries dictionaries rest raws

@@ -4,5 +4,5 @@ pub mod Stored
 pub mod Size
 pub mod Entries
 pub mod Formed
-pub mod Tidy
+pub mod Canonical
 pub mod Laws

@@ -1,7 +1,7 @@
--- Raw values of columns, and what they hold.
+-- Raw values of columns, and their content.
 use Rattle.std.specs.Prelude.{◌≡◌, ◌≤◌, ℕ, ℤ, pos, Bool, false, List, [], ◌∷◌, length, map, replicate, ⊤}
 use Rattle.std.specs.List.{AllByRecursion, flat_map, range_with_len, sum_by}
-use Rattle.arrow_types.specs.Field.{Fields, none, more, width}
+use Rattle.arrow_types.specs.Field.{FieldTree, none, more, width}
 use Rattle.arrow_data.specs.Fits.{HoldsBinary, HoldsInt, HoldsUtf8}
 use Rattle.arrow_data.specs.Form.{HoldsList, greatest_offset, node_form}
 use Rattle.arrow_data.specs.PlainValue.{PlainValue, null_value, bool_value, int_value, binary_value, utf8_value, list_value, struct_value, field_value, list_of_values}
@@ -51,7 +51,7 @@ fixed_in width (utf8_value bytes) = replicate width 0
 fixed_in width (list_value items) = replicate width 0
 fixed_in width (struct_value parts) = replicate width 0
 
--- its items, so many nulls under a null
+-- its items, that many nulls under a null
 abbrev pub items_in_value : ℕ → PlainValue → List PlainValue
 items_in_value n (list_value items) = list_of_values items
 items_in_value n null_value = replicate n null_value
@@ -61,15 +61,16 @@ items_in_value n (binary_value bytes) = replicate n null_value
 items_in_value n (utf8_value bytes) = replicate n null_value
 items_in_value n (struct_value parts) = replicate n null_value
 
--- how many nulls the child is sent under a null list: none, or as many as each list has items (Columnar Format, "Fixed-Size
--- List Layout")
+-- how many nulls the child gets under a null list: none, or as many as each list has items (Columnar Format,
+-- "Fixed-Size List Layout")
 abbrev pub nulls_under : ListForm → ℕ
 nulls_under (lists.Offsets width) = 0
 nulls_under (lists.Fixed size) = size
 
--- The raw values that the columns below a node of the form are sent: of lists the items of one slot after those of the one
--- before; of structs value k of each slot, null under a null. (Columnar Format, "Variable-size List Layout", "Struct Layout")
-abbrev pub raws_below : Form → Fields → List PlainValue → List (List PlainValue)
+-- The raw values of the columns below a node of the form. For lists these are the items of each slot after those of
+-- the one before; for structs value k of each slot, null under a null. (Columnar Format, "Variable-size List Layout",
+-- "Struct Layout")
+abbrev pub raws_below : Form → FieldTree → List PlainValue → List (List PlainValue)
 raws_below forms.Nulls children vs = []
 raws_below forms.Bits children vs = []
 raws_below (forms.Numbers number) children vs = []
@@ -79,9 +80,9 @@ raws_below (forms.FixedBytes w) children vs = []
 raws_below (forms.Lists list) children vs = flat_map (items_in_value (nulls_under list)) vs ∷ []
 raws_below forms.Structs children vs = map (λ k. map (field_value k) vs) (range_with_len 0 (width children))
 
--- A slot of a node of the form, with these fields below it, may hold the value: null in every one. Of a list its length is
--- looked at, and nothing else of the values below a list or a struct.
-abbrev pub IsOwn : Form → Fields → PlainValue → Type 0
+-- A slot of a node of the form, with these fields below it, may hold the value; every slot may hold null. For a list
+-- its length is checked, and nothing else of the values below a list or a struct.
+abbrev pub IsOwn : Form → FieldTree → PlainValue → Type 0
 IsOwn form children null_value = ⊤
 IsOwn form children (bool_value b) = form ≡ forms.Bits
 IsOwn form children (int_value z) = HoldsInt form z
@@ -91,7 +92,7 @@ IsOwn form children (list_value items) = HoldsList form (length (list_of_values 
 IsOwn form children (struct_value parts) = (form ≡ forms.Structs) × (length (list_of_values parts) ≡ width children)
 
 -- there are raw values for each of the fields, on every level, and each is one that its node may hold
-abbrev pub AreRaws : Fields → List (List PlainValue) → Type 0
+abbrev pub AreRaws : FieldTree → List (List PlainValue) → Type 0
 AreRaws none [] = ⊤
 AreRaws none (vs ∷ raws) = ⊥
 AreRaws (more head children rest) [] = ⊥
@@ -100,12 +101,12 @@ AreRaws (more head children rest) (vs ∷ raws) =
     × IfFlattened head.encoding (AreRaws children (raws_below (node_form head.tag head.encoding) children vs))
     × AreRaws rest raws
 
--- up to where the offsets of lists go, 0 where none are stored
+-- the last offset of lists, 0 if none are stored
 abbrev pub last_item : ListForm → List PlainValue → ℕ
 last_item (lists.Offsets width) vs = sum_by (λ v. length (items_in_value 0 v)) vs
 last_item (lists.Fixed size) vs = 0
 
--- up to where the offsets of a node of the form go, 0 of one that has none
+-- the last offset of a node of the form, 0 for one that has none
 abbrev pub last_offset : Form → List PlainValue → ℕ
 last_offset forms.Nulls vs = 0
 last_offset forms.Bits vs = 0
@@ -116,12 +117,12 @@ last_offset (forms.FixedBytes w) vs = 0
 last_offset (forms.Lists list) vs = last_item list vs
 last_offset forms.Structs vs = 0
 
--- the greatest that the offsets of lists can tell
+-- the greatest value that the offsets of lists can have
 abbrev pub item_limit : ListForm → ℕ
 item_limit (lists.Offsets width) = greatest_offset width
 item_limit (lists.Fixed size) = 0
 
--- the greatest that the offsets of a node of the form can tell
+-- the greatest value that the offsets of a node of the form can have
 abbrev pub offset_limit : Form → ℕ
 offset_limit forms.Nulls = 0
 offset_limit forms.Bits = 0
@@ -132,13 +133,13 @@ offset_limit (forms.FixedBytes w) = 0
 offset_limit (forms.Lists list) = item_limit list
 offset_limit forms.Structs = 0
 
--- the slots of a node can be counted by a signed 32-bit number, and its offsets told by numbers of their width
+-- the number of slots of a node fits a signed 32-bit number, and its offsets fit numbers of their width
 pub record IsSmall (form : Form) (vs : List PlainValue) : Type 0 where
   pub few : length vs ≤ 2147483647
   pub near : last_offset form vs ≤ offset_limit form
 
--- so of all fields, on every level
-abbrev pub AreSmall : Fields → List (List PlainValue) → Type 0
+-- the same for all fields, on every level
+abbrev pub AreSmall : FieldTree → List (List PlainValue) → Type 0
 AreSmall none raws = ⊤
 AreSmall (more head children rest) [] = ⊤
 AreSmall (more head children rest) (vs ∷ raws) =

@@ -2,7 +2,7 @@
 use Rattle.std.specs.Prelude.{ℕ, ◌+◌, ◌*◌, ◌-◌, pos, not, true, nat_eq, if◌then◌else◌, List, [], ◌∷◌, ◌++◌, length, map, count_by, replicate}
 use Rattle.std.specs.List.{flat_map}
 use Rattle.std.specs.Int.{div_ceil}
-use Rattle.arrow_types.specs.Field.{Fields, none, more}
+use Rattle.arrow_types.specs.Field.{FieldTree, none, more}
 use Rattle.arrow_types.specs.declared.node.FieldNode.{FieldNode}
 use Rattle.arrow_types.specs.declared.node.Buffer.{Buffer}
 use Rattle.arrow_data.specs.Column.{Column}
@@ -19,7 +19,7 @@ use Rattle.arrow_body_laws.specs.Raws.{bytes_in_value, fixed_in, items_in_value,
 abbrev pub nulls_in : List PlainValue → ℕ
 nulls_in vs = count_by is_null_value vs
 
--- a bit for each slot, 0 of a null one; nothing where no slot is null (Columnar Format, "Validity bitmaps")
+-- a bit for each slot, 0 for a null one; nothing if no slot is null (Columnar Format, "Validity bitmaps")
 abbrev pub validity_bytes : List PlainValue → List ℕ
 validity_bytes vs = if nat_eq (nulls_in vs) 0 then [] else packed (map (λ v. not (is_null_value v)) vs)
 
@@ -27,7 +27,7 @@ validity_bytes vs = if nat_eq (nulls_in vs) 0 then [] else packed (map (λ v. no
 abbrev pub number_buffer : ℕ → List PlainValue → List ℕ
 number_buffer width vs = ints_bytes width (map number_in vs)
 
--- the offsets of lists, where they are stored (Columnar Format, "Variable-size List Layout", "Fixed-Size List Layout")
+-- the offsets of lists, if they are stored (Columnar Format, "Variable-size List Layout", "Fixed-Size List Layout")
 abbrev pub list_chunks : ListForm → List PlainValue → List (List ℕ)
 list_chunks (lists.Offsets width) vs = offsets_bytes width (map (λ v. length (items_in_value 0 v)) vs) ∷ []
 list_chunks (lists.Fixed size) vs = []
@@ -48,14 +48,14 @@ abbrev pub own_node : List PlainValue → FieldNode
 own_node vs = record { length = pos (length vs); null_count = pos (nulls_in vs) }
 
 -- the nodes of fields with these raw values, in pre-order
-abbrev pub stored_nodes : Fields → List (List PlainValue) → List FieldNode
+abbrev pub stored_nodes : FieldTree → List (List PlainValue) → List FieldNode
 stored_nodes none raws = []
 stored_nodes (more head children rest) [] = []
 stored_nodes (more head children rest) (vs ∷ raws) =
     own_node vs ∷ (stored_nodes children (raws_below (node_form head.tag head.encoding) children vs) ++ stored_nodes rest raws)
 
 -- and the bytes of their buffers
-abbrev pub stored_chunks : Fields → List (List PlainValue) → List (List ℕ)
+abbrev pub stored_chunks : FieldTree → List (List PlainValue) → List (List ℕ)
 stored_chunks none raws = []
 stored_chunks (more head children rest) [] = []
 stored_chunks (more head children rest) (vs ∷ raws) =
@@ -70,20 +70,21 @@ rounded align n = div_ceil n align * align
 abbrev pub padded : ℕ → List ℕ → List ℕ
 padded align chunk = chunk ++ replicate (rounded align (length chunk) - length chunk) 0
 
--- where buffers stand, each at the end of the one before with its padding (Message.fbs, struct "Buffer")
+-- the offsets and lengths of buffers, each at the end of the one before with its padding (Message.fbs, struct
+-- "Buffer")
 abbrev pub places_from : ℕ → ℕ → List (List ℕ) → List Buffer
 places_from align from [] = []
 places_from align from (chunk ∷ chunks) =
     record { offset = pos from; length = pos (length chunk) } ∷ places_from align (from + rounded align (length chunk)) chunks
 
--- What a body is to contracts: its nodes, its buffers and its bytes.
+-- A body as contracts see it: its nodes, its buffers and its bytes.
 pub record PlainBody : Type 0 where
   pub nodes : List FieldNode
   pub buffers : List Buffer
   pub bytes : List ℕ
 
 -- the body of columns of these fields with these raw values
-abbrev pub stored : ℕ → Fields → List (List PlainValue) → PlainBody
+abbrev pub stored : ℕ → FieldTree → List (List PlainValue) → PlainBody
 stored align fields raws = record {
   nodes = stored_nodes fields raws;
   buffers = places_from align 0 (stored_chunks fields raws);
@@ -91,7 +92,7 @@ stored align fields raws = record {
 }
 
 -- the fields of columns; names and nullability are not stored
-abbrev pub fields_of_columns : List Column → Fields
+abbrev pub fields_of_columns : List Column → FieldTree
 fields_of_columns [] = none
 fields_of_columns (c ∷ cs) =
     more (record { name = []; nullable = true; tag = c.data_type.tag; encoding = c.encoding }) c.data_type.children (fields_of_columns cs)

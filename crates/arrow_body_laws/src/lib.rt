@@ -1,7 +1,7 @@
 //! The bodies that a writer sends, as definitions (Columnar Format, "RecordBatch message").
 //!
-//! `specs/Stored.antt` says which field nodes, buffers and bytes they are of raw values, on each
-//! level; `specs/Size.antt` how many bytes they have.
+//! `specs/Stored.antt` defines the field nodes, buffers and bytes of raw values, on each level;
+//! `specs/Size.antt` the number of bytes.
 //!
 //! | Notion | Definition |
 //! |---|---|
@@ -9,15 +9,15 @@
 //! | raw values of a node, and below it | `specs/Raws.antt`: `AreRaws`, `raws_below`, `AreSmall` |
 //! | the body that is sent | `specs/Stored.antt`: `stored` |
 //! | its size | `specs/Size.antt`: `size_of` |
-//! | nothing that no value asks for | `specs/Tidy.antt`: `IsTidy` |
+//! | nothing that no value needs | `specs/Canonical.antt`: `IsCanonical` |
 //! | indices with their entries | `specs/Entries.antt`: `HaveEntries` |
 //! | types with their fields | `specs/Formed.antt`: `AreFormed` |
-//! | the laws | `specs/Laws.antt`: `StoredIsRead`, `StoredIsTidy`, `OneBody` .. |
+//! | the laws | `specs/Laws.antt`: `StoredIsRead`, `StoredIsCanonical`, `OneBody` .. |
 //!
-//! Of the proofs, `Walk` and `Readback` read back what is stored, `Layouts`, `Soundness`,
-//! `Standing` and `Indexed` show that it is sound, `Whole` joins them, and `Tidied` is of tidiness.
-//! From a tidy body back to its values go `Packings`, `Joined`, `Reslotted` and `Reranged` for
-//! buffers, `Kept` for one node, `Reordered` and `Single` for all.
+//! Among the proofs, `Walk` and `Readback` read a stored body back, `Layouts`, `Soundness`,
+//! `Snapshot` and `Indexed` show that it is valid, `Whole` joins them, and `MadeCanonical` shows that it
+//! is canonical. From a canonical body back to its values go `Packings`, `Joined`, `Reslotted` and
+//! `Reranged` for buffers, `Kept` for one node, `Reordered` and `Single` for all.
 #![tactic(auto)]
 
 pub mod laws;

@@ -1,21 +1,21 @@
--- What a builder has made, field by field. A builder is known by its body and by its arrays.
+-- The columns that a builder has made, field by field. A builder is identified by its body and its arrays.
 use Rattle.std.proofs.Common.{◌≡◌, ◌++◌, ℕ, List, [], ◌∷◌, Option, Some, None, sym, ap, ◌∙◌, append_assoc, append-nil, IfSome, MatchOption}
 use Rattle.std.specs.Prelude.{⊤}
 use Rattle.arrow_data.specs.Column.{Column}
 
--- a new one, of a body that is the same
+-- a new builder for an equal body
 pub start_building : {B : Type 0} (at : B → List ℕ) (made : B → List Column) (body body' : List ℕ) (o : Option B) (Typed Fit : Type 0) → body ≡ body' → Typed → Fit
     → IfSome o (λ b. (at b ≡ body) × (made b ≡ [])) → IfSome o (λ b. (at b ≡ body') × (made b ≡ []) × Typed × Fit)
 start_building at made body body' None Typed Fit same typed fit new = tt
 start_building at made body body' (Some b) Typed Fit same typed fit new = (new.0 ∙ same, new.1, typed, fit)
 
--- before the first field all columns are to come
+-- before the first field all columns are still to be made
 pub first_building : {B : Type 0} (at : B → List ℕ) (made : B → List Column) (body : List ℕ) (o : Option B) (all : List Column) (Typed Fit : Type 0)
     → IfSome o (λ b. (at b ≡ body) × (made b ≡ []) × Typed × Fit) → IfSome o (λ b. (at b ≡ body) × (made b ++ all ≡ all) × Typed × Fit)
 first_building at made body None all Typed Fit new = tt
 first_building at made body (Some b) all Typed Fit new = (new.0, ap (λ xs. xs ++ all) new.1, new.2, new.3)
 
--- one for what stands below a field
+-- a builder for the fields below a field
 pub inner_building : {B : Type 0} (at : B → List ℕ) (made : B → List Column) (Made : B → Type 0) (body : List ℕ) (o inner : Option B) (Typed Fit Typed' Fit' : Type 0)
     → IfSome o (λ b. (at b ≡ body) × Made b × Typed × Fit) → (Typed → Typed') → (Fit → Fit') → MatchOption inner ⊤ (λ i. MatchOption o ⊥ (λ b. (at i ≡ at b) × (made i ≡ [])))
     → IfSome inner (λ i. (at i ≡ body) × (made i ≡ []) × Typed' × Fit')
@@ -29,13 +29,13 @@ pub node_building : {B : Type 0} (at : B → List ℕ) (Made : B → Type 0) (bo
 node_building at Made body None Typed Fit Typed' Fit' so_far typed fit = tt
 node_building at Made body (Some b) Typed Fit Typed' Fit' so_far typed fit = (so_far.0, typed so_far.2, fit so_far.3)
 
--- the arrays alone
+-- the fact about the arrays, without that about the body
 pub made_alone : {B : Type 0} (at : B → List ℕ) (made : B → List Column) (body : List ℕ) (o : Option B) (columns : List Column)
     → IfSome o (λ b. (at b ≡ body) × (made b ≡ columns)) → IfSome o (λ b. made b ≡ columns)
 made_alone at made body None columns so_far = tt
 made_alone at made body (Some b) columns so_far = so_far.1
 
--- with the array of the first field, those of the others are to come
+-- after the array of the first field, those of the other fields are still to be made
 pub next_building : {B : Type 0} (at : B → List ℕ) (made : B → List Column) (body : List ℕ) (o new : Option B) (column : Column) (here others all : List Column) (Typed Fit Typed' Fit' : Type 0)
     → here ≡ column ∷ others → IfSome o (λ b. (at b ≡ body) × (made b ++ here ≡ all) × Typed × Fit) → (Typed → Typed') → (Fit → Fit')
     → MatchOption new ⊤ (λ n. MatchOption o ⊥ (λ b. (at n ≡ at b) × (made n ≡ made b ++ column ∷ [])))
@@ -49,7 +49,7 @@ next_building at made body (Some b) (Some n) column here others all Typed Fit Ty
   fit so_far.3,
 )
 
--- behind the last field no columns are to come
+-- after the last field no columns are left to be made
 pub last_building : {B : Type 0} (at : B → List ℕ) (made : B → List Column) (body : List ℕ) (o : Option B) (none all : List Column) (Typed Fit : Type 0)
     → none ≡ [] → IfSome o (λ b. (at b ≡ body) × (made b ++ none ≡ all) × Typed × Fit) → IfSome o (λ b. (at b ≡ body) × (made b ≡ all))
 last_building at made body None none all Typed Fit end so_far = tt

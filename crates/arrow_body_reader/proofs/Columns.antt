@@ -1,6 +1,6 @@
 -- The columns of fields, one by one.
 use Rattle.std.proofs.Common.{rules, ◌≡◌, ◌+◌, ℕ, ℤ, List, [], ◌∷◌, length, drop, map, Option, Some, None, IsTrue, is_some, false, refl, sym, ap}
-use Rattle.arrow_types.specs.Field.{Fields, Head, none, more, TypeShape}
+use Rattle.arrow_types.specs.Field.{FieldTree, FieldHeader, none, more, TypeShape}
 use Rattle.arrow_types.specs.Schema.{has_encoding}
 use Rattle.arrow_types.specs.View.{field_view, type_view}
 use Rattle.arrow_types.specs.declared.field.Encoding.{Encoding}
@@ -38,7 +38,7 @@ node_length t None len b cs values = length_slots len (λ j. value_slot (form_of
 node_length t (Some e) len b cs values = length_slots len (λ j. index_slot e b j)
 
 -- the columns have the types of the fields
-pub columns_typed : (body : List ℕ) (ds : List (ℤ × ValueList)) (fields : Fields) (ns : List FieldNode) (bs : List Buffer) → AreOf fields (columns_of body ds fields ns bs)
+pub columns_typed : (body : List ℕ) (ds : List (ℤ × ValueList)) (fields : FieldTree) (ns : List FieldNode) (bs : List Buffer) → AreOf fields (columns_of body ds fields ns bs)
 columns_typed body ds none ns bs = tt
 columns_typed body ds (more h c rest) ns bs = (
   node_type (record { tag = h.tag; children = c }) h.encoding (slots_at ns) (own_bytes body h bs) (if_flattened h.encoding (columns_of body ds c (drop 1 ns) (drop (own_buffers h) bs))) (values_in (dictionary_for ds h.encoding)),
@@ -47,18 +47,18 @@ columns_typed body ds (more h c rest) ns bs = (
 )
 
 -- and the lengths of their nodes
-pub columns_long : (body : List ℕ) (ds : List (ℤ × ValueList)) (fields : Fields) (ns : List FieldNode) (bs : List Buffer) → counts_of (columns_of body ds fields ns bs) ≡ lengths_of fields ns
+pub columns_long : (body : List ℕ) (ds : List (ℤ × ValueList)) (fields : FieldTree) (ns : List FieldNode) (bs : List Buffer) → counts_of (columns_of body ds fields ns bs) ≡ lengths_of fields ns
 columns_long body ds none ns bs = refl
 columns_long body ds (more h c rest) ns bs = λ i.
     node_length (record { tag = h.tag; children = c }) h.encoding (slots_at ns) (own_bytes body h bs) (if_flattened h.encoding (columns_of body ds c (drop 1 ns) (drop (own_buffers h) bs))) (values_in (dictionary_for ds h.encoding)) i
     ∷ columns_long body ds rest (drop (1 + flattened h.encoding (taken_nodes c)) ns) (drop (own_buffers h + flattened h.encoding (taken_buffers c)) bs) i
 
-columns_below : (body : List ℕ) (ds : List (ℤ × ValueList)) (e : Option Encoding) (c : Fields) (ns : List FieldNode) (bs : List Buffer) → if_flattened e (columns_of body ds c ns bs) ≡ columns_of body ds (below e c) ns bs
+columns_below : (body : List ℕ) (ds : List (ℤ × ValueList)) (e : Option Encoding) (c : FieldTree) (ns : List FieldNode) (bs : List Buffer) → if_flattened e (columns_of body ds c ns bs) ≡ columns_of body ds (below e c) ns bs
 columns_below body ds None c ns bs = refl
 columns_below body ds (Some e) c ns bs = refl
 
--- the column of the first field, and those of the fields behind it
-pub columns_step : (body : List ℕ) (ds : List (ℤ × ValueList)) (h : Head) (c rest : Fields) (ns ns' : List FieldNode) (bs bs' : List Buffer)
+-- the column of the first field, and those of the fields after it
+pub columns_step : (body : List ℕ) (ds : List (ℤ × ValueList)) (h : FieldHeader) (c rest : FieldTree) (ns ns' : List FieldNode) (bs bs' : List Buffer)
     → ns' ≡ drop (taken_nodes (below h.encoding c)) (drop 1 ns) → bs' ≡ drop (taken_buffers (below h.encoding c)) (drop (own_buffers h) bs)
     → columns_of body ds (more h c rest) ns bs
     ≡ node_column (record { tag = h.tag; children = c }) h.encoding (slots_at ns) (own_bytes body h bs) (columns_of body ds (below h.encoding c) (drop 1 ns) (drop (own_buffers h) bs)) (values_in (dictionary_for ds h.encoding))
@@ -68,7 +68,7 @@ columns_step body ds h c rest ns ns' bs bs' is is' = λ i.
     ∷ columns_of body ds rest (sym (node_after h c ns ns' is) i) (sym (buffer_after h c bs bs' is') i)
 
 -- a leaf has no columns below it, and no dictionary
-pub leaf_column : (body : List ℕ) (ds : List (ℤ × ValueList)) (t : TypeShape) (e : Option Encoding) (c : Fields) (len : ℕ) (b : List (List ℕ)) (ns : List FieldNode) (bs : List Buffer) → e ≡ None → c ≡ none
+pub leaf_column : (body : List ℕ) (ds : List (ℤ × ValueList)) (t : TypeShape) (e : Option Encoding) (c : FieldTree) (len : ℕ) (b : List (List ℕ)) (ns : List FieldNode) (bs : List Buffer) → e ≡ None → c ≡ none
     → node_column t e len b [] [] ≡ node_column t e len b (columns_of body ds (below e c) ns bs) (values_in (dictionary_for ds e))
 leaf_column body ds t None c len b ns bs own bare = ap (λ f. node_column t None len b (columns_of body ds f ns bs) []) (sym bare)
 leaf_column body ds t (Some e) c len b ns bs own bare = absurd cc
@@ -78,8 +78,8 @@ pub are_children : (t : TypeShape) (e : Option Encoding) (cs : List Column) → 
 are_children t None cs typed flat = typed
 are_children t (Some e) cs typed flat = flat refl
 
--- what is sound is so below a field
-pub sound_inside : (body : List ℕ) (ds : List (ℤ × ValueList)) (h : Head) (c rest : Fields) (ns : List FieldNode) (bs : List Buffer) → IsSound body ds (more h c rest) ns bs → IsSound body ds (below h.encoding c) (drop 1 ns) (drop (own_buffers h) bs)
+-- nodes and buffers that are valid are valid below a field
+pub sound_inside : (body : List ℕ) (ds : List (ℤ × ValueList)) (h : FieldHeader) (c rest : FieldTree) (ns : List FieldNode) (bs : List Buffer) → IsSound body ds (more h c rest) ns bs → IsSound body ds (below h.encoding c) (drop 1 ns) (drop (own_buffers h) bs)
 sound_inside body ds h c rest ns bs s = record {
   there = (there_parts h c rest ns bs s.there).2;
   laid = all_inside (IsNodeLaid body) h c rest ns bs s.laid;
@@ -87,8 +87,8 @@ sound_inside body ds h c rest ns bs s = record {
   indexed = all_inside (IsNodeIndexed body ds) h c rest ns bs s.indexed;
 }
 
--- what is sound is so behind a field
-pub sound_next : (body : List ℕ) (ds : List (ℤ × ValueList)) (h : Head) (c rest : Fields) (ns ns' : List FieldNode) (bs bs' : List Buffer) → IsSound body ds (more h c rest) ns bs
+-- nodes and buffers that are valid are valid after a field
+pub sound_next : (body : List ℕ) (ds : List (ℤ × ValueList)) (h : FieldHeader) (c rest : FieldTree) (ns ns' : List FieldNode) (bs bs' : List Buffer) → IsSound body ds (more h c rest) ns bs
     → ns' ≡ drop (taken_nodes (below h.encoding c)) (drop 1 ns) → bs' ≡ drop (taken_buffers (below h.encoding c)) (drop (own_buffers h) bs) → IsSound body ds rest ns' bs'
 sound_next body ds h c rest ns ns' bs bs' s is is' =
     let parts = there_parts h c rest ns bs s.there in
@@ -99,7 +99,7 @@ sound_next body ds h c rest ns ns' bs bs' s is is' =
       indexed = all_next (IsNodeIndexed body ds) h c rest ns ns' bs bs' s.indexed is is';
     }
 
--- dictionaries that fit are so below a field
-pub fit_inside : (ds : List (ℤ × ValueList)) (e : Option Encoding) (c : Fields) → IfFlattened e (AreFit ds c) → AreFit ds (below e c)
+-- dictionaries that fit all fields fit those below a field
+pub fit_inside : (ds : List (ℤ × ValueList)) (e : Option Encoding) (c : FieldTree) → IfFlattened e (AreFit ds c) → AreFit ds (below e c)
 fit_inside ds None c f = f
 fit_inside ds (Some e) c f = tt

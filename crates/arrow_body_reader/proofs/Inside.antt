@@ -1,4 +1,4 @@
--- Why what the slots of a sound body name lies inside of it.
+-- Why everything that the slots of a valid body refer to lies inside the body.
 use Rattle.std.proofs.Common.{◌≡◌, ◌≤◌, ◌<◌, ◌+◌, ◌-◌, ◌*◌, ℕ, zero, suc, ℤ, pos, negsuc, List, [], ◌∷◌, length, map, take, drop, get_or, Option, Some, None, refl, sym, subst, arith}
 use Rattle.std.specs.Prelude.{◌≤ℤ◌}
 use Rattle.std.specs.List.{AllByRecursion}
@@ -8,7 +8,7 @@ use Rattle.std.proofs.lemmas.Nat.{column_fits}
 use Rattle.arrow_bits.proofs.Reading.{bytes_take}
 use Rattle.arrow_bits.proofs.Rising.{offsets_order, plain_offset}
 use Rattle.arrow_bits.specs.Offsets.{AreOffsetsOf, offset_of}
-use Rattle.arrow_types.specs.Field.{Fields, none, more}
+use Rattle.arrow_types.specs.Field.{FieldTree, none, more}
 use Rattle.arrow_types.specs.declared.field.Encoding.{Encoding}
 use Rattle.arrow_types.specs.declared.node.FieldNode.{FieldNode}
 use Rattle.arrow_types.specs.declared.node.Buffer.{Buffer}
@@ -36,7 +36,7 @@ buffer_small body [] k small = λ i. omega arith
 buffer_small body (b ∷ bs) zero small = bytes_take (count_of b.length) (drop (count_of b.offset) body) (λ i. rw (get_or-drop (count_of b.offset) body i 0) (small (count_of b.offset + i)))
 buffer_small body (b ∷ bs) (suc k) small = buffer_small body bs k small
 
--- the bit of a slot of a bitmap
+-- the bit of a slot in a bitmap
 valid_inside : (len j : ℕ) (validity : List ℕ) → HasBits len validity → j < len → HasValidity j validity
 valid_inside len j validity bits h = λ some. omega (arith, bits some, h)
 
@@ -80,19 +80,19 @@ slot_inside (forms.FixedBytes width) len j b counts small laid h = (valid_inside
 slot_inside (forms.Lists list) len j b counts small laid h = (valid_inside len j (buffer b 0) laid.bits h, list_inside list len (child_count counts) j b small laid.rising h)
 slot_inside forms.Structs len j b counts small laid h = (valid_inside len j (buffer b 0) laid.bits h, children_inside len j counts laid.longer h)
 
--- a number that is not negative
-count_told : (n : ℤ) → pos 0 ≤ℤ n → n ≡ pos (count_of n)
-count_told (pos n) sign = refl
-count_told (negsuc n) sign = absurd (omega (arith, ints, sign))
+-- a number that is not negative is the natural number that `count_of` makes of it
+count_reported : (n : ℤ) → pos 0 ≤ℤ n → n ≡ pos (count_of n)
+count_reported (pos n) sign = refl
+count_reported (negsuc n) sign = absurd (omega (arith, ints, sign))
 
--- what stands below a field, where something does
-if_sound : (body : List ℕ) (ds : List (ℤ × ValueList)) (e : Option Encoding) (c : Fields) (ns : List FieldNode) (bs : List Buffer) (Q : Type 0)
+-- the fields below a field, if there are any
+if_sound : (body : List ℕ) (ds : List (ℤ × ValueList)) (e : Option Encoding) (c : FieldTree) (ns : List FieldNode) (bs : List Buffer) (Q : Type 0)
     → (IsSound body ds c ns bs → Q) → IsSound body ds (below e c) ns bs → IfFlattened e Q
 if_sound body ds None c ns bs Q f sound = f sound
 if_sound body ds (Some e) c ns bs Q f sound = tt
 
 -- all nodes and buffers, and all slots
-pub nodes_inside : (body : List ℕ) (ds : List (ℤ × ValueList)) (fields : Fields) (ns : List FieldNode) (bs : List Buffer) → AreBytes body → IsSound body ds fields ns bs → AllNodes (IsNodeInside body) fields ns bs
+pub nodes_inside : (body : List ℕ) (ds : List (ℤ × ValueList)) (fields : FieldTree) (ns : List FieldNode) (bs : List Buffer) → AreBytes body → IsSound body ds fields ns bs → AllNodes (IsNodeInside body) fields ns bs
 nodes_inside body ds none ns bs small sound = tt
 nodes_inside body ds (more h c rest) ns bs small sound =
     let parts = there_parts h c rest ns bs sound.there in
@@ -101,7 +101,7 @@ nodes_inside body ds (more h c rest) ns bs small sound =
     let bs' = drop (own_buffers h + flattened h.encoding (taken_buffers c)) bs in (
       record {
         node = omega (arith, parts.0);
-        told = count_told _ own.sign;
+        reported = count_reported _ own.sign;
         there = parts.1;
         held = own.held;
         slots = λ j inside. slot_inside (node_form h.tag h.encoding) (slots_at ns) j (own_bytes body h bs) (lengths_of (below h.encoding c) (drop 1 ns)) (λ k. buffer_small body (take (own_buffers h) bs) k small) own.laid inside;

@@ -1,9 +1,9 @@
--- Why each column of a sound body is what its raw values stand for.
+-- Why each raw value of the columns of a valid body resolves to its resolved value.
 use Rattle.std.proofs.Common.{◌≡◌, ◌+◌, ◌-◌, ◌*◌, ℕ, zero, suc, ℤ, List, [], ◌∷◌, map, take, drop, get_or, Option, Some, None, refl, sym, ap, ◌∙◌, subst}
 use Rattle.std.specs.List.{AllByRecursion}
 use Rattle.std.specs.Prelude.{slice_range, option_map}
 use Rattle.arrow_bits.specs.Numbers.{int_of}
-use Rattle.arrow_types.specs.Field.{Fields, none, more, TypeShape}
+use Rattle.arrow_types.specs.Field.{FieldTree, none, more, TypeShape}
 use Rattle.arrow_types.specs.declared.field.Encoding.{Encoding}
 use Rattle.arrow_types.specs.declared.node.FieldNode.{FieldNode}
 use Rattle.arrow_types.specs.declared.node.Buffer.{Buffer}
@@ -30,8 +30,8 @@ slice_none : (a b : ℕ) → slice_range {X = PlainValue} [] a b ≡ []
 slice_none zero b = take_nothing (b - 0)
 slice_none (suc a) b = take_nothing (b - suc a)
 
--- the items of a list, out of the values of the first child
-first_items : (ds : List (ℤ × ValueList)) (fields : Fields) (cs : List Column) (a b : ℕ) → AreOf fields cs → AllByRecursion (ResolvesBy ds) cs
+-- the items of a list, from the values of the first child
+first_items : (ds : List (ℤ × ValueList)) (fields : FieldTree) (cs : List Column) (a b : ℕ) → AreOf fields cs → AllByRecursion (ResolvesBy ds) cs
     → resolve_items fields (values_by ds) (values_of (slice_range (get_or (map (λ (c : Column). c.raw) cs) 0 []) a b)) ≡ Some (values_of (slice_range (get_or (map (λ (c : Column). c.resolved) cs) 0 []) a b))
 first_items ds none [] a b typed all = ap (λ xs. resolve_items none (values_by ds) (values_of xs)) (slice_none a b) ∙ ap (λ xs. Some (values_of xs)) (sym (slice_none a b))
 first_items ds none (c ∷ cs) a b typed all = absurd typed
@@ -41,8 +41,8 @@ first_items ds (more head children rest) (c ∷ cs) a b typed all =
     let whole = subst (λ (t : TypeShape). map (resolve head.encoding t.children (values_by ds)) c.raw ≡ map Some c.resolved) typed.0 coded in
     items_resolve (more head children rest) (values_by ds) (resolve head.encoding children (values_by ds)) (slice_range c.raw a b) (slice_range c.resolved a b) (λ value others. refl) (range_resolves (resolve head.encoding children (values_by ds)) c.raw c.resolved a b whole)
 
--- the values of a struct, out of those of its fields
-each_part : (ds : List (ℤ × ValueList)) (fields : Fields) (cs : List Column) (j : ℕ) → AreOf fields cs → AllByRecursion (ResolvesBy ds) cs
+-- the values of a struct, from those of its fields
+each_part : (ds : List (ℤ × ValueList)) (fields : FieldTree) (cs : List Column) (j : ℕ) → AreOf fields cs → AllByRecursion (ResolvesBy ds) cs
     → resolve_parts fields (values_by ds) (values_of (map (λ values. value_at values j) (map (λ (c : Column). c.raw) cs))) ≡ Some (values_of (map (λ values. value_at values j) (map (λ (c : Column). c.resolved) cs)))
 each_part ds none [] j typed all = refl
 each_part ds none (c ∷ cs) j typed all = absurd typed
@@ -55,7 +55,7 @@ each_part ds (more head children rest) (c ∷ cs) j typed all =
     λ i. before (here i) (others i)
 
 -- the value of a slot of a node without an encoding
-value_resolves : (ds : List (ℤ × ValueList)) (form : Form) (fields : Fields) (b : List (List ℕ)) (cs : List Column) (j : ℕ) → AreOf fields cs → AllByRecursion (ResolvesBy ds) cs
+value_resolves : (ds : List (ℤ × ValueList)) (form : Form) (fields : FieldTree) (b : List (List ℕ)) (cs : List Column) (j : ℕ) → AreOf fields cs → AllByRecursion (ResolvesBy ds) cs
     → resolve None fields (values_by ds) (value_slot form b (map (λ (c : Column). c.raw) cs) j) ≡ Some (value_slot form b (map (λ (c : Column). c.resolved) cs) j)
 value_resolves ds forms.Nulls fields b cs j typed all = refl
 value_resolves ds forms.Bits fields b cs j typed all = plain_resolves None fields (values_by ds) (is_valid_at (buffer b 0) j) _ refl
@@ -84,8 +84,8 @@ if_known : (e : Option Encoding) (P Q : Type 0) → (P → Q) → IfFlattened e 
 if_known None P Q f p = f p
 if_known (Some e) P Q f p = tt
 
--- each raw value of the columns stands for its resolved value
-pub columns_resolve : (body : List ℕ) (ds : List (ℤ × ValueList)) (fields : Fields) (ns : List FieldNode) (bs : List Buffer) → AllNodes (IsNodeIndexed body ds) fields ns bs
+-- each raw value of the columns resolves to its resolved value
+pub columns_resolve : (body : List ℕ) (ds : List (ℤ × ValueList)) (fields : FieldTree) (ns : List FieldNode) (bs : List Buffer) → AllNodes (IsNodeIndexed body ds) fields ns bs
     → AllByRecursion (ResolvesBy ds) (columns_of body ds fields ns bs)
 columns_resolve body ds none ns bs all = tt
 columns_resolve body ds (more h c rest) ns bs all =

@@ -1,16 +1,16 @@
--- Where the buffers of a batch stand in its body (Schema.fbs, struct "Buffer").
+-- Where the buffers of a batch lie in its body (Schema.fbs, struct "Buffer").
 use Rattle.std.specs.Prelude.{◌≡◌, ◌≤◌, ◌+◌, ℕ, ℤ, pos, negsuc, ◌≤ℤ◌, ◌<ℤ◌, List, length, map, take, drop}
 use Rattle.std.specs.List.{AllByRecursion}
 use Rattle.arrow_types.specs.declared.node.Buffer.{Buffer}
 use Rattle.arrow_data.specs.Node.{bytes_of, IsInside}
 use Rattle.arrow_data.specs.declared.byte_range.ByteRange.{ByteRange}
 
--- a number that should not be negative
+-- a number that should not be negative, 0 if it is
 abbrev pub count_of : ℤ → ℕ
 count_of (pos n) = n
 count_of (negsuc n) = 0
 
--- The buffer lies inside the body. Where an empty one stands is not looked at.
+-- The buffer lies inside the body. The offset of an empty buffer is not checked.
 pub record IsHeld (body : List ℕ) (b : Buffer) : Type 0 where
   pub length_sign : pos 0 ≤ℤ b.length
   pub offset_sign : pos 0 <ℤ b.length → pos 0 ≤ℤ b.offset

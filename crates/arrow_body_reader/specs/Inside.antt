@@ -1,8 +1,9 @@
--- Where what the slots of a sound body name lies: inside the buffers and the children of their node, and those buffers
--- inside the body (Columnar Format, "Physical Memory Layout"). It is said slot by slot, of the places that are read.
+-- Where the things lie that the slots of a valid body refer to: inside the buffers and the children of their node,
+-- and those buffers inside the body (Columnar Format, "Physical Memory Layout"). This is stated slot by slot, for the
+-- offsets that are read.
 use Rattle.std.specs.Prelude.{◌≡◌, ◌≤◌, ◌<◌, ◌+◌, ◌*◌, ◌/◌, ℕ, ℤ, pos, List, length, drop, take, ⊤}
 use Rattle.std.specs.List.{AllByRecursion}
-use Rattle.arrow_types.specs.Field.{Head, Fields}
+use Rattle.arrow_types.specs.Field.{FieldHeader, FieldTree}
 use Rattle.arrow_types.specs.declared.node.FieldNode.{FieldNode}
 use Rattle.arrow_types.specs.declared.node.Buffer.{Buffer}
 use Rattle.arrow_data.specs.Column.{AreOf, ValueList, counts_of}
@@ -24,7 +25,7 @@ use Rattle.arrow_body_reader.specs.Taken.{AllNodes, below, own_buffers}
 abbrev pub HasBit : ℕ → List ℕ → Type 0
 HasBit j bits = j / 8 < length bits
 
--- so is that of a bitmap, which may be left out where no slot is null (Columnar Format, "Validity bitmaps")
+-- so is the bit of a bitmap, which may be left out if no slot is null (Columnar Format, "Validity bitmaps")
 abbrev pub HasValidity : ℕ → List ℕ → Type 0
 HasValidity j validity = 0 < length validity → HasBit j validity
 
@@ -32,21 +33,21 @@ HasValidity j validity = 0 < length validity → HasBit j validity
 abbrev pub HasWidth : ℕ → ℕ → List ℕ → Type 0
 HasWidth width j values = width * j + width ≤ length values
 
--- Offsets j and j + 1 are there, and what stands between them lies within `top` (Columnar Format, "Variable-size Binary
+-- Offsets j and j + 1 are there, and the range between them lies within `top` (Columnar Format, "Variable-size Binary
 -- Layout" and "Variable-size List Layout").
 pub record HasRange (width : OffsetWidth) (j top : ℕ) (offsets : List ℕ) : Type 0 where
   pub there : HasWidth (offset_bytes width) (j + 1) offsets
   pub order : place_of width offsets j ≤ place_of width offsets (j + 1)
   pub within : place_of width offsets (j + 1) ≤ top
 
--- The items of list j lie within the child's slots: up to the offset after it, or as many as each list has (Columnar Format,
--- "Variable-size List Layout", "Fixed-Size List Layout").
+-- The items of list j lie within the child's slots: up to the next offset, or as many as each list has (Columnar
+-- Format, "Variable-size List Layout", "Fixed-Size List Layout").
 abbrev pub HasItemsInside : ListForm → ℕ → ℕ → List (List ℕ) → Type 0
 HasItemsInside (lists.Offsets width) j top b = HasRange width j top (buffer b 1)
 HasItemsInside (lists.Fixed size) j top b = size * (j + 1) ≤ top
 
--- What slot j of a node of the form names is there: its bits and bytes in the buffers, a list's items and a struct's
--- values among the slots of the children (Columnar Format, "Buffer Listing for Each Layout").
+-- What slot j of a node of the form refers to is there: its bits and bytes in the buffers, a list's items and a
+-- struct's values among the slots of the children (Columnar Format, "Buffer Listing for Each Layout").
 abbrev pub IsSlotInside : Form → ℕ → List (List ℕ) → List ℕ → Type 0
 IsSlotInside forms.Nulls j b counts = ⊤
 IsSlotInside forms.Bits j b counts = HasValidity j (buffer b 0) × HasBit j (buffer b 1)
@@ -57,31 +58,31 @@ IsSlotInside (forms.FixedBytes width) j b counts = HasValidity j (buffer b 0) ×
 IsSlotInside (forms.Lists list) j b counts = HasValidity j (buffer b 0) × HasItemsInside list j (child_count counts) b
 IsSlotInside forms.Structs j b counts = HasValidity j (buffer b 0) × AllByRecursion (λ count. j < count) counts
 
--- The field has a node of its own, which tells how many slots there are, and all of its buffers. They lie inside the body,
--- and each slot inside of them (Columnar Format, "RecordBatch message").
-pub record IsNodeInside (body : List ℕ) (head : Head) (children : Fields) (nodes : List FieldNode) (buffers : List Buffer) : Type 0 where
+-- The field has its own node, which gives the number of slots, and all of its buffers. They lie inside the body, and
+-- each slot lies inside them (Columnar Format, "RecordBatch message").
+pub record IsNodeInside (body : List ℕ) (head : FieldHeader) (children : FieldTree) (nodes : List FieldNode) (buffers : List Buffer) : Type 0 where
   pub node : 0 < length nodes
-  pub told : (node_at nodes).length ≡ pos (slots_at nodes)
+  pub reported : (node_at nodes).length ≡ pos (slots_at nodes)
   pub there : own_buffers head ≤ length buffers
   pub held : AllByRecursion (IsHeld body) (take (own_buffers head) buffers)
   pub slots : (j : ℕ) → j < slots_at nodes
       → IsSlotInside (node_form head.tag head.encoding) j (own_bytes body head buffers) (lengths_of (below head.encoding children) (drop 1 nodes))
 
 -- so do all nodes and buffers that the fields take
-abbrev pub AreInside : List ℕ → Fields → List FieldNode → List Buffer → Type 0
+abbrev pub AreInside : List ℕ → FieldTree → List FieldNode → List Buffer → Type 0
 AreInside body fields nodes buffers = AllNodes (IsNodeInside body) fields nodes buffers
 
--- The one reading of a body: a column for each field, of its type and encoding, with a raw value for each slot that its
--- node tells; all that is read on any level lies inside the body; and each raw value stands for something.
-pub record IsReading (body : List ℕ) (ds : List (ℤ × ValueList)) (fields : Fields) (nodes : List FieldNode) (buffers : List Buffer) : Type 0 where
+-- The one reading of a body: a column for each field, of its type and encoding, with a raw value for each slot of its
+-- node; everything that is read on any level lies inside the body; and each raw value resolves to a value.
+pub record IsReading (body : List ℕ) (ds : List (ℤ × ValueList)) (fields : FieldTree) (nodes : List FieldNode) (buffers : List Buffer) : Type 0 where
   pub columns : AreOf fields (columns_of body ds fields nodes buffers)
   pub long : counts_of (columns_of body ds fields nodes buffers) ≡ lengths_of fields nodes
   pub inside : AreBytes body → AreInside body fields nodes buffers
   pub resolves : AllByRecursion (ResolvesBy ds) (columns_of body ds fields nodes buffers)
 
--- The law `one_reading`: what is sound has one reading. That there is no other list of columns is plain, since `columns_of`
--- is a function.
+-- The law `one_reading`: a valid body has one reading. There is obviously no other list of columns, since
+-- `columns_of` is a function.
 abbrev pub OneReading : Type 0
 OneReading =
-    (body : List ℕ) (ds : List (ℤ × ValueList)) (fields : Fields) (nodes : List FieldNode) (buffers : List Buffer) → IsSound body ds fields nodes buffers
+    (body : List ℕ) (ds : List (ℤ × ValueList)) (fields : FieldTree) (nodes : List FieldNode) (buffers : List Buffer) → IsSound body ds fields nodes buffers
     → IsReading body ds fields nodes buffers

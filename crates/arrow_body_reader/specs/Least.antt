@@ -2,7 +2,7 @@
 use Rattle.std.specs.Prelude.{◌≤◌, ◌↔◌, ℕ, List}
 use Rattle.std.specs.List.{AllByRecursion}
 
--- A node has so many slots or fewer exactly where each of the counts is as large (Columnar Format, "Struct Layout"); none
--- has more than 2147483647.
+-- For any length up to 2147483647, which no node exceeds: it is at most the least count exactly when each of the
+-- counts is at least that length (Columnar Format, "Struct Layout").
 pub record IsLeast (least : ℕ) (counts : List ℕ) : Type 0 where
-  pub told : (len : ℕ) → len ≤ 2147483647 → (len ≤ least) ↔ AllByRecursion (λ count. len ≤ count) counts
+  pub reported : (len : ℕ) → len ≤ 2147483647 → (len ≤ least) ↔ AllByRecursion (λ count. len ≤ count) counts

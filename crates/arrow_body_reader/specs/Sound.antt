@@ -2,8 +2,8 @@
 use Rattle.std.specs.Prelude.{◌≡◌, ◌+◌, ◌⊎◌, ℕ, ℤ, pos, negsuc, ◌≤ℤ◌, not, nat_eq, if◌then◌else◌, List, [], ◌∷◌, length, map, take, drop, get_or, ⊤, Option, None, Some, count_by, codes}
 use Rattle.std.specs.List.{AllByRecursion}
 use Rattle.arrow_bits.specs.Bitmap.{bits_of}
-use Rattle.arrow_types.specs.DataType.{Tag}
-use Rattle.arrow_types.specs.Field.{Head, Fields, none, more}
+use Rattle.arrow_types.specs.DataType.{TypeId}
+use Rattle.arrow_types.specs.Field.{FieldHeader, FieldTree, none, more}
 use Rattle.arrow_types.specs.declared.field.Encoding.{Encoding}
 use Rattle.arrow_types.specs.declared.node.FieldNode.{FieldNode}
 use Rattle.arrow_types.specs.declared.node.Buffer.{Buffer}
@@ -19,7 +19,7 @@ use Rattle.arrow_body_reader.specs.declared.body.BodyFault.TheVariants.{Layout, 
 use Rattle.arrow_body_reader.specs.Held.{IsHeld, bytes_in, count_of}
 use Rattle.arrow_body_reader.specs.Taken.{AllNodes, AreThere, IfFlattened, below, flattened, own_buffers, taken_buffers, taken_nodes}
 
--- a field's own node is the first from there on
+-- a field's own node is the first of the nodes from there on
 abbrev pub node_at : List FieldNode → FieldNode
 node_at nodes = get_or nodes 0 (record { length = pos 0; null_count = pos 0 })
 
@@ -28,23 +28,23 @@ abbrev pub slots_at : List FieldNode → ℕ
 slots_at nodes = count_of (node_at nodes).length
 
 -- how many slots each of these fields has
-abbrev pub lengths_of : Fields → List FieldNode → List ℕ
+abbrev pub lengths_of : FieldTree → List FieldNode → List ℕ
 lengths_of none nodes = []
 lengths_of (more head children rest) nodes = slots_at nodes ∷ lengths_of rest (drop (1 + flattened head.encoding (taken_nodes children)) nodes)
 
--- the bytes of the field's own buffers, which are the first from there on
-abbrev pub own_bytes : List ℕ → Head → List Buffer → List (List ℕ)
+-- the bytes of the field's own buffers, which are the first of the buffers from there on
+abbrev pub own_bytes : List ℕ → FieldHeader → List Buffer → List (List ℕ)
 own_bytes body head buffers = map (bytes_in body) (take (own_buffers head) buffers)
 
--- how many of the first `len` slots are null: none where there is no bitmap
+-- how many of the first `len` slots are null: none if there is no bitmap
 abbrev pub nulls_of : ℕ → List ℕ → ℕ
 nulls_of len validity = if nat_eq (length validity) 0 then 0 else count_by not (bits_of len validity)
 
--- the number of nulls is that of the bitmap, or is not told
+-- the number of nulls is that of the bitmap, or is not given
 abbrev pub IsCount : FieldNode → List ℕ → Type 0
 IsCount node validity = (node.null_count ≡ negsuc 0) ⊎ (node.null_count ≡ pos (nulls_of (count_of node.length) validity))
 
--- the same of a node of the form: where there are no buffers any number is taken
+-- the same for a node of the form: if it has no buffers, any number is accepted
 abbrev pub IsCountOf : Form → FieldNode → List ℕ → Type 0
 IsCountOf forms.Nulls node validity = ⊤
 IsCountOf forms.Bits node validity = IsCount node validity
@@ -55,12 +55,12 @@ IsCountOf (forms.FixedBytes width) node validity = IsCount node validity
 IsCountOf (forms.Lists list) node validity = IsCount node validity
 IsCountOf forms.Structs node validity = IsCount node validity
 
--- the number of nulls of a node of this type and encoding is as it should be
-abbrev pub IsCounted : Tag → Option Encoding → FieldNode → List ℕ → Type 0
+-- the number of nulls of a node of this type and encoding is correct
+abbrev pub IsCounted : TypeId → Option Encoding → FieldNode → List ℕ → Type 0
 IsCounted tag e node validity = IsCountOf (node_form tag e) node validity
 
--- the field's own node and buffers lie in the body as its type asks for
-pub record IsNodeLaid (body : List ℕ) (head : Head) (children : Fields) (nodes : List FieldNode) (buffers : List Buffer) : Type 0 where
+-- the field's own node and buffers lie in the body as its type requires
+pub record IsNodeLaid (body : List ℕ) (head : FieldHeader) (children : FieldTree) (nodes : List FieldNode) (buffers : List Buffer) : Type 0 where
   pub sign : pos 0 ≤ℤ (node_at nodes).length
   pub few : (node_at nodes).length ≤ℤ pos 2147483647
   pub held : AllByRecursion (IsHeld body) (take (own_buffers head) buffers)
@@ -68,7 +68,7 @@ pub record IsNodeLaid (body : List ℕ) (head : Head) (children : Fields) (nodes
   pub nulls : IsCounted head.tag head.encoding (node_at nodes) (buffer (own_bytes body head buffers) 0)
 
 -- all nodes and buffers that the fields take do
-abbrev pub AreLaid : List ℕ → Fields → List FieldNode → List Buffer → Type 0
+abbrev pub AreLaid : List ℕ → FieldTree → List FieldNode → List Buffer → Type 0
 AreLaid body fields nodes buffers = AllNodes (IsNodeLaid body) fields nodes buffers
 
 -- the columns below a field, none below a dictionary-encoded one
@@ -77,38 +77,38 @@ if_flattened None columns = columns
 if_flattened (Some e) columns = []
 
 -- the valid slots of the field's own node, if it is one of texts, are UTF-8
-abbrev pub IsNodeText : List ℕ → Head → Fields → List FieldNode → List Buffer → Type 0
+abbrev pub IsNodeText : List ℕ → FieldHeader → FieldTree → List FieldNode → List Buffer → Type 0
 IsNodeText body head children nodes buffers = IsText head.tag head.encoding (slots_at nodes) (own_bytes body head buffers)
 
 -- all texts of the fields, on every level, are UTF-8
-abbrev pub AreText : List ℕ → Fields → List FieldNode → List Buffer → Type 0
+abbrev pub AreText : List ℕ → FieldTree → List FieldNode → List Buffer → Type 0
 AreText body fields nodes buffers = AllNodes (IsNodeText body) fields nodes buffers
 
 -- the valid slots of the field's own node, if it is dictionary-encoded, have their values; without a dictionary there
 -- are none
-abbrev pub IsNodeIndexed : List ℕ → List (ℤ × ValueList) → Head → Fields → List FieldNode → List Buffer → Type 0
+abbrev pub IsNodeIndexed : List ℕ → List (ℤ × ValueList) → FieldHeader → FieldTree → List FieldNode → List Buffer → Type 0
 IsNodeIndexed body ds head children nodes buffers =
     IsIndexed head.encoding (slots_at nodes) (own_bytes body head buffers) (values_in (dictionary_for ds head.encoding))
 
 -- all indices of the fields, on every level, have their values
-abbrev pub AreIndexed : List ℕ → List (ℤ × ValueList) → Fields → List FieldNode → List Buffer → Type 0
+abbrev pub AreIndexed : List ℕ → List (ℤ × ValueList) → FieldTree → List FieldNode → List Buffer → Type 0
 AreIndexed body ds fields nodes buffers = AllNodes (IsNodeIndexed body ds) fields nodes buffers
 
--- The nodes and buffers that the fields take are there, lie in the body as they should, and their texts and indices are
--- as they should be.
-pub record IsSound (body : List ℕ) (ds : List (ℤ × ValueList)) (fields : Fields) (nodes : List FieldNode) (buffers : List Buffer) : Type 0 where
+-- The nodes and buffers that the fields take are there, lie in the body as they should, and their texts and indices
+-- are valid.
+pub record IsSound (body : List ℕ) (ds : List (ℤ × ValueList)) (fields : FieldTree) (nodes : List FieldNode) (buffers : List Buffer) : Type 0 where
   pub there : AreThere fields nodes buffers
   pub laid : AreLaid body fields nodes buffers
   pub text : AreText body fields nodes buffers
   pub indexed : AreIndexed body ds fields nodes buffers
 
 -- the dictionary of each dictionary-encoded field, on every level, has the type of its values, and no encoding below it
-abbrev pub AreFit : List (ℤ × ValueList) → Fields → Type 0
+abbrev pub AreFit : List (ℤ × ValueList) → FieldTree → Type 0
 AreFit ds none = ⊤
 AreFit ds (more head children rest) = IsNodeFit ds head children × IfFlattened head.encoding (AreFit ds children) × AreFit ds rest
 
--- The columns of the fields: each by its own node and buffers, the columns below it, and its dictionary.
-abbrev pub columns_of : List ℕ → List (ℤ × ValueList) → Fields → List FieldNode → List Buffer → List Column
+-- The columns of the fields: each is made of its own node and buffers, the columns below it, and its dictionary.
+abbrev pub columns_of : List ℕ → List (ℤ × ValueList) → FieldTree → List FieldNode → List Buffer → List Column
 columns_of body ds none nodes buffers = []
 columns_of body ds (more head children rest) nodes buffers =
     node_column (record { tag = head.tag; children = children }) head.encoding (slots_at nodes) (own_bytes body head buffers)
@@ -116,16 +116,16 @@ columns_of body ds (more head children rest) nodes buffers =
     (values_in (dictionary_for ds head.encoding))
     ∷ columns_of body ds rest (drop (1 + flattened head.encoding (taken_nodes children)) nodes) (drop (own_buffers head + flattened head.encoding (taken_buffers children)) buffers)
 
--- the fault is the first that applies; want of memory is told only where none does
-abbrev pub Explains : BodyFault → List ℕ → List (ℤ × ValueList) → Fields → List FieldNode → List Buffer → Type 0
+-- the fault is the first that applies; `Memory` is returned only if no other fault applies
+abbrev pub Explains : BodyFault → List ℕ → List (ℤ × ValueList) → FieldTree → List FieldNode → List Buffer → Type 0
 Explains Layout body ds fields nodes buffers = AreThere fields nodes buffers × AreLaid body fields nodes buffers → ⊥
 Explains Text body ds fields nodes buffers = AreThere fields nodes buffers × AreLaid body fields nodes buffers × (AreText body fields nodes buffers → ⊥)
 Explains Index body ds fields nodes buffers =
     AreThere fields nodes buffers × AreLaid body fields nodes buffers × AreText body fields nodes buffers × (AreIndexed body ds fields nodes buffers → ⊥)
 Explains Memory body ds fields nodes buffers = IsSound body ds fields nodes buffers
 
--- The fault is the first that applies. Nothing grows.
-abbrev pub IsExplained : BodyFault → List ℕ → List (ℤ × ValueList) → Fields → List FieldNode → List Buffer → Type 0
+-- The fault is the first that applies. Nothing is allocated.
+abbrev pub IsExplained : BodyFault → List ℕ → List (ℤ × ValueList) → FieldTree → List FieldNode → List Buffer → Type 0
 IsExplained fault body ds fields nodes buffers = (fault ≡ Memory → ⊥) × Explains fault body ds fields nodes buffers
 
 -- the number of a fault

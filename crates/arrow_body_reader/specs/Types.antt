@@ -1,11 +1,11 @@
 -- The types of the nodes that fields take. Only the crate's private clauses cite this.
 use Rattle.std.specs.Prelude.{◌≡◌, ◌+◌, List, drop, ⊤, Some, slice_get}
-use Rattle.arrow_types.specs.Field.{Fields, none, more}
+use Rattle.arrow_types.specs.Field.{FieldTree, none, more}
 use Rattle.arrow_data.specs.Shared.{NodeType, node_type}
 use Rattle.arrow_body_reader.specs.Taken.{IfFlattened, flattened, taken_nodes}
 
--- each field of these, on every level, has its type where its node stands
-abbrev pub HaveTypes : Fields → List NodeType → Type 0
+-- each of these fields, on every level, has its type at the position of its node
+abbrev pub HaveTypes : FieldTree → List NodeType → Type 0
 HaveTypes none types = ⊤
 HaveTypes (more head children rest) types =
     (slice_get types 0 ≡ Some (node_type head children))

@@ -7,28 +7,29 @@ ghost use Rattle.arrow_body_reader.specs.Sound.{number_of};
 ghost use Rattle.arrow_body_reader.specs.Look.{IsReady};
 ghost use Rattle.arrow_data.specs.Shared.{node_types};
 
+use crate::body_context::BodyContext;
 use crate::build::Builder;
-use crate::look::look;
-use crate::source::Source;
+use crate::load_nodes::load_nodes;
 use crate::taken::Left;
-use arrow_data::{Array, Dictionary, Listed, SharedBody, SharedType, shared_types};
+use arrow_data::{Array, Dictionary, DictionaryMap, SharedBody, SharedType, shared_types};
 use arrow_types::{Buffer, Field, FieldNode};
 use bytes::Bytes;
 use std::alloc::{AllocError, Global};
 use std::error::Error;
 use std::fmt;
 
-/// Why nodes, buffers and a body are no columns of the fields, in the order of the faults' numbers.
+/// Why nodes, buffers and a body are not columns of the fields, in the order of the faults'
+/// numbers.
 #[derive(Clone, Copy, Debug, PartialEq, Eq)]
 pub enum BodyFault {
-    /// Nodes or buffers are missing, lie outside of the body, are too short for their slots, or
+    /// Nodes or buffers are missing, lie outside the body, are too short for their slots, or
     /// contradict one another.
     Layout,
     /// A valid slot of a column of texts is not UTF-8.
     Text,
     /// A valid slot of a dictionary-encoded column has an index without a value.
     Index,
-    /// A growth was refused. None of the other faults applies.
+    /// An allocation failed. None of the other faults applies.
     Memory,
 }
 
@@ -64,17 +65,17 @@ impl fmt::Display for BodyFault {
 
 impl Error for BodyFault {}
 
-/// The fault with the least number of those that apply to any of the columns of the fields, `Ok`
-/// where none does.
+/// The fault with the least number of those that apply to any of the columns of the fields, `Ok` if
+/// none does.
 ///
-/// Nodes and buffers stand in pre-order, depth first; those behind the last that is taken are not
-/// looked at. Each node is looked at once, and no memory is taken: only the texts, offsets and
-/// indices are looked at slot by slot, so that a length alone costs nothing. `Memory` is not
-/// answered.
+/// Nodes and buffers are in pre-order, depth first; those after the last that is taken are not
+/// inspected. Each node is checked once, and nothing is allocated: only the texts, offsets and
+/// indices are checked slot by slot, so that a length alone costs nothing. `Memory` is never
+/// returned.
 ///
 /// A dictionary-encoded column refers to the first dictionary that is listed for its id, or to the
-/// empty one where none is; that a listed dictionary has the type of the field's values is known by
-/// the caller. They may be listed in any order; where their ids rise, each is found by halves.
+/// empty one if none is; the caller knows that a listed dictionary has the type of the field's
+/// values. They may be listed in any order; if their ids rise, each is found by binary search.
 pub fn check(
     fields: &[Field],
     nodes: &[FieldNode],
@@ -92,18 +93,18 @@ pub fn check(
         buffers,
         types: &[],
     };
-    let source = Source {
+    let source = BodyContext {
         body,
-        dictionaries: Listed::new(dictionaries),
+        dictionaries: DictionaryMap::new(dictionaries),
     };
     walk(fields, left, source, None)?;
     Ok(())
 }
 
 /// The columns of the fields, or the fault with the least number of those that apply to any of
-/// them: what `check` tells, or `Memory` where it tells none and a growth was refused.
+/// them: the fault that `check` returns, or `Memory` if it returns none and an allocation failed.
 ///
-/// The columns share the body: nothing of it is copied, and how often memory is asked for doesn't
+/// The columns share the body: nothing of it is copied, and the number of allocations does not
 /// depend on how many slots there are.
 pub fn load(
     alloc: Global,
@@ -132,7 +133,7 @@ pub fn load(
     }
 }
 
-// What the arrays of fields share: the types of their nodes, and the body.
+/// What the arrays of fields share: the types of their nodes, and the body.
 fn shared(
     alloc: Global,
     fields: &[Field],
@@ -149,9 +150,9 @@ fn shared(
 /// As `load`, with the types of the nodes, which `shared_types` makes once for all batches of the
 /// fields, and with a body that was made to be shared: the columns share both.
 ///
-/// The nodes are walked over once: each is looked at, and its array is made of the ranges that the
-/// look found. Once a growth is refused, or a text or an index is not as it should be, the walk goes
-/// on without making arrays, since a fault of a lower number may come behind.
+/// The nodes are walked once: each is checked, and its array is made of the ranges that the check
+/// found. After an allocation has failed, or a text or an index was found to be invalid, the walk
+/// goes on without making arrays, since a fault with a lower number may follow.
 pub fn load_typed(
     alloc: Global,
     fields: &[Field],
@@ -175,9 +176,9 @@ pub fn load_typed(
         buffers,
         types,
     };
-    let source = Source {
+    let source = BodyContext {
         body: body.as_slice(),
-        dictionaries: Listed::new(dictionaries),
+        dictionaries: DictionaryMap::new(dictionaries),
     };
     let builder = Builder::new(alloc, body, fields.len());
     match walk(fields, left, source, builder)? {
@@ -186,12 +187,12 @@ pub fn load_typed(
     }
 }
 
-// One walk over all nodes: the builder with the arrays of the fields, None where none was given or
-// a growth was refused; or the fault with the least number of those that apply.
+/// One walk over all nodes: the builder with the arrays of the fields, None if none was given or an
+/// allocation failed; or the fault with the least number of those that apply.
 fn walk<'a>(
     fields: &[Field],
     left: Left<'a>,
-    source: Source<'_>,
+    source: BodyContext<'_>,
     builder: Option<Builder<'a>>,
 ) -> Result<Option<Builder<'a>>, BodyFault>
     requires building { IfSome builder (IsReady (fields_view fields.now) left source) }
@@ -204,7 +205,7 @@ fn walk<'a>(
         (λ fault. IsExplained fault source.entry.body.now source.entry.dictionaries.entries.now
         (fields_view fields.now) left.entry.nodes.now left.entry.buffers.now) }
 {
-    let Some(found) = look(fields, left, source, builder) else {
+    let Some(found) = load_nodes(fields, left, source, builder) else {
         return Err(BodyFault::Layout);
     };
     if !found.seen.texts {

@@ -1,4 +1,4 @@
-//! The arrays of nodes and buffers that were looked at and are as they should be.
+//! The arrays of nodes and buffers that were checked and are valid.
 
 ghost use Rattle.std.specs.Prelude.{◌≡◌, ◌++◌, IfOk, IfSome, IsTrue, MatchOption, Some, ⊤};
 ghost use Rattle.std.specs.Prelude.{slice_get, [], ◌∷◌};
@@ -8,23 +8,23 @@ ghost use Rattle.arrow_body_reader.specs.Leaf.{IsLeafNode};
 ghost use Rattle.arrow_body_reader.specs.Place.{AreRangesAt, IsIndexedAt, IsLaidAt, IsTextAt};
 ghost use Rattle.arrow_body_reader.specs.Place.{children_at, column_at, columns_below, head_at, len_at};
 
-use crate::look::Node;
-use crate::place::{Laid, Place};
+use crate::load_nodes::OwnNode;
+use crate::place::{CheckedNode, NodePlace};
 use arrow_data::form::has_own_fields;
 use arrow_data::{Array, ChildData, NodeBuffers, SharedBody};
 use std::alloc::Global;
 
-// Makes the arrays of fields out of ranges of a body, which they share.
+/// Makes the arrays of fields from ranges of a body, which they share.
 #[derive(Drop)]
 pub(crate) struct Builder<'a> {
     alloc: Global,
     body: &'a SharedBody,
-    // The arrays of the fields so far.
+    /// The arrays of the fields so far.
     pub(crate) arrays: Vec<Array>,
 }
 
 impl<'a> Builder<'a> {
-    // One with room for the arrays of so many fields, None where the growth is refused.
+    /// A builder with capacity for the arrays of that many fields, None if the allocation fails.
     pub(crate) fn new(alloc: Global, body: &'a SharedBody, count: usize) -> Option<Builder<'a>>
         ensures { IfSome result (λ b. (b.body.now ≡ body.now) × (b.arrays.items ≡ [])) }
     {
@@ -39,7 +39,7 @@ impl<'a> Builder<'a> {
     }
 }
 
-// One for the fields below one, where a builder is left.
+/// A builder for the fields below a field, if there is still a builder.
 #[inline(always)]
 pub(crate) fn builder_below<'a>(builder: &Option<Builder<'a>>, count: usize) -> Option<Builder<'a>>
     ensures { MatchOption result ⊤ (λ inner. MatchOption builder.now ⊥
@@ -51,14 +51,14 @@ pub(crate) fn builder_below<'a>(builder: &Option<Builder<'a>>, count: usize) -> 
     }
 }
 
-// The builder with the array of the place's node, None where there is none so far or none for what
-// stands below, the node's texts or indices are not as they should be, or a growth is refused.
+/// The builder with the array of the place's node. None if there is none so far or none for the
+/// fields below, if the node's texts or indices are invalid, or if an allocation fails.
 #[inline(always)]
 pub(crate) fn with_node<'a>(
     builder: Option<Builder<'a>>,
     inner: Option<Builder<'a>>,
-    place: Place<'_>,
-    node: &Node,
+    place: NodePlace<'_>,
+    node: &OwnNode,
 ) -> Option<Builder<'a>>
     requires laid { IsLaidAt place }
     requires texts { IsTrue node.now.seen.texts → IsTextAt place }
@@ -89,8 +89,8 @@ pub(crate) fn with_node<'a>(
     }
 }
 
-impl Place<'_> {
-    // Whether the field's node has neither children nor a dictionary.
+impl NodePlace<'_> {
+    /// Whether the field's node has neither children nor a dictionary.
     #[inline(always)]
     fn is_leaf(self) -> bool
         ensures { IsTrue result → IsLeafNode (head_at self.entry) (children_at self.entry) }
@@ -100,10 +100,13 @@ impl Place<'_> {
     }
 }
 
-// The same of a node whose texts are as they should be, and which has neither children nor a
-// dictionary.
+/// The same for a node whose texts are valid, and which has neither children nor a dictionary.
 #[inline(always)]
-fn with_leaf<'a>(builder: Builder<'a>, place: Place<'_>, laid: &Laid) -> Option<Builder<'a>>
+fn with_leaf<'a>(
+    builder: Builder<'a>,
+    place: NodePlace<'_>,
+    laid: &CheckedNode,
+) -> Option<Builder<'a>>
     requires leaf { IsLeafNode (head_at place) (children_at place) }
     requires laid { IsLaidAt place }
     requires text { IsTextAt place }
@@ -135,13 +138,13 @@ fn with_leaf<'a>(builder: Builder<'a>, place: Place<'_>, laid: &Laid) -> Option<
     })
 }
 
-// The same of a node whose texts and indices are as they should be.
+/// The same for a node whose texts and indices are valid.
 #[inline(always)]
 fn with_array<'a>(
     builder: Builder<'a>,
     inner: Builder<'a>,
-    place: Place<'_>,
-    laid: &Laid,
+    place: NodePlace<'_>,
+    laid: &CheckedNode,
 ) -> Option<Builder<'a>>
     requires laid { IsLaidAt place }
     requires text { IsTextAt place }

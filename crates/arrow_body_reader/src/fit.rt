@@ -6,21 +6,21 @@ ghost use Rattle.arrow_data.specs.Listed.{IsNodeFit};
 ghost use Rattle.arrow_body_reader.specs.Sound.{AreFit};
 
 use crate::taken::below;
-use arrow_data::{Dictionary, Listed};
+use arrow_data::{Dictionary, DictionaryMap};
 use arrow_types::Field;
 
 /// Whether the dictionary that is listed first for the id of a field has the type of its values,
-/// for each dictionary-encoded field on every level, and no field below such a one is
-/// dictionary-encoded: what `load` asks for. Takes no memory.
+/// for each dictionary-encoded field on every level, and no field below such a field is
+/// dictionary-encoded: the precondition of `load`. Nothing is allocated.
 pub fn are_fit(fields: &[Field], dictionaries: &[(i64, Dictionary)]) -> bool
     ensures { IsTrue result ↔ AreFit dictionaries.now (fields_view fields.now) }
 {
-    all_fit(fields, Listed::new(dictionaries))
+    all_fit(fields, DictionaryMap::new(dictionaries))
 }
 
-// The same, where it is known whether the ids rise.
+/// The same, if it is known whether the ids rise.
 #[cycle(fit)]
-fn all_fit(fields: &[Field], dictionaries: Listed<'_>) -> bool
+fn all_fit(fields: &[Field], dictionaries: DictionaryMap<'_>) -> bool
     ensures { IsTrue result ↔ AreFit dictionaries.entry.entries.now (fields_view fields.now) }
 {
     for field in fields {
@@ -34,18 +34,18 @@ fn all_fit(fields: &[Field], dictionaries: Listed<'_>) -> bool
     true
 }
 
-// The same of the fields below one, of which there mostly are none: then nothing is called.
+/// The same for the fields below a field. Mostly there are none; then nothing is called.
 #[inline(always)]
 #[cycle(fit)]
-fn all_below_fit(fields: &[Field], dictionaries: Listed<'_>) -> bool
+fn all_below_fit(fields: &[Field], dictionaries: DictionaryMap<'_>) -> bool
     ensures { IsTrue result ↔ AreFit dictionaries.entry.entries.now (fields_view fields.now) }
 {
     fields.is_empty() || all_fit(fields, dictionaries)
 }
 
-// The same of the field alone.
+/// The same for only the field itself.
 #[inline(always)]
-fn is_node_fit(field: &Field, dictionaries: Listed<'_>) -> bool
+fn is_node_fit(field: &Field, dictionaries: DictionaryMap<'_>) -> bool
     ensures { IsTrue result
         ↔ IsNodeFit dictionaries.entry.entries.now (field_view field.now).head
         (field_view field.now).children }

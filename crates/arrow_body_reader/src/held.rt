@@ -12,7 +12,7 @@ use arrow_data::ByteRange;
 use arrow_data::form::ListForm;
 use arrow_types::Buffer;
 
-// Where a buffer lies, None where that is not inside the body.
+/// Where a buffer lies, None if it is not inside the body.
 #[inline(always)]
 pub(crate) fn held(body: &[u8], buffer: Buffer) -> Option<ByteRange>
     ensures { MatchOption result (IsHeld body.now buffer → ⊥)
@@ -33,7 +33,7 @@ pub(crate) fn held(body: &[u8], buffer: Buffer) -> Option<ByteRange>
     Some(ByteRange { start, end })
 }
 
-// Where the first `own` buffers lie, at most three, None where one does not lie inside the body.
+/// Where the first `own` buffers lie, at most three, None if one does not lie inside the body.
 #[inline(always)]
 pub(crate) fn own_ranges(body: &[u8], buffers: &[Buffer], own: usize) -> Option<[ByteRange; 3]>
     requires most { own ≤ 3 }
@@ -52,7 +52,7 @@ pub(crate) fn own_ranges(body: &[u8], buffers: &[Buffer], own: usize) -> Option<
             let second = held(body, buffers[1])?;
             Some([first, second, ByteRange::EMPTY])
         }
-        // three, the number that is left
+        // three, the remaining number
         _ => {
             let first = held(body, buffers[0])?;
             let second = held(body, buffers[1])?;
@@ -61,15 +61,15 @@ pub(crate) fn own_ranges(body: &[u8], buffers: &[Buffer], own: usize) -> Option<
     }
 }
 
-// Ranges of a body.
+/// Ranges of a body.
 #[derive(Clone, Copy)]
-pub(crate) struct Ranges<'a> {
+pub(crate) struct BufferRanges<'a> {
     pub(crate) body: &'a [u8],
     pub(crate) ranges: &'a [ByteRange],
 }
 
-impl<'a> Ranges<'a> {
-    // The bytes of range `k`.
+impl<'a> BufferRanges<'a> {
+    /// The bytes of range `k`.
     #[inline(always)]
     pub(crate) fn bytes(self, k: usize) -> &'a [u8]
         requires there { k < length self.ranges.now }
@@ -79,7 +79,7 @@ impl<'a> Ranges<'a> {
         &self.body[self.ranges[k].start..self.ranges[k].end]
     }
 
-    // The offsets of a node of lists, none where none are stored.
+    /// The offsets of a node of lists, empty if none are stored.
     #[inline(always)]
     pub(crate) fn offsets(self, form: ListForm) -> &'a [u8]
         requires there { list_buffers form ≤ length self.ranges.now }

@@ -9,19 +9,19 @@ ghost use Rattle.arrow_data.specs.Slots.{AreIndices, index_width};
 ghost use Rattle.arrow_data.specs.Listed.{dictionary_for};
 ghost use Rattle.arrow_body_reader.specs.Place.{buffers_in};
 
-use crate::held::Ranges;
+use crate::held::BufferRanges;
 use arrow_data::form::int_width;
 use arrow_data::layout::are_indices;
-use arrow_data::{Listed, NumberBuffers};
+use arrow_data::{DictionaryMap, NumberBuffers};
 use arrow_types::Encoding;
 
-// Whether the valid slots of a node with this encoding have their values; without a dictionary
-// there are none.
+/// Whether the valid slots of a node with this encoding have their values; without a dictionary
+/// there are none.
 pub(crate) fn have_values(
     encoding: Encoding,
     len: usize,
-    held: Ranges<'_>,
-    dictionaries: Listed<'_>,
+    held: BufferRanges<'_>,
+    dictionaries: DictionaryMap<'_>,
 ) -> bool
     requires count { 2 ≤ length held.ranges.now }
     requires inside { AllByRecursion (IsInside held.body.now) held.ranges.now }

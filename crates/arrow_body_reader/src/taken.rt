@@ -1,4 +1,4 @@
-//! What fields take of nodes and buffers.
+//! The nodes and buffers that fields take.
 
 ghost use Rattle.std.specs.Prelude.{◌≡◌, ◌≤◌, length, drop};
 ghost use Rattle.arrow_types.specs.View.{field_view, fields_view};
@@ -7,7 +7,7 @@ ghost use Rattle.arrow_body_reader.specs.Taken.{below};
 use arrow_data::SharedType;
 use arrow_types::{Buffer, Field, FieldNode};
 
-// Nodes and buffers that are left to be taken, and the types of these nodes where arrays are made.
+/// Nodes and buffers that are left to be taken, and the types of these nodes if arrays are made.
 #[derive(Clone, Copy)]
 pub(crate) struct Left<'a> {
     pub(crate) nodes: &'a [FieldNode],
@@ -15,7 +15,7 @@ pub(crate) struct Left<'a> {
     pub(crate) types: &'a [SharedType],
 }
 
-// The fields whose nodes and buffers follow those of the field.
+/// The fields whose nodes and buffers follow those of the field.
 #[inline(always)]
 pub(crate) fn below(field: &Field) -> &[Field]
     ensures { fields_view result.now
@@ -28,7 +28,7 @@ pub(crate) fn below(field: &Field) -> &[Field]
     }
 }
 
-// What is left after a node with so many buffers of its own.
+/// What is left after a node with that many own buffers.
 #[inline(always)]
 pub(crate) fn inside<'a>(own: usize, left: Left<'a>) -> Left<'a>
     requires node { 1 ≤ length left.nodes.now }
@@ -44,7 +44,7 @@ pub(crate) fn inside<'a>(own: usize, left: Left<'a>) -> Left<'a>
     }
 }
 
-// The types behind the first.
+/// The types after the first.
 #[inline(always)]
 fn without_first(types: &[SharedType]) -> &[SharedType]
     ensures { result.now ≡ drop 1 types.now }

@@ -7,13 +7,13 @@ ghost use Rattle.arrow_data.specs.Node.{IsInside};
 ghost use Rattle.arrow_data.specs.declared.form.Form.TheVariants as forms;
 ghost use Rattle.arrow_body_reader.specs.Place.{buffers_in};
 
-use crate::held::Ranges;
+use crate::held::BufferRanges;
 use arrow_data::StringBuffers;
 use arrow_data::form::OffsetWidth;
 use arrow_data::layout::are_texts;
 
-// Whether the valid slots of a node of texts are UTF-8.
-pub(crate) fn are_texts_in(width: OffsetWidth, len: usize, held: Ranges<'_>) -> bool
+/// Whether the valid slots of a node of texts are UTF-8.
+pub(crate) fn are_texts_in(width: OffsetWidth, len: usize, held: BufferRanges<'_>) -> bool
     requires count { 3 ≤ length held.ranges.now }
     requires inside { AllByRecursion (IsInside held.body.now) held.ranges.now }
     requires laid { HoldsSlots (forms.Texts width) len (buffers_in held) [] }

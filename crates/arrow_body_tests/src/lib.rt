@@ -1,5 +1,5 @@
 //! Tests of `arrow_body_reader` and `arrow_body_writer`: bodies that are columns, and bodies that
-//! are none, against answers that are written out.
+//! are not, compared with results that are written out.
 #![tactic(auto)]
 
 #[cfg(test)]

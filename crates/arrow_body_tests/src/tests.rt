@@ -1,4 +1,4 @@
-//! Bodies against answers that are written out: what no stream leads to.
+//! Bodies compared with results that are written out: cases that no stream leads to.
 
 mod bodies;
 mod calls;
@@ -7,5 +7,5 @@ mod decimals;
 mod fit;
 mod greatest;
 mod ids;
+mod reported;
 mod stored;
-mod told;

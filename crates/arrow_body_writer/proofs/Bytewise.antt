@@ -1,4 +1,4 @@
--- Eight bits more at once, packed.
+-- Eight more bits at once, packed.
 use Rattle.std.proofs.Common.{◌≡◌, ℕ, zero, suc, ◌+◌, ◌-◌, ◌*◌, ◌/◌, ◌%◌, ◌^◌, ◌<◌, Bool, true, false, cond, List, [], ◌∷◌, ◌++◌, length, take, drop, get_or, refl, ap, ◌∙◌, sym, subst, arith, append_assoc, length-append}
 use Rattle.std.specs.Prelude.{◌==◌}
 use Rattle.std.specs.Int.{bit_at}
@@ -13,11 +13,11 @@ use Rattle.arrow_body_writer.specs.Marks.{bits_from}
 use Rattle.arrow_body_writer.specs.Packing.{IsPacking}
 use Rattle.arrow_body_writer.proofs.Packs.{below_next, packed_more}
 
--- a product with twice a number
+-- the product with twice a number
 twice : (p n : ℕ) → 2 * p * n ≡ 2 * (p * n)
 twice p n = mul_assoc 2 p n
 
--- bits behind others weigh so much more
+-- bits that follow others: their number times the weight after the others is added
 number_both : (front bs : List Bool) → number_of_bits (front ++ bs) ≡ number_of_bits front + 2 ^ length front * number_of_bits bs
 number_both [] bs = omega arith
 number_both (b ∷ front) bs =
@@ -41,7 +41,7 @@ bit_number (b ∷ bits) zero = bit_at_lowest (cond b 1 0 + 2 * number_of_bits bi
 bit_number (b ∷ bits) (suc i) =
     bit_at-suc (cond b 1 0 + 2 * number_of_bits bits) i ∙ ap (λ n. bit_at n i) (others b (number_of_bits bits)) ∙ bit_number bits i
 
--- a bit is 1 where it is set
+-- a bit is 1 if it is set
 digit : (d : ℕ) → d < 2 → ◌≡◌ {A = ℕ} (cond (d == 1) 1 0) d
 digit zero h = refl
 digit (suc zero) h = refl
@@ -59,7 +59,7 @@ byte_bits bytes i small =
     ∙ digit (bit_at (get_or bytes i 0) k) (bit_at-lt (get_or bytes i 0) k) in
     (long, same_from_bits_below 8 (number_of_bits bits) (get_or bytes i 0) few (omega (arith, small)) each)
 
--- eight bits more: a byte is full, and as many bits are left as before
+-- eight more bits: one byte becomes full, and as many bits remain as before
 pub eight_more : (before : List ℕ) (was more : List Bool) (byte weight bits all : ℕ) (items : List ℕ) → length more ≡ 8 → number_of_bits more ≡ bits → all ≡ byte + bits * weight
     → IsPacking before was byte weight items → IsPacking before (was ++ more) (all / 256) weight (items ++ all % 256 ∷ [])
 eight_more before was more byte weight bits all items eight is sum p =

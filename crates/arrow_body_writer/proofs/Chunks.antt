@@ -22,14 +22,14 @@ use Rattle.arrow_body_writer.specs.declared.align.Align.TheVariants.{Eight, Sixt
 use Rattle.arrow_body_writer.specs.Part.{chunk_of, part_of}
 use Rattle.arrow_body_writer.specs.Storing.{Stores, body_view}
 use Rattle.arrow_body_writer.specs.declared.body.Body.{Body}
-use Rattle.arrow_body_writer.specs.declared.part.Part.{Part}
-use Rattle.arrow_body_writer.specs.declared.part.Part.TheVariants.{Validity}
+use Rattle.arrow_body_writer.specs.declared.part.BufferKind.{BufferKind}
+use Rattle.arrow_body_writer.specs.declared.part.BufferKind.TheVariants.{Validity}
 
-pub same_part : (p q : Part) → ◌≡◌ {A = Option Part} (Some p) (Some q) → p ≡ q
+pub same_part : (p q : BufferKind) → ◌≡◌ {A = Option BufferKind} (Some p) (Some q) → p ≡ q
 same_part p q e = cc
 
 -- buffer k is the one after the first k
-pub chunk_next : (form : Form) (k : ℕ) (vs : List PlainValue) (part : Part) → part_of form k ≡ Some part → take (k + 1) (own_chunks form vs) ≡ take k (own_chunks form vs) ++ chunk_of part vs ∷ []
+pub chunk_next : (form : Form) (k : ℕ) (vs : List PlainValue) (part : BufferKind) → part_of form k ≡ Some part → take (k + 1) (own_chunks form vs) ≡ take k (own_chunks form vs) ++ chunk_of part vs ∷ []
 chunk_next forms.Nulls k vs part e = cc
 chunk_next forms.Bits zero vs part e = ap (λ p. chunk_of p vs ∷ []) (same_part _ part e)
 chunk_next forms.Bits (suc zero) vs part e = ap (λ p. chunk_of Validity vs ∷ chunk_of p vs ∷ []) (same_part _ part e)
@@ -55,7 +55,7 @@ chunk_next (forms.Lists (lists.Fixed size)) (suc k) vs part e = cc
 chunk_next forms.Structs zero vs part e = ap (λ p. chunk_of p vs ∷ []) (same_part _ part e)
 chunk_next forms.Structs (suc k) vs part e = cc
 
--- there are no more
+-- there are no more buffers
 past : (form : Form) (k : ℕ) → part_of form k ≡ None → buffers_of form ≤ k
 past forms.Nulls k e = omega arith
 past forms.Bits zero e = cc
@@ -87,7 +87,7 @@ chunk_past form k vs e =
     let few = past form k e in
     take_all (k + 1) (own_chunks form vs) (omega (arith, few, own_long form vs)) ∙ sym (take_all k (own_chunks form vs) (omega (arith, few, own_long form vs)))
 
--- three are all
+-- a node has at most three buffers
 few_buffers : (form : Form) → buffers_of form ≤ 3
 few_buffers forms.Nulls = omega arith
 few_buffers forms.Bits = omega arith
@@ -102,7 +102,7 @@ few_buffers forms.Structs = omega arith
 pub all_chunks : (form : Form) (vs : List PlainValue) → take 3 (own_chunks form vs) ≡ own_chunks form vs
 all_chunks form vs = take_all 3 (own_chunks form vs) (omega (arith, few_buffers form, own_long form vs))
 
--- the places of further buffers
+-- the positions of further buffers
 places_more : (align from : ℕ) (xs ys : List (List ℕ)) → 0 < align → places_from align from (xs ++ ys) ≡ places_from align from xs ++ places_from align (from + length (flat_map (padded align) xs)) ys
 places_more align from [] ys some = let start : from ≡ from + 0 = omega arith in ap (λ n. places_from align n ys) start
 places_more align from (x ∷ xs) ys some =
@@ -111,7 +111,7 @@ places_more align from (x ∷ xs) ys some =
     ap (λ bs. record { offset = pos from; length = pos (length x) } ∷ bs) (places_more align (from + rounded align (length x)) xs ys some
     ∙ ap (λ n. places_from align (from + rounded align (length x)) xs ++ places_from align n ys) further)
 
--- nothing is added where nothing is done
+-- nothing is added if nothing is done
 pub stores_none : (align : ℕ) (b : Body) → Stores align [] [] b b
 stores_none align b = record { nodes_added = sym (append-nil b.nodes.items); buffers_added = sym (append-nil b.buffers.items); bytes_added = sym (append-nil b.bytes.items) }
 
@@ -128,12 +128,12 @@ stores_more align ns ms xs ys a b c some one other =
           ∙ ap (λ l. a.bytes.items ++ l) (sym (flat_map-append (padded align) xs ys));
     }
 
--- buffers are padded to some bytes
+-- buffers are padded to a positive number of bytes
 pub some_alignment : (a : Align) → 0 < alignment_of a
 some_alignment Eight = omega arith
 some_alignment SixtyFour = omega arith
 
--- of columns what is stored of the first stands before what is stored of the others
+-- for a list of columns, the stored nodes and buffers of the first column come before those of the others
 pub nodes_first : (c : Column) (cs : List Column) → stored_nodes (fields_of_columns (c ∷ cs)) (raws_of (c ∷ cs)) ≡ stored_nodes (fields_of_columns (c ∷ [])) (raws_of (c ∷ [])) ++ stored_nodes (fields_of_columns cs) (raws_of cs)
 nodes_first c cs =
     let below = stored_nodes c.data_type.children (raws_below (node_form c.data_type.tag c.encoding) c.data_type.children c.raw) in
@@ -151,7 +151,7 @@ chunks_first c cs =
 abbrev pub Leads : ℕ → List Column → (Body → Type 0) → Body → Type 0
 Leads align rest P b = (z : Body) → Stores align (stored_nodes (fields_of_columns rest) (raws_of rest)) (stored_chunks (fields_of_columns rest) (raws_of rest)) b z → P z
 
--- with one column more
+-- the same after one more column is stored
 pub leads_more : (align : ℕ) (c : Column) (cs : List Column) (P : Body → Type 0) (b d : Body) → 0 < align → Leads align (c ∷ cs) P b
     → Stores align (stored_nodes (fields_of_columns (c ∷ [])) (raws_of (c ∷ []))) (stored_chunks (fields_of_columns (c ∷ [])) (raws_of (c ∷ []))) b d → Leads align cs P d
 leads_more align c cs P b d some leads one = λ z others.
@@ -160,15 +160,15 @@ leads_more align c cs P b d some leads one = λ z others.
     leads z (subst (λ ns. Stores align ns (stored_chunks (fields_of_columns (c ∷ cs)) (raws_of (c ∷ cs))) b z) (sym (nodes_first c cs))
     (subst (λ xs. Stores align (stored_nodes (fields_of_columns (c ∷ [])) (raws_of (c ∷ [])) ++ stored_nodes (fields_of_columns cs) (raws_of cs)) xs b z) (sym (chunks_first c cs)) both))
 
--- after the last
+-- the same after the last column
 pub leads_out : (align : ℕ) (P : Body → Type 0) (b : Body) → Leads align [] P b → P b
 leads_out align P b leads = leads b (stores_none align b)
 
--- with the columns to come all are stored
+-- once the remaining columns are stored, all are
 abbrev pub StoresUpTo : ℕ → List Column → List Column → Body → Body → Type 0
 StoresUpTo align all rest old b = Leads align rest (Stores align (stored_nodes (fields_of_columns all) (raws_of all)) (stored_chunks (fields_of_columns all) (raws_of all)) old) b
 
--- what comes of an empty body to which columns were added
+-- the body that results when columns are added to an empty one
 pub stored_from : (align : ℕ) (cs : List Column) (b z : Body) → b.nodes.items ≡ [] → b.buffers.items ≡ [] → b.bytes.items ≡ []
     → Stores align (stored_nodes (fields_of_columns cs) (raws_of cs)) (stored_chunks (fields_of_columns cs) (raws_of cs)) b z → body_view z ≡ stored align (fields_of_columns cs) (raws_of cs)
 stored_from align cs b z no_nodes no_buffers no_bytes all =

@@ -10,15 +10,15 @@ use Rattle.arrow_body_laws.specs.Packed.{packed}
 use Rattle.arrow_body_laws.specs.Stored.{nulls_in, padded, rounded}
 use Rattle.arrow_body_writer.specs.Part.{chunk_of, part_bytes}
 use Rattle.arrow_body_writer.specs.Pass.{IsPassed, Takes}
-use Rattle.arrow_body_writer.specs.declared.part.Part.{Part}
-use Rattle.arrow_body_writer.specs.declared.part.Part.TheVariants.{Validity, Truths, Numbers, StringOffsets, ListOffsets, Strings, FixedBytes}
+use Rattle.arrow_body_writer.specs.declared.part.BufferKind.{BufferKind}
+use Rattle.arrow_body_writer.specs.declared.part.BufferKind.TheVariants.{Validity, Truths, Numbers, StringOffsets, ListOffsets, Strings, FixedBytes}
 use Rattle.arrow_body_writer.specs.declared.pass.Pass.{Pass}
 use Rattle.arrow_body_writer.specs.declared.pass.Pass.TheVariants.{Count}
 use Rattle.arrow_body_writer.proofs.OneMore.{sum_more}
 use Rattle.arrow_body_writer.specs.Tally.{Counts, CountsNull, IsTally, capped}
-use Rattle.arrow_body_writer.specs.declared.tally.Tally.{Tally}
+use Rattle.arrow_body_writer.specs.declared.tally.ByteTally.{ByteTally}
 
--- one value more
+-- one more value
 nulls_more : (vs : List PlainValue) (v : PlainValue) → nulls_in (vs ++ v ∷ []) ≡ nulls_in vs + cond (is_null_value v) 1 0
 nulls_more vs v = sum_more (λ x. cond (is_null_value x) 1 0) vs v
 
@@ -34,7 +34,7 @@ offset_more (forms.Lists (lists.Offsets w)) vs v = omega (arith, sum_more (λ x.
 offset_more (forms.Lists (lists.Fixed size)) vs v = refl
 offset_more forms.Structs vs v = refl
 
--- it does not go on under a null
+-- the offset does not advance under a null
 offset_null : (form : Form) → last_offset form (null_value ∷ []) ≡ 0
 offset_null forms.Nulls = refl
 offset_null forms.Bits = refl
@@ -47,7 +47,7 @@ offset_null (forms.Lists (lists.Fixed size)) = refl
 offset_null forms.Structs = refl
 
 -- a null is counted
-pub null_counted : (old new : Tally) → new.slots ≡ capped (old.slots + 1) → new.nulls ≡ capped (old.nulls + 1) → new.end ≡ old.end → CountsNull old new
+pub null_counted : (old new : ByteTally) → new.slots ≡ capped (old.slots + 1) → new.nulls ≡ capped (old.nulls + 1) → new.end ≡ old.end → CountsNull old new
 null_counted old new slots nulls end = λ form vs t. record {
   slots = omega (arith, slots, t.slots, length-append vs (null_value ∷ []));
   nulls = omega (arith, nulls, t.nulls, nulls_more vs null_value);
@@ -55,7 +55,7 @@ null_counted old new slots nulls end = λ form vs t. record {
 }
 
 -- a slot that is not null is counted
-pub slot_counted : (form : Form) (v : PlainValue) (old new : Tally) → is_null_value v ≡ false → new.slots ≡ capped (old.slots + 1) → new.nulls ≡ old.nulls
+pub slot_counted : (form : Form) (v : PlainValue) (old new : ByteTally) → is_null_value v ≡ false → new.slots ≡ capped (old.slots + 1) → new.nulls ≡ old.nulls
     → new.end ≡ capped (old.end + last_offset form (v ∷ [])) → Counts form (v ∷ []) old new
 slot_counted form v old new full slots nulls end = λ vs t. record {
   slots = omega (arith, slots, t.slots, length-append vs (v ∷ []));
@@ -63,12 +63,12 @@ slot_counted form v old new full slots nulls end = λ vs t. record {
   end = omega (arith, end, t.end, offset_more form vs v);
 }
 
--- no slots are counted where nothing is done
-pub counts_none : (form : Form) (t : Tally) → Counts form [] t t
+-- no slots are counted if nothing is done
+pub counts_none : (form : Form) (t : ByteTally) → Counts form [] t t
 counts_none form t = λ vs is. subst (λ all. IsTally form all t) (sym (append-nil vs)) is
 
 -- slots, and then others
-pub counts_more : (form : Form) (a b c : Tally) (vs ws : List PlainValue) → Counts form vs a b → Counts form ws b c → Counts form (vs ++ ws) a c
+pub counts_more : (form : Form) (a b c : ByteTally) (vs ws : List PlainValue) → Counts form vs a b → Counts form ws b c → Counts form (vs ++ ws) a c
 counts_more form a b c vs ws one other = λ before is. subst (λ all. IsTally form all c) (append_assoc before vs ws) (other (before ++ vs) (one before is))
 
 -- no slots are counted yet
@@ -86,15 +86,15 @@ no_tally form = record { slots = refl; nulls = refl; end = of_form form }
     of_form (forms.Lists (lists.Fixed size)) = refl
     of_form forms.Structs = refl
 
--- what was taken since is counted
-pub counted_all : (form : Form) (none new : Tally) (vs : List PlainValue) → none ≡ record { slots = 0; nulls = 0; end = 0 } → Counts form vs none new → IsTally form vs new
+-- the slots taken since then are counted
+pub counted_all : (form : Form) (none new : ByteTally) (vs : List PlainValue) → none ≡ record { slots = 0; nulls = 0; end = 0 } → Counts form vs none new → IsTally form vs new
 counted_all form none new vs empty counts = counts [] (subst (IsTally form []) (sym empty) (no_tally form))
 
-pub all_counted : (form : Form) (none : Tally) (new : Pass) (vs : List PlainValue) → none ≡ record { slots = 0; nulls = 0; end = 0 } → Takes (Count form none) new vs → IsPassed [] vs new
+pub all_counted : (form : Form) (none : ByteTally) (new : Pass) (vs : List PlainValue) → none ≡ record { slots = 0; nulls = 0; end = 0 } → Takes (Count form none) new vs → IsPassed [] vs new
 all_counted form none new vs empty taken = taken.added [] [] (subst (IsTally form []) (sym empty) (no_tally form))
 
--- the bytes that are sent of a buffer, where some slot is null or it is no validity
-pub chunk_is : (part : Part) (vs : List PlainValue) (nulls : ℕ) → nulls ≡ capped (nulls_in vs) → (nulls ≡ 0 → part ≡ Validity → ⊥) → chunk_of part vs ≡ part_bytes part vs
+-- the bytes that are sent for a buffer, if some slot is null or the buffer is not a validity buffer
+pub chunk_is : (part : BufferKind) (vs : List PlainValue) (nulls : ℕ) → nulls ≡ capped (nulls_in vs) → (nulls ≡ 0 → part ≡ Validity → ⊥) → chunk_of part vs ≡ part_bytes part vs
 chunk_is Validity vs nulls counted some =
     let others : 0 < nulls_in vs = positive (nulls_in vs) (λ e. some (omega (arith, counted, e)) refl) in
     ap (λ b. if b then [] else packed (map (λ v. not (is_null_value v)) vs)) (not_zero (nulls_in vs) others)

@@ -1,10 +1,10 @@
--- How many nodes stand below a field.
+-- The number of nodes below a field.
 use Rattle.std.proofs.Common.{◌≡◌, ℕ, sym, subst, Option, None, Some}
 use Rattle.arrow_types.specs.declared.field.Encoding.{Encoding}
 use Rattle.arrow_body_reader.specs.Taken.{IfFlattened, flattened}
 use Rattle.arrow_body_writer.specs.Tally.{capped}
 
--- what is counted below a field, and known of what stands there
+-- the count of the nodes below a field, and what is known of them
 pub record IsBelow (e : Option Encoding) (n below : ℕ) (P : Type 0) : Type 0 where
   pub count : below ≡ capped (flattened e n)
   pub known : IfFlattened e P

@@ -1,4 +1,4 @@
--- The buffers of nodes of which no slot is null.
+-- The buffers of nodes without null slots.
 use Rattle.std.proofs.Common.{◌≡◌, ◌<◌, ℕ, List, [], ◌∷◌, ◌++◌, length, append-nil, refl, sym, ap, ◌∙◌, subst, arith, if◌then◌else◌, map, not}
 use Rattle.std.specs.Prelude.{nat_eq, pos}
 use Rattle.std.specs.List.{AllByRecursion, flat_map}
@@ -24,17 +24,17 @@ no_nulls c full =
     subst (λ vs. nulls_in vs ≡ 0) (all_from c.raw (length c.raw) refl)
     (none_null (values_from c.raw 0 (length c.raw)) (none_of c 0 (length c.raw) (omega arith) full))
 
--- so nothing is sent of their validity
+-- so no bytes are sent for their validity
 no_validity : (vs : List PlainValue) → nulls_in vs ≡ 0 → [] ≡ validity_bytes vs
 no_validity vs none = sym (ap (λ n. if nat_eq n 0 then [] else packed (map (λ v. not (is_null_value v)) vs)) none)
 
--- of structs there is no other buffer
+-- structs have no other buffer
 pub full_structs : (c : Column) (form : Form) → form ≡ node_form c.data_type.tag c.encoding → form ≡ forms.Structs → AreFull c 0 (length c.raw)
     → [] ∷ [] ≡ own_chunks (node_form c.data_type.tag c.encoding) c.raw
 full_structs c form own is full =
     ap (λ bytes. bytes ∷ []) (no_validity c.raw (no_nulls c full)) ∙ ap (λ f. own_chunks f c.raw) (sym is ∙ own)
 
--- and of numbers the bytes in which they lie
+-- numbers have the buffer of bytes that they occupy in the array
 pub full_numbers : (c : Column) (form : Form) (number : NumberForm) (slots : ℕ) (bytes : List ℕ) → IsColumn c → form ≡ node_form c.data_type.tag c.encoding → form ≡ forms.Numbers number
     → AreFull c 0 (length c.raw) → slots ≡ length c.raw → bytes ≡ flat_map (value_bytes (node_form c.data_type.tag c.encoding)) (values_from c.raw 0 slots)
     → [] ∷ bytes ∷ [] ≡ own_chunks (node_form c.data_type.tag c.encoding) c.raw
@@ -48,7 +48,7 @@ full_numbers c form number slots bytes known own is full many are =
     let empty = no_validity (values_from c.raw 0 (length c.raw)) (none_null (values_from c.raw 0 (length c.raw)) (none_of c 0 (length c.raw) (omega arith) full)) in
     (λ i. empty i ∷ values i ∷ []) ∙ sent ∙ ap (λ f. own_chunks f c.raw) (sym numbers)
 
--- the node stands there, and the buffer of its validity after it
+-- the node is appended, and after it the buffer of its validity
 pub full_stored : (align : ℕ) (c : Column) (node : FieldNode) (old mid new : Body) → 0 < align → AreFull c 0 (length c.raw) → node ≡ record { length = pos (length c.raw); null_count = pos 0 }
     → mid.nodes.items ≡ old.nodes.items ++ (node ∷ []) → mid.buffers.items ≡ old.buffers.items → mid.bytes.items ≡ old.bytes.items
     → Stores align [] ([] ∷ []) mid new → Stores align (own_node c.raw ∷ []) ([] ∷ []) old new

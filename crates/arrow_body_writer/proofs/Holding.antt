@@ -1,4 +1,4 @@
--- Byte strings, texts and lists as they lie between their offsets.
+-- Byte strings, texts and lists between their offsets.
 use Rattle.std.proofs.Common.{◌≡◌, ℕ, ◌<◌, Bool, true, false, List, [], length, refl, ap, ◌∙◌, sym, subst}
 use Rattle.std.specs.Prelude.{if◌then◌else◌}
 use Rattle.arrow_data.specs.Layout.{HasLists, HasStrings}
@@ -16,7 +16,7 @@ given : {A : Type 0} (give : PlainValue → List A) (valid : Bool) (value : Plai
 given give true value part is none = is
 given give false value part is none = none
 
--- values of buffers that are these
+-- values of exactly these buffers
 of_buffers : {A : Type 0} (width : OffsetWidth) (validity offsets : List ℕ) (all : List A) (give : PlainValue → List A) (raw : List PlainValue) (o : Offsets) → AreOf width validity offsets o
     → HasBits (length raw) validity → HasOffsets width (length raw) (length all) offsets
     → ((j : ℕ) → j < length raw → give (value_at raw j) ≡ (if is_valid_at validity j then range_of width offsets all j else [])) → AreHeld o all give raw

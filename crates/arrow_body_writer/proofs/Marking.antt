@@ -22,17 +22,17 @@ use Rattle.arrow_body_writer.specs.Marks.{AreMarked, bits_from, validity_of}
 use Rattle.arrow_body_writer.specs.Packing.{IsPacking}
 use Rattle.arrow_body_writer.specs.Part.{IsWritten}
 use Rattle.arrow_body_writer.specs.Tally.{Counts, capped}
-use Rattle.arrow_body_writer.specs.declared.part.Part.{Part}
-use Rattle.arrow_body_writer.specs.declared.part.Part.TheVariants.{Validity}
-use Rattle.arrow_body_writer.specs.declared.tally.Tally.{Tally}
+use Rattle.arrow_body_writer.specs.declared.part.BufferKind.{BufferKind}
+use Rattle.arrow_body_writer.specs.declared.part.BufferKind.TheVariants.{Validity}
+use Rattle.arrow_body_writer.specs.declared.tally.ByteTally.{ByteTally}
 use Rattle.arrow_body_writer.specs.declared.writing.Writing.{Writing}
 
--- a slot is not null where it is valid
+-- a slot is not null if it is valid
 valid_by : (valid : Bool) (payload : PlainValue) → is_null_value payload ≡ false → not (is_null_value (if valid then payload else null_value)) ≡ valid
 valid_by true payload full = ap not full
 valid_by false payload full = refl
 
--- slots that are null where their bit is 0 are marked by these bits
+-- the bits mark the slots if exactly those slots are null whose bit is 0
 marks : (raw : List PlainValue) (bits : List ℕ) (payload : ℕ → PlainValue) → HasBits (length raw) bits → ((j : ℕ) → is_null_value (payload j) ≡ false)
     → ((j : ℕ) → j < length raw → value_at raw j ≡ or_null bits j (payload j)) → 0 < length bits → AreMarked raw bits
 marks raw bits payload has full are some = record {
@@ -40,12 +40,12 @@ marks raw bits payload has full are some = record {
   same = λ j h. ap (λ v. not (is_null_value v)) (are j h) ∙ valid_by (is_valid_at bits j) (payload j) (full j) ∙ ap (λ b. b || bit_of bits j) (not_zero (length bits) some);
 }
 
--- a bitmap that is there marks the slots
+-- a bitmap, if there is one, marks the slots
 abbrev pub IfMarked : List PlainValue → Option (List ℕ) → Type 0
 IfMarked raw None = ⊤
 IfMarked raw (Some bits) = 0 < length bits → AreMarked raw bits
 
--- so does that of an array
+-- the bitmap of an array does
 pub marked : (c : Column) (b : Buffers) → AreBuffersOf c b → IfMarked c.raw (validity_of b)
 marked c buffers.Nulls h = tt
 marked c (buffers.Bools validity values) h = marks c.raw validity.now _ h.1.bits (λ j. refl) h.2
@@ -57,7 +57,7 @@ marked c (buffers.Lists list validity offsets child) h = marks c.raw validity.no
 marked c (buffers.Structs validity children) h = marks c.raw validity.now _ h.1 (λ j. refl) h.3
 marked c (buffers.Indices of dictionary) h = marks c.raw of.validity.now _ h.1.bits (λ j. refl) h.5
 
--- what a function gives of numbers, and of those after them
+-- a function mapped over a range of numbers, and over the numbers after them
 range_both : {A : Type 0} (f : ℕ → A) (a m n : ℕ) → map f (range_with_len a (m + n)) ≡ map f (range_with_len a m) ++ map f (range_with_len (a + m) n)
 range_both f a zero n =
     let none : zero + n ≡ n = omega arith in
@@ -69,7 +69,7 @@ range_both f a (suc m) n =
     ap (λ k. map f (range_with_len a k)) more
     ∙ ap (λ xs. f a ∷ xs) (range_both f (a + 1) m n ∙ ap (λ k. map f (range_with_len (a + 1) m) ++ map f (range_with_len k n)) there)
 
--- a range of bits, and the one after it
+-- a range of bits, and the one that follows it
 pub bits_both : (bytes : List ℕ) (start i stop : ℕ) → start ≤ i → i ≤ stop → bits_from bytes start stop ≡ bits_from bytes start i ++ bits_from bytes i stop
 bits_both bytes start i stop low high =
     let count : stop - start ≡ (i - start) + (stop - i) = omega (arith, low, high) in
@@ -77,7 +77,7 @@ bits_both bytes start i stop low high =
     ap (λ n. map (bit_of bytes) (range_with_len start n)) count ∙ range_both (bit_of bytes) start (i - start) (stop - i)
     ∙ ap (λ k. bits_from bytes start i ++ map (bit_of bytes) (range_with_len k (stop - i))) place
 
--- three ranges of bits, one behind another
+-- three consecutive ranges of bits
 pub bits_three : (bytes : List ℕ) (start first last stop : ℕ) (was : List Bool) → start ≤ first → first ≤ last → last ≤ stop
     → ((was ++ bits_from bytes start first) ++ bits_from bytes first last) ++ bits_from bytes last stop ≡ was ++ bits_from bytes start stop
 bits_three bytes start first last stop was low middle high =
@@ -95,7 +95,7 @@ bits_one bytes i = let one : i + 1 - i ≡ 1 = omega arith in ap (λ n. map (bit
 pub bits_none : (bytes : List ℕ) (i : ℕ) → bits_from bytes i i ≡ []
 bits_none bytes i = let none : i - i ≡ 0 = omega arith in ap (λ n. map (bit_of bytes) (range_with_len i n)) none
 
--- one bit more
+-- one more bit
 pub bits_next : (bytes : List ℕ) (start i : ℕ) → start ≤ i → bits_from bytes start (i + 1) ≡ bits_from bytes start i ++ bit_of bytes i ∷ []
 bits_next bytes start i low = bits_both bytes start i (i + 1) low (omega arith) ∙ ap (λ bs. bits_from bytes start i ++ bs) (bits_one bytes i)
 
@@ -127,7 +127,7 @@ null_bit : (b : Bool) → ◌≡◌ {A = ℕ} (cond b 1 0) (cond (not (not b)) 1
 null_bit true = refl
 null_bit false = refl
 
--- as many slots are null as bits are 0
+-- the number of null slots is the number of zero bits
 nulls_by : (vs : List PlainValue) → nulls_in vs ≡ count_by not (map (λ v. not (is_null_value v)) vs)
 nulls_by [] = refl
 nulls_by (v ∷ vs) =
@@ -139,22 +139,22 @@ pub nulls_are : (raw : List PlainValue) (bits : List ℕ) (start stop : ℕ) →
     → nulls_in (values_from raw start stop) ≡ count_by not (bits_from bits start stop)
 nulls_are raw bits start stop are order inside = nulls_by (values_from raw start stop) ∙ ap (count_by not) (marks_are raw bits start stop are order inside)
 
--- a bit behind the first bytes
-bit_behind : (bytes : List ℕ) (first j : ℕ) → bit_of (drop first bytes) j ≡ bit_of bytes (8 * first + j)
-bit_behind bytes first j =
+-- a bit after the first bytes
+bit_after : (bytes : List ℕ) (first j : ℕ) → bit_of (drop first bytes) j ≡ bit_of bytes (8 * first + j)
+bit_after bytes first j =
     let own : j ≡ 8 * (j / 8) + j % 8 = omega arith in
     let there : 8 * (first + j / 8) + j % 8 ≡ 8 * first + j = omega arith in
     ap (bit_of (drop first bytes)) own ∙ bit_in_byte (drop first bytes) (j / 8) (j % 8) (omega arith)
     ∙ ap (λ b. (b / 2 ^ (j % 8) % 2) == 1) (get_or-drop first bytes (j / 8) 0)
     ∙ sym (bit_in_byte bytes (first + j / 8) (j % 8) (omega arith)) ∙ ap (bit_of bytes) there
 
-bits_behind : (bytes : List ℕ) (first a n : ℕ) → map (bit_of (drop first bytes)) (range_with_len a n) ≡ map (bit_of bytes) (range_with_len (8 * first + a) n)
-bits_behind bytes first a zero = refl
-bits_behind bytes first a (suc n) =
+bits_after : (bytes : List ℕ) (first a n : ℕ) → map (bit_of (drop first bytes)) (range_with_len a n) ≡ map (bit_of bytes) (range_with_len (8 * first + a) n)
+bits_after bytes first a zero = refl
+bits_after bytes first a (suc n) =
     let next : 8 * first + (a + 1) ≡ 8 * first + a + 1 = omega arith in
-    λ i. bit_behind bytes first a i ∷ (bits_behind bytes first (a + 1) n ∙ ap (λ k. map (bit_of bytes) (range_with_len k n)) next) i
+    λ i. bit_after bytes first a i ∷ (bits_after bytes first (a + 1) n ∙ ap (λ k. map (bit_of bytes) (range_with_len k n)) next) i
 
--- the zeros of a range are those up to its end without those before it
+-- the zeros of a range are those up to its end minus those before it
 pub zeros_between : (bytes : List ℕ) (start stop : ℕ) → start ≤ stop
     → count_by not (bits_of (stop - 8 * (start / 8)) (drop (start / 8) bytes)) ≡ count_by not (bits_of (start % 8) (drop (start / 8) bytes)) + count_by not (bits_from bytes start stop)
 zeros_between bytes start stop order =
@@ -166,16 +166,16 @@ zeros_between bytes start stop order =
     let place : 8 * first + before ≡ start = omega arith in
     let both : bits_of (before + (stop - start)) rest ≡ bits_of before rest ++ bits_from bytes start stop =
     range_both (bit_of rest) 0 before (stop - start)
-    ∙ ap (λ bs. bits_of before rest ++ bs) (ap (λ k. map (bit_of rest) (range_with_len k (stop - start))) none ∙ bits_behind bytes first before (stop - start) ∙ ap (λ k. map (bit_of bytes) (range_with_len k (stop - start))) place) in
+    ∙ ap (λ bs. bits_of before rest ++ bs) (ap (λ k. map (bit_of rest) (range_with_len k (stop - start))) none ∙ bits_after bytes first before (stop - start) ∙ ap (λ k. map (bit_of bytes) (range_with_len k (stop - start))) place) in
     ap (λ n. count_by not (bits_of n rest)) count ∙ ap (count_by not) both
     ∙ sum_by-append (λ (b : Bool). cond (not b) 1 0) (bits_of before rest) (bits_from bytes start stop)
 
--- the part of bytes behind the first ones is all the rest
+-- the bytes after the first ones are all of the remaining bytes
 pub rest_of_bytes : (bytes : List ℕ) (first : ℕ) → take (length bytes - first) (drop first bytes) ≡ drop first bytes
 rest_of_bytes bytes first = take_all (length bytes - first) (drop first bytes) (omega (arith, length-drop first bytes))
 
--- slots are counted by their bits and by what their offsets go on
-pub marked_counted : (form : Form) (vs : List PlainValue) (old new : Tally) → new.slots ≡ capped (old.slots + length vs) → new.nulls ≡ capped (old.nulls + nulls_in vs)
+-- slots are counted by their bits and by how far their offsets advance
+pub marked_counted : (form : Form) (vs : List PlainValue) (old new : ByteTally) → new.slots ≡ capped (old.slots + length vs) → new.nulls ≡ capped (old.nulls + nulls_in vs)
     → new.end ≡ capped (old.end + last_offset form vs) → Counts form vs old new
 marked_counted form vs old new slots nulls end = λ before t. record {
   slots = omega (arith, slots, t.slots, length-append before vs);
@@ -183,8 +183,8 @@ marked_counted form vs old new slots nulls end = λ before t. record {
   end = omega (arith, end, t.end, offsets_more form before vs);
 }
 
--- the bits of slots are added to a buffer of validity
-pub bits_written : (part : Part) (old new : Writing) (raw : List PlainValue) (bits : List ℕ) (start stop : ℕ) → part ≡ Validity → AreMarked raw bits → start ≤ stop → stop ≤ length raw
+-- the bits of slots are added to a validity buffer
+pub bits_written : (part : BufferKind) (old new : Writing) (raw : List PlainValue) (bits : List ℕ) (start stop : ℕ) → part ≡ Validity → AreMarked raw bits → start ≤ stop → stop ≤ length raw
     → ((before : List ℕ) (was : List Bool) → IsPacking before was old.pending.byte old.pending.weight old.out.items
     → IsPacking before (was ++ bits_from bits start stop) new.pending.byte new.pending.weight new.out.items)
     → (before : List ℕ) (vs : List PlainValue) → IsWritten part before vs old → IsWritten part before (vs ++ values_from raw start stop) new

@@ -1,4 +1,4 @@
--- Slots of a child of structs that has no null of its own, by the bitmap of the structs.
+-- Slots of a child of structs, where the child has no null of its own, by the bitmap of the structs.
 use Rattle.std.proofs.Common.{◌≡◌, ◌≤◌, ◌<◌, ℕ, ◌-◌, ◌*◌, Bool, true, false, not, List, ◌++◌, length, map, take, drop, refl, sym, ap, ◌∙◌, subst, arith}
 use Rattle.std.proofs.lemmas.List.{drop-map, get_or-map, length-map, take-map}
 use Rattle.std.proofs.Math.Nat.{mul-le-mul_left}
@@ -13,11 +13,11 @@ use Rattle.arrow_body_writer.specs.Marks.{AreMarked, AreMasked, AreNumbered, Has
 use Rattle.arrow_body_writer.specs.Part.{IsWritten, Puts}
 use Rattle.arrow_body_writer.specs.Pass.{Takes}
 use Rattle.arrow_body_writer.specs.Tally.{Counts, IsTally}
-use Rattle.arrow_body_writer.specs.declared.masked.Masked.{Masked}
-use Rattle.arrow_body_writer.specs.declared.part.Part.{Part}
+use Rattle.arrow_body_writer.specs.declared.masked.NullMasked.{NullMasked}
+use Rattle.arrow_body_writer.specs.declared.part.BufferKind.{BufferKind}
 use Rattle.arrow_body_writer.specs.declared.pass.Pass.{Pass}
 use Rattle.arrow_body_writer.specs.declared.pass.Pass.TheVariants.{Count, Put}
-use Rattle.arrow_body_writer.specs.declared.tally.Tally.{Tally}
+use Rattle.arrow_body_writer.specs.declared.tally.ByteTally.{ByteTally}
 use Rattle.arrow_body_writer.specs.declared.writing.Writing.{Writing}
 
 -- the values of a field in some of the structs
@@ -32,7 +32,7 @@ module _ (c child : Column) (k : ℕ) (field : HasField c k child) (full : AreFu
   field_at : (j : ℕ) → j < length c.raw → value_at fields j ≡ field_value k (value_at c.raw j)
   field_at j h = get_or-map (field_value k) c.raw j null_value null_value h
 
-  -- which is null where the struct is
+  -- which is null if the struct is
   alike : (j : ℕ) → j < length c.raw → (null : Bool) → is_null_value (value_at c.raw j) ≡ null → is_null_value (field_value k (value_at c.raw j)) ≡ null
   alike j h true is = ap (λ v. is_null_value (field_value k v)) (null_of (value_at c.raw j) is)
   alike j h false is = ap is_null_value (field.same j h is).0 ∙ full j (omega arith) (omega (arith, h, field.longer))
@@ -40,7 +40,7 @@ module _ (c child : Column) (k : ℕ) (field : HasField c k child) (full : AreFu
   null_alike : (j : ℕ) → j < length c.raw → is_null_value (value_at fields j) ≡ is_null_value (value_at c.raw j)
   null_alike j h = ap is_null_value (field_at j h) ∙ alike j h (is_null_value (value_at c.raw j)) refl
 
-  -- so the bitmap of the structs is that of the field
+  -- so the bitmap of the structs is the bitmap of the field
   pub masked_field : (bits : List ℕ) → AreMarked c.raw bits → AreMasked child.raw fields bits
   masked_field bits marked =
       let long = length-map c.raw (field_value k) in
@@ -53,8 +53,8 @@ module _ (c child : Column) (k : ℕ) (field : HasField c k child) (full : AreFu
         same = λ j h some. let inside : j < length c.raw = omega (arith, h, long) in field_at j inside ∙ (field.same j inside (sym (null_alike j inside) ∙ some)).0;
       }
 
--- the numbers of such slots are those of the child
-pub masked_numbers : (n : Masked) (own raw : List PlainValue) → AreMasked own raw n.bits.now → AreNumbered n.width own n.values.now → HasNumbers n raw
+-- the numbers of such slots are the numbers of the child
+pub masked_numbers : (n : NullMasked) (own raw : List PlainValue) → AreMasked own raw n.bits.now → AreNumbered n.width own n.values.now → HasNumbers n raw
 masked_numbers n own raw masked numbered = record {
   marks = masked.marks;
   numbers = record {
@@ -65,7 +65,7 @@ masked_numbers n own raw masked numbered = record {
   };
 }
 
--- as many values of a field as structs
+-- there are as many values of a field as structs
 pub as_many_fields : (k : ℕ) (raw : List PlainValue) (stop : ℕ) → stop ≤ length raw → stop ≤ length (map (field_value k) raw)
 as_many_fields k raw stop inside = omega (arith, inside, length-map raw (field_value k))
 
@@ -74,13 +74,13 @@ pub bits_inside : (own raw : List PlainValue) (bits : List ℕ) (k stop : ℕ) �
 bits_inside own raw bits k stop masked inside = omega (arith, as_many_fields k raw stop inside, masked.marks.long)
 
 -- values that are counted or written are taken
-pub counts_masked : (p : Pass) (form : Form) (old new : Tally) (k : ℕ) (raw : List PlainValue) (start stop : ℕ) → p ≡ Count form old → Counts form (values_from (map (field_value k) raw) start stop) old new
+pub counts_masked : (p : Pass) (form : Form) (old new : ByteTally) (k : ℕ) (raw : List PlainValue) (start stop : ℕ) → p ≡ Count form old → Counts form (values_from (map (field_value k) raw) start stop) old new
     → Takes p (Count form new) (map (field_value k) (values_from raw start stop))
 counts_masked p form old new k raw start stop is counts =
     subst (λ q. Takes q (Count form new) (map (field_value k) (values_from raw start stop))) (sym is)
     (record { kept = refl; same = refl; added = λ before was passed. subst (λ vs. IsTally form (was ++ vs) new) (sym (field_range k raw start stop)) (counts was passed) })
 
-pub puts_masked : (p : Pass) (part : Part) (old new : Writing) (k : ℕ) (raw : List PlainValue) (start stop : ℕ) → p ≡ Put part old → Puts part (values_from (map (field_value k) raw) start stop) old new
+pub puts_masked : (p : Pass) (part : BufferKind) (old new : Writing) (k : ℕ) (raw : List PlainValue) (start stop : ℕ) → p ≡ Put part old → Puts part (values_from (map (field_value k) raw) start stop) old new
     → Takes p (Put part new) (map (field_value k) (values_from raw start stop))
 puts_masked p part old new k raw start stop is puts =
     subst (λ q. Takes q (Put part new) (map (field_value k) (values_from raw start stop))) (sym is)

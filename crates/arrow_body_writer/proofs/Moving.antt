@@ -1,4 +1,4 @@
--- Numbers to each of which as much is added.
+-- Numbers with the same amount added to each.
 use Rattle.std.proofs.Common.{◌≡◌, ℕ, zero, suc, ◌+◌, ◌-◌, ◌*◌, ◌/◌, ◌%◌, ◌^◌, ◌<◌, ◌≤◌, List, [], ◌∷◌, ◌++◌, length, take, drop, get_or, refl, ap, ◌∙◌, sym, subst, arith, append_assoc, append-nil, length-append}
 use Rattle.std.specs.Int.{bytes_low_first}
 use Rattle.std.proofs.Math.Nat.{mul-suc}
@@ -15,14 +15,14 @@ use Rattle.arrow_data.specs.Form.{offset_bytes}
 use Rattle.arrow_data.specs.Slots.{place_of}
 use Rattle.arrow_data.specs.declared.form.OffsetWidth.{OffsetWidth}
 use Rattle.arrow_body_writer.specs.Spans.{PutsMoved, moved}
-use Rattle.arrow_body_writer.specs.declared.spans.Spans.{Spans}
+use Rattle.arrow_body_writer.specs.declared.spans.OffsetRun.{OffsetRun}
 
 -- a number has as many bytes as its width
 length_number : (w n : ℕ) → length (number_bytes w n) ≡ w
 length_number zero n = refl
 length_number (suc w) n = ap suc (length_number w (n / 256))
 
--- n numbers have so many
+-- n numbers have `w * n` bytes
 pub moved_long : (w by n : ℕ) (bytes : List ℕ) → length (moved w by n bytes) ≡ w * n
 moved_long w by zero bytes = omega arith
 moved_long w by (suc n) bytes =
@@ -48,27 +48,27 @@ low_eight n =
     let seven : n / 256 ^ 7 % 256 ≡ n / 256 / 256 / 256 / 256 / 256 / 256 / 256 % 256 = omega arith in
     λ i. n % 256 ∷ one i ∷ two i ∷ three i ∷ four i ∷ five i ∷ six i ∷ seven i ∷ []
 
--- the numbers up to one are moved, and behind them are the others as they were
+-- the numbers before index k are increased, and the numbers after them are unchanged
 abbrev pub MovedTo : ℕ → ℕ → ℕ → List ℕ → List ℕ
 MovedTo w by k bytes = moved w by k bytes ++ drop (w * k) bytes
 
--- what stands behind them
-pub behind : (w by k : ℕ) (old now : List ℕ) → now ≡ MovedTo w by k old → drop (w * k) now ≡ drop (w * k) old
-behind w by k old now is =
+-- the bytes after those numbers
+pub after : (w by k : ℕ) (old now : List ℕ) → now ≡ MovedTo w by k old → drop (w * k) now ≡ drop (w * k) old
+after w by k old now is =
     let front = moved w by k old in
     (λ i. drop (sym (moved_long w by k old) i) (is i)) ∙ drop-append_seam front (drop (w * k) old)
 
 -- so the next number is as it was
 pub same_number : (w by k : ℕ) (old now : List ℕ) → now ≡ MovedTo w by k old → number_at now (w * k) w ≡ number_at old (w * k) w
 unfolding number_at
-same_number w by k old now is = ap (λ bytes. number_of (take w bytes)) (behind w by k old now is)
+same_number w by k old now is = ap (λ bytes. number_of (take w bytes)) (after w by k old now is)
 
 -- there are as many bytes as before
 pub moved_to_long : (w by k : ℕ) (old : List ℕ) → w * k ≤ length old → length (MovedTo w by k old) ≡ length old
 moved_to_long w by k old inside =
     omega (arith, length-append (moved w by k old) (drop (w * k) old), moved_long w by k old, length-drop (w * k) old, inside)
 
--- and is written anew
+-- the next number is increased and written back
 pub one_more : (w by k : ℕ) (old now written : List ℕ) → w * k + w ≤ length old → length now ≡ length old → now ≡ MovedTo w by k old
     → written ≡ number_bytes w ((number_at old (w * k) w + by) % 2 ^ (8 * w)) ++ drop w (take (length now - w * k) (drop (w * k) now))
     → put_mid (w * k) (length now - w * k) now written ≡ MovedTo w by (k + 1) old
@@ -77,7 +77,7 @@ one_more w by k old now written inside long is more =
     let new = number_bytes w ((number_at old (w * k) w + by) % 2 ^ (8 * w)) in
     let first : take (w * k) now ≡ front = (λ i. take (sym (moved_long w by k old) i) (is i)) ∙ take-append_seam front (drop (w * k) old) in
     let all : take (length now - w * k) (drop (w * k) now) ≡ drop (w * k) old =
-    take_all (length now - w * k) (drop (w * k) now) (omega (arith, length-drop (w * k) now)) ∙ behind w by k old now is in
+    take_all (length now - w * k) (drop (w * k) now) (omega (arith, length-drop (w * k) now)) ∙ after w by k old now is in
     let next : w * k + w ≡ w * (k + 1) = omega (arith, mul-suc w k) in
     let rest : drop w (take (length now - w * k) (drop (w * k) now)) ≡ drop (w * (k + 1)) old = ap (drop w) all ∙ drop-drop w (w * k) old ∙ ap (λ n. drop n old) next in
     let none : drop (length now - w * k) (drop (w * k) now) ≡ [] = drop_all (length now - w * k) (drop (w * k) now) (omega (arith, length-drop (w * k) now)) in
@@ -87,7 +87,7 @@ one_more w by k old now written inside long is more =
     ∙ sym (append_assoc front new (drop (w * (k + 1)) old))
     ∙ ap (λ n. moved w by n old ++ drop (w * (k + 1)) old) (sym one)
 
--- a number below another is what is left of it
+-- a number below the modulus is its own remainder
 below_top : (n m : ℕ) → n < m → (n + 0) % m ≡ n
 below_top n m h = let none : n + 0 ≡ 0 * m + n = omega arith in ap (λ k. k % m) none ∙ mod-mul-add 0 m n h
 
@@ -103,8 +103,8 @@ moved_none w (suc n) bytes small inside =
     (λ i. moved_none w n bytes small (omega (arith, here)) i ++ (ap (number_bytes w) same ∙ number_again_at w bytes (w * n) small here) i)
     ∙ sym (take-add (w * n) w bytes) ∙ ap (λ m. take m bytes) (sym next)
 
--- so are offsets of either width
-pub puts_moved : (s : Spans) (width : OffsetWidth) (by end : ℕ) (old new : List ℕ) → s.width ≡ width
+-- so the offsets of either width are added
+pub puts_moved : (s : OffsetRun) (width : OffsetWidth) (by end : ℕ) (old new : List ℕ) → s.width ≡ width
     → (place_of width s.offsets.now s.start + by) % 2 ^ (8 * offset_bytes width) ≡ end % 2 ^ (8 * offset_bytes width)
     → new ≡ old ++ moved (offset_bytes width) by (s.stop - s.start) (slice_range s.offsets.now (offset_bytes width * (s.start + 1)) (offset_bytes width * (s.stop + 1)))
     → PutsMoved s end old new

@@ -1,4 +1,4 @@
--- Numbers copied with what stands under nulls, which is then cleared.
+-- Numbers copied together with the bytes under nulls, which are then cleared.
 use Rattle.std.proofs.Common.{◌≡◌, ℕ, zero, suc, ◌+◌, ◌-◌, ◌*◌, ◌<◌, ◌≤◌, Bool, true, false, List, [], ◌∷◌, ◌++◌, length, map, take, drop, get_or, refl, ap, ◌∙◌, sym, subst, arith, append_assoc, append-nil, length-append, not}
 use Rattle.std.specs.Prelude.{slice_range, replicate}
 use Rattle.std.specs.List.{flat_map}
@@ -28,16 +28,16 @@ use Rattle.arrow_body_writer.proofs.Ranges.{from_both, none_from, null_next}
 use Rattle.arrow_body_writer.proofs.Running.{pieces_written}
 use Rattle.arrow_body_writer.specs.Marks.{AreNumbered, HasNumbers}
 use Rattle.arrow_body_writer.specs.Part.{IsWritten}
-use Rattle.arrow_body_writer.specs.declared.masked.Masked.{Masked}
-use Rattle.arrow_body_writer.specs.declared.part.Part.{Part}
-use Rattle.arrow_body_writer.specs.declared.part.Part.TheVariants.{Numbers}
+use Rattle.arrow_body_writer.specs.declared.masked.NullMasked.{NullMasked}
+use Rattle.arrow_body_writer.specs.declared.part.BufferKind.{BufferKind}
+use Rattle.arrow_body_writer.specs.declared.part.BufferKind.TheVariants.{Numbers}
 use Rattle.arrow_body_writer.specs.declared.writing.Writing.{Writing}
 
--- the place of the next number
+-- the byte offset of the next number
 pub next_place : (w j : ℕ) → w * (j + 1) ≡ w * j + w
 next_place w j = omega (arith, mul-suc w j)
 
--- the numbers of an array stand in its buffer
+-- the numbers of an array are in its buffer
 numbers_held : (c : Column) (w : ℕ) (signed : Bool) (validity values : List ℕ) → IsIntWidth w signed → HasFixed (length c.raw) w validity values → AreRaw c (int_slot w signed validity values)
     → ((k : ℕ) → get_or values k 0 < 256) → AreNumbered w c.raw values
 numbers_held c w signed validity values whole has raw small = record {
@@ -50,7 +50,7 @@ numbers_held c w signed validity values whole has raw small = record {
       ∙ ap (λ n. take n (drop (w * j) values)) wide;
 }
 
--- so they do in bytes of the width that is asked for
+-- so they are in the bytes of the requested width
 pub numbers_found : (c : Column) (own w : ℕ) (signed : Bool) (validity values found : List ℕ) → (own ≡ w) × (found ≡ values) × ((k : ℕ) → get_or values k 0 < 256)
     → IsIntWidth own signed → HasFixed (length c.raw) own validity values → AreRaw c (int_slot own signed validity values) → AreNumbered w c.raw found
 numbers_found c own w signed validity values found same whole has raw =
@@ -61,7 +61,7 @@ piece_by_piece : (w : ℕ) (vs : List PlainValue) → flat_map (λ v. int_bytes 
 piece_by_piece w [] = refl
 piece_by_piece w (v ∷ vs) = ap (λ b. int_bytes w (number_in v) ++ b) (piece_by_piece w vs)
 
--- where no slot of a range is null they are those in the buffer
+-- if no slot of a range is null, its numbers are those in the buffer
 full_numbers : (w : ℕ) (raw : List PlainValue) (values : List ℕ) (start stop : ℕ) → AreNumbered w raw values → start ≤ stop → stop ≤ length raw
     → ((j : ℕ) → start ≤ j → j < stop → is_null_value (value_at raw j) ≡ false) → slice_range values (w * start) (w * stop) ≡ number_buffer w (values_from raw start stop)
 full_numbers w raw values start stop are order inside full =
@@ -81,7 +81,7 @@ zero_bytes (suc w) = ap (λ b. 0 ∷ b) (zero_bytes w)
 null_number : (w : ℕ) → number_buffer w (null_value ∷ []) ≡ replicate w 0
 null_number w = append-nil (number_bytes w 0) ∙ zero_bytes w
 
--- a part of bytes, and the one after it
+-- a range of bytes, and the one that follows it
 part_both : (xs : List ℕ) (a b c : ℕ) → a ≤ b → b ≤ c → slice_range xs a c ≡ slice_range xs a b ++ slice_range xs b c
 part_both xs a b c low high =
     let count : c - a ≡ (b - a) + (c - b) = omega (arith, low, high) in
@@ -92,21 +92,21 @@ part_both xs a b c low high =
 no_part : (xs : List ℕ) (a : ℕ) → slice_range xs a a ≡ []
 no_part xs a = let none : a - a ≡ 0 = omega arith in ap (λ n. take n (drop a xs)) none
 
--- places rise with slots
+-- byte offsets rise with slot indices
 rise : (w i j : ℕ) → i ≤ j → w * i ≤ w * j
 rise w i j h = mul-le w i w j (omega arith) h
 
--- The numbers of slots up to one, and behind them the bytes of the others, as they are.
-abbrev pub ClearedTo : Masked → List PlainValue → ℕ → ℕ → ℕ → List ℕ
+-- The numbers of the slots up to one, followed by the bytes of the others, unchanged.
+abbrev pub ClearedTo : NullMasked → List PlainValue → ℕ → ℕ → ℕ → List ℕ
 ClearedTo n raw start stop i = number_buffer n.width (values_from raw start i) ++ slice_range n.values.now (n.width * i) (n.width * stop)
 
 -- nothing is cleared yet
-pub cleared_first : (n : Masked) (raw : List PlainValue) (start stop : ℕ) → slice_range n.values.now (n.width * start) (n.width * stop) ≡ ClearedTo n raw start stop start
+pub cleared_first : (n : NullMasked) (raw : List PlainValue) (start stop : ℕ) → slice_range n.values.now (n.width * start) (n.width * stop) ≡ ClearedTo n raw start stop start
 cleared_first n raw start stop =
     ap (λ vs. number_buffer n.width vs ++ slice_range n.values.now (n.width * start) (n.width * stop)) (sym (none_from raw start))
 
--- up to the first null nothing has to be
-pub cleared_on : (n : Masked) (raw : List PlainValue) (start stop i next : ℕ) → HasNumbers n raw → start ≤ i → stop ≤ length raw → IsFirstUnset n.bits.now i stop next
+-- up to the first null nothing has to be cleared
+pub cleared_on : (n : NullMasked) (raw : List PlainValue) (start stop i next : ℕ) → HasNumbers n raw → start ≤ i → stop ≤ length raw → IsFirstUnset n.bits.now i stop next
     → ClearedTo n raw start stop i ≡ ClearedTo n raw start stop next
 cleared_on n raw start stop i next has low inside first =
     let w = n.width in
@@ -122,17 +122,17 @@ cleared_on n raw start stop i next has low inside first =
     not_false true e = sym e
     not_false false e = refl
 
--- some bytes in place of others behind the first ones
+-- some bytes that follow the first ones are replaced by others
 replaced : (front old rest new : List ℕ) (at w : ℕ) → length front ≡ at → length old ≡ w → take at (front ++ (old ++ rest)) ++ (new ++ drop (at + w) (front ++ (old ++ rest))) ≡ front ++ (new ++ rest)
 replaced front old rest new at w here wide =
     let first : take at (front ++ (old ++ rest)) ≡ front = ap (λ n. take n (front ++ (old ++ rest))) (sym here) ∙ take-append_seam front (old ++ rest) in
     let long : at + w ≡ length (front ++ old) = omega (arith, length-append front old, here, wide) in
-    let behind : drop (at + w) (front ++ (old ++ rest)) ≡ rest =
+    let after : drop (at + w) (front ++ (old ++ rest)) ≡ rest =
     (λ i. drop (long i) (sym (append_assoc front old rest) i)) ∙ drop-append_seam (front ++ old) rest in
-    λ i. first i ++ (new ++ behind i)
+    λ i. first i ++ (new ++ after i)
 
 -- a null is cleared
-pub cleared_more : (n : Masked) (raw : List PlainValue) (out : List ℕ) (start stop i : ℕ) → HasNumbers n raw → start ≤ i → i < stop → stop ≤ length raw → bit_of n.bits.now i ≡ false
+pub cleared_more : (n : NullMasked) (raw : List PlainValue) (out : List ℕ) (start stop i : ℕ) → HasNumbers n raw → start ≤ i → i < stop → stop ≤ length raw → bit_of n.bits.now i ≡ false
     → out ≡ ClearedTo n raw start stop i
     → take (n.width * (i - start)) out ++ (replicate n.width 0 ++ drop (n.width * (i - start) + n.width) out) ≡ ClearedTo n raw start stop (i + 1)
 cleared_more n raw out start stop i has low high inside unset is =
@@ -159,7 +159,7 @@ cleared_more n raw out start stop i has low high inside unset is =
     is_true true e = refl
     is_true false e = sym e
 
--- bytes behind others, whose end they are
+-- the last bytes, which follow all others
 pub last_part : (all front back : List ℕ) (at : ℕ) → all ≡ front ++ back → at ≡ length front → take (length all - at) (drop at all) ≡ back
 last_part all front back at is here =
     (λ i. take (length (is i) - here i) (drop (here i) (is i)))
@@ -172,20 +172,20 @@ as_long out new place w inside is =
     ap length is
     ∙ omega (arith, length-append (take place out) (replicate w 0 ++ drop (place + w) out), length-append (replicate w 0) (drop (place + w) out), length-take place out, length-drop (place + w) out, length-replicate {A = ℕ} w 0, inside)
 
--- all are
-pub cleared_all : (n : Masked) (raw : List PlainValue) (out : List ℕ) (start stop i : ℕ) → i ≡ stop → out ≡ ClearedTo n raw start stop i → out ≡ number_buffer n.width (values_from raw start stop)
+-- all nulls are cleared
+pub cleared_all : (n : NullMasked) (raw : List PlainValue) (out : List ℕ) (start stop i : ℕ) → i ≡ stop → out ≡ ClearedTo n raw start stop i → out ≡ number_buffer n.width (values_from raw start stop)
 cleared_all n raw out start stop i end is =
     is ∙ ap (λ k. ClearedTo n raw start stop k) end
     ∙ ap (λ bytes. number_buffer n.width (values_from raw start stop) ++ bytes) (no_part n.values.now (n.width * stop))
     ∙ append-nil (number_buffer n.width (values_from raw start stop))
 
--- where a number stands there is room for it
+-- the buffer has room for each number in it
 pub room_for : (w i start stop long : ℕ) → start ≤ i → i < stop → w * (stop - start) ≤ long → w * (i - start) + w ≤ long
 room_for w i start stop long low high room =
     omega (arith, next_place w (i - start), rise w (i - start + 1) (stop - start) (omega (arith, low, high)), room)
 
 -- the numbers of slots are added to their buffer
-pub numbers_written : (part : Part) (number : NumberForm) (old new : Writing) (n : Masked) (raw : List PlainValue) (start stop : ℕ) → part ≡ Numbers number → n.width ≡ number_width number
+pub numbers_written : (part : BufferKind) (number : NumberForm) (old new : Writing) (n : NullMasked) (raw : List PlainValue) (start stop : ℕ) → part ≡ Numbers number → n.width ≡ number_width number
     → new.out.items ≡ old.out.items ++ number_buffer n.width (values_from raw start stop)
     → (before : List ℕ) (vs : List PlainValue) → IsWritten part before vs old → IsWritten part before (vs ++ values_from raw start stop) new
 numbers_written part number old new n raw start stop is width more before vs =

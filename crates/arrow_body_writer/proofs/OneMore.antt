@@ -1,4 +1,4 @@
--- One slot more in a buffer.
+-- One more slot in a buffer.
 use Rattle.std.proofs.Common.{◌≡◌, ◌≤◌, ℕ, ◌+◌, List, [], ◌∷◌, ◌++◌, length, map, ap, ◌∙◌, sym, subst, arith, append_assoc, append-nil, inl, inr}
 use Rattle.std.specs.Prelude.{◌⊎◌}
 use Rattle.std.specs.List.{flat_map, sum_by}
@@ -13,8 +13,8 @@ use Rattle.arrow_body_laws.specs.Packed.{offsets_bytes, sums_from}
 use Rattle.arrow_body_laws.specs.Raws.{bytes_in_value, items_in_value, number_in}
 use Rattle.arrow_body_laws.specs.Stored.{number_buffer}
 use Rattle.arrow_body_writer.specs.Part.{HasNextOffset, IsWritten}
-use Rattle.arrow_body_writer.specs.declared.part.Part.{Part}
-use Rattle.arrow_body_writer.specs.declared.part.Part.TheVariants.{StringOffsets, ListOffsets}
+use Rattle.arrow_body_writer.specs.declared.part.BufferKind.{BufferKind}
+use Rattle.arrow_body_writer.specs.declared.part.BufferKind.TheVariants.{StringOffsets, ListOffsets}
 use Rattle.arrow_body_writer.specs.declared.writing.Writing.{Writing}
 
 -- pieces with one more
@@ -34,7 +34,7 @@ numbers_more w before items new vs v so_far more =
 pub sum_more : (f : PlainValue → ℕ) (vs : List PlainValue) (v : PlainValue) → sum_by f (vs ++ v ∷ []) ≡ sum_by f vs + f v
 sum_more f vs v = sum_by-append f vs (v ∷ []) ∙ omega (arith, sum_by-cons f v [])
 
--- the sums of these and one more
+-- the sums of these values and of one more
 sums_more : (f : PlainValue → ℕ) (n : ℕ) (vs : List PlainValue) (v : PlainValue) → sums_from n (map f (vs ++ v ∷ [])) ≡ sums_from n (map f vs) ++ (n + sum_by f (vs ++ v ∷ [])) ∷ []
 sums_more f n [] v = ap (λ m. n ∷ m ∷ []) (omega (arith, sum_more f [] v))
 sums_more f n (x ∷ vs) v =
@@ -58,21 +58,21 @@ offsets_more width f before items new end next vs v so_far more to small =
     )
 
 -- the next offset of byte strings or texts
-pub strings_step : (part : Part) (width : OffsetWidth) (old new : Writing) (v : PlainValue) → part ≡ StringOffsets width → HasNextOffset width (length (bytes_in_value v)) old new
+pub strings_step : (part : BufferKind) (width : OffsetWidth) (old new : Writing) (v : PlainValue) → part ≡ StringOffsets width → HasNextOffset width (length (bytes_in_value v)) old new
     → (before : List ℕ) (vs : List PlainValue) → IsWritten part before vs old → IsWritten part before (vs ++ v ∷ []) new
 strings_step part width old new v is next before vs =
     subst (λ p. IsWritten p before vs old → IsWritten p before (vs ++ v ∷ []) new) (sym is)
     (λ so_far. offsets_more width (λ v. length (bytes_in_value v)) before old.out.items new.out.items old.end new.end vs v so_far next.0 next.1)
 
 -- the next offset of lists
-pub lists_step : (part : Part) (width : OffsetWidth) (old new : Writing) (v : PlainValue) → part ≡ ListOffsets width → HasNextOffset width (length (items_in_value 0 v)) old new
+pub lists_step : (part : BufferKind) (width : OffsetWidth) (old new : Writing) (v : PlainValue) → part ≡ ListOffsets width → HasNextOffset width (length (items_in_value 0 v)) old new
     → (before : List ℕ) (vs : List PlainValue) → IsWritten part before vs old → IsWritten part before (vs ++ v ∷ []) new
 lists_step part width old new v is next before vs =
     subst (λ p. IsWritten p before vs old → IsWritten p before (vs ++ v ∷ []) new) (sym is)
     (λ so_far. offsets_more width (λ v. length (items_in_value 0 v)) before old.out.items new.out.items old.end new.end vs v so_far next.0 next.1)
 
 -- the next offset at a null
-pub null_step : (part : Part) (width : OffsetWidth) (old new : Writing) → (part ≡ StringOffsets width) ⊎ (part ≡ ListOffsets width) → HasNextOffset width 0 old new
+pub null_step : (part : BufferKind) (width : OffsetWidth) (old new : Writing) → (part ≡ StringOffsets width) ⊎ (part ≡ ListOffsets width) → HasNextOffset width 0 old new
     → (before : List ℕ) (vs : List PlainValue) → IsWritten part before vs old → IsWritten part before (vs ++ null_value ∷ []) new
 null_step part width old new (inl is) next = strings_step part width old new null_value is next
 null_step part width old new (inr is) next = lists_step part width old new null_value is next

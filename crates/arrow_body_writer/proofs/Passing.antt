@@ -1,9 +1,9 @@
--- What a pass takes of the slots of a range, and where children stand.
+-- What a pass takes of the slots of a range, and where children are found.
 use Rattle.std.proofs.Common.{◌≡◌, ◌≤◌, ◌<◌, ℕ, zero, suc, ◌+◌, List, [], ◌∷◌, ◌++◌, length, get_or, refl, sym, ap, ◌∙◌, subst, arith, append_assoc, append-nil, Option, Some, rules}
 use Rattle.std.specs.Prelude.{slice_get}
 use Rattle.std.specs.List.{AllByRecursion}
 use denote.Param.Weighed.{most}
-use Rattle.arrow_types.specs.Field.{Fields, none, more, width, TypeShape}
+use Rattle.arrow_types.specs.Field.{FieldTree, none, more, width, TypeShape}
 use Rattle.arrow_types.specs.View.{field_view, fields_view, type_view}
 use Rattle.arrow_types.specs.declared.field.Encoding.{Encoding}
 use Rattle.arrow_types.specs.declared.field.Field.{Field, the_lemmas}
@@ -12,7 +12,7 @@ use Rattle.arrow_data.specs.PlainValue.{PlainValue}
 use Rattle.arrow_body_writer.specs.Pass.{IsPassed, Takes}
 use Rattle.arrow_body_writer.specs.declared.pass.Pass.{Pass}
 
--- no slots are taken where nothing is done
+-- no slots are taken if nothing is done
 pub takes_none : (p : Pass) → Takes p p []
 takes_none p = record { kept = refl; same = refl; added = λ before was passed. subst (λ vs. IsPassed before vs p) (sym (append-nil was)) passed }
 
@@ -24,7 +24,7 @@ takes_more a b c vs ws one other = record {
   added = λ before was passed. subst (λ all. IsPassed before all c) (append_assoc was vs ws) (other.added before (was ++ vs) (one.added before was passed));
 }
 
--- what holds of all values holds of the first ones and of the others
+-- a property of all values holds of the first ones and of the others
 pub all_first : (P : PlainValue → Type 0) (vs ws : List PlainValue) → AllByRecursion P (vs ++ ws) → AllByRecursion P vs
 all_first P [] ws all = tt
 all_first P (v ∷ vs) ws all = (all.0, all_first P vs ws all.1)
@@ -50,13 +50,13 @@ field_typed (g ∷ fs) zero f here is = ap pair_in (sym is)
 field_typed (g ∷ fs) (suc k) f here is = field_typed fs k f (omega (arith, here)) is
 
 -- there are as many fields as columns
-pub as_many : (fields : Fields) (cs : List Column) → AreOf fields cs → width fields ≡ length cs
+pub as_many : (fields : FieldTree) (cs : List Column) → AreOf fields cs → width fields ≡ length cs
 as_many none [] typed = refl
 as_many none (c ∷ cs) typed = absurd typed
 as_many (more h b rest) [] typed = absurd typed
 as_many (more h b rest) (c ∷ cs) typed = omega (arith, as_many rest cs typed.2)
 
--- the column at a place is found there
+-- the column at an index is found there
 pub column_found : (cs : List Column) (k : ℕ) (c : Column) → k < length cs → c ≡ get_or cs k c → slice_get cs k ≡ Some c
 column_found [] k c here is = absurd (omega (arith, here))
 column_found (d ∷ cs) zero c here is = ap Some (sym is)

@@ -8,7 +8,7 @@ use Rattle.arrow_data.specs.PlainValue.{PlainValue, null_value, bool_value, int_
 use Rattle.arrow_data.proofs.Sameness.{at_values_from, length-values_from}
 use Rattle.arrow_body_laws.proofs.Slotted.{in_slot}
 
--- what is null is the null
+-- a null value is the null
 pub null_of : (v : PlainValue) → is_null_value v ≡ true → v ≡ null_value
 null_of null_value e = refl
 null_of (bool_value b) e = cc
@@ -18,7 +18,7 @@ null_of (utf8_value b) e = cc
 null_of (list_value b) e = cc
 null_of (struct_value b) e = cc
 
--- one more of the first ones
+-- one more of the first values
 take_next : (vs : List PlainValue) (k : ℕ) → k < length vs → take (suc k) vs ≡ take k vs ++ value_at vs k ∷ []
 take_next [] k h = absurd (omega (arith, h))
 take_next (v ∷ vs) zero h = refl
@@ -28,7 +28,7 @@ take_next (v ∷ vs) (suc k) h = ap (λ others. v ∷ others) (take_next vs k (o
 pub none_from : (vs : List PlainValue) (start : ℕ) → values_from vs start start ≡ []
 none_from vs start = let none : start - start ≡ 0 = omega arith in ap (λ n. take n (drop start vs)) none
 
--- one slot more
+-- one more slot
 pub from_next : (vs : List PlainValue) (start i : ℕ) → start ≤ i → i < length vs → values_from vs start (i + 1) ≡ values_from vs start i ++ value_at vs i ∷ []
 from_next vs start i low high =
     let one : i + 1 - start ≡ suc (i - start) = omega (arith, low) in
@@ -37,7 +37,7 @@ from_next vs start i low high =
     ap (λ n. take n (drop start vs)) one ∙ take_next (drop start vs) (i - start) long
     ∙ ap (λ v. values_from vs start i ++ v ∷ []) (get_or-drop start vs (i - start) null_value ∙ ap (value_at vs) place)
 
--- what holds of all slots of a range holds of each
+-- a property of all slots of a range holds of each
 pub of_slot : (P : PlainValue → Type 0) (vs : List PlainValue) (start stop i : ℕ) → stop ≤ length vs → start ≤ i → i < stop → AllByRecursion P (values_from vs start stop) → P (value_at vs i)
 of_slot P vs start stop i inside low high all =
     let place : start + (i - start) ≡ i = omega (arith, low) in
@@ -56,12 +56,12 @@ from_both vs start i stop low high =
     ap (λ n. take n (drop start vs)) count ∙ take-add (i - start) (stop - i) (drop start vs)
     ∙ ap (λ others. values_from vs start i ++ take (stop - i) others) (drop-drop (i - start) start vs ∙ ap (λ n. drop n vs) place)
 
--- a range, and all that comes after it
+-- a range, and everything after it
 pub rest_both : (vs : List PlainValue) (start stop : ℕ) → start ≤ stop → drop start vs ≡ values_from vs start stop ++ drop stop vs
 rest_both vs start stop order =
     let place : start + (stop - start) ≡ stop = omega (arith, order) in
     sym (take-append-drop (stop - start) (drop start vs)) ∙ ap (λ others. values_from vs start stop ++ others) (drop-drop (stop - start) start vs ∙ ap (λ n. drop n vs) place)
 
--- the one slot after a range that is null
+-- the single slot after a range, which is null
 pub null_next : (vs : List PlainValue) (start i : ℕ) → start ≤ i → i < length vs → is_null_value (value_at vs i) ≡ true → values_from vs start i ++ null_value ∷ [] ≡ values_from vs start (i + 1)
 null_next vs start i low high null = ap (λ v. values_from vs start i ++ v ∷ []) (sym (null_of (value_at vs i) null)) ∙ sym (from_next vs start i low high)

@@ -1,8 +1,8 @@
--- The numbers that are sent have room in the buffers of their nodes.
+-- The numbers that are sent fit into the buffers of their nodes.
 use Rattle.std.proofs.Common.{◌≡◌, ℕ, zero, suc, true, false, ℤ, pos, List, [], ◌∷◌, subst, arith, Some}
 use Rattle.std.specs.List.{AllByRecursion}
 use Rattle.std.proofs.lemmas.Int.{ints}
-use Rattle.arrow_types.specs.Field.{Fields}
+use Rattle.arrow_types.specs.Field.{FieldTree}
 use Rattle.arrow_data.specs.declared.form.NumberForm.TheVariants as numbers
 use Rattle.arrow_data.specs.declared.form.NumberForm.{NumberForm}
 use Rattle.arrow_types.specs.declared.data_type.BitWidth.TheVariants.{Eight, Sixteen, ThirtyTwo, SixtyFour}
@@ -20,10 +20,10 @@ use Rattle.arrow_body_laws.specs.Stored.{fields_of_columns}
 use Rattle.arrow_body_writer.proofs.Chunks.{same_part}
 use Rattle.arrow_body_writer.specs.Part.{HasRoom, part_of}
 use Rattle.arrow_body_writer.specs.Sent.{form_of_column}
-use Rattle.arrow_body_writer.specs.declared.part.Part.{Part}
-use Rattle.arrow_body_writer.specs.declared.part.Part.TheVariants.{Validity, Truths, Numbers, StringOffsets, ListOffsets, Strings, FixedBytes}
+use Rattle.arrow_body_writer.specs.declared.part.BufferKind.{BufferKind}
+use Rattle.arrow_body_writer.specs.declared.part.BufferKind.TheVariants.{Validity, Truths, Numbers, StringOffsets, ListOffsets, Strings, FixedBytes}
 
--- a number in the range of a sign is one of the width
+-- a number in the range of a signedness is one of the width
 fits_width : (number : NumberForm) (z : ℤ) → FitsInt (number_width number) (has_sign number) z → FitsWidth (number_width number) z
 fits_width (numbers.Int Eight true) z fits = (omega (arith, ints, fits.0, fits.1), omega (arith, ints, fits.0, fits.1))
 fits_width (numbers.Int Eight false) z fits = (omega (arith, ints, fits.0, fits.1), omega (arith, ints, fits.0, fits.1))
@@ -42,7 +42,7 @@ zero_fits (numbers.Int ThirtyTwo signed) = (omega (arith, ints), omega (arith, i
 zero_fits (numbers.Int SixtyFour signed) = (omega (arith, ints), omega (arith, ints))
 zero_fits numbers.Int128 = (omega (arith, ints), omega (arith, ints))
 
-number_room : (number : NumberForm) (c : Fields) (v : PlainValue) → IsOwn (forms.Numbers number) c v → FitsWidth (number_width number) (number_in v)
+number_room : (number : NumberForm) (c : FieldTree) (v : PlainValue) → IsOwn (forms.Numbers number) c v → FitsWidth (number_width number) (number_in v)
 number_room number c null_value own = zero_fits number
 number_room number c (bool_value b) own = zero_fits number
 number_room number c (int_value z) own = fits_width number z own
@@ -51,16 +51,16 @@ number_room number c (utf8_value b) own = zero_fits number
 number_room number c (list_value b) own = zero_fits number
 number_room number c (struct_value b) own = zero_fits number
 
--- what holds of each value
+-- a property that every value has
 all_free : (P : PlainValue → Type 0) → ((v : PlainValue) → P v) → (vs : List PlainValue) → AllByRecursion P vs
 all_free P each [] = tt
 all_free P each (v ∷ vs) = (each v, all_free P each vs)
 
--- each buffer of a node has room for the numbers
+-- the numbers fit into each buffer of a node
 abbrev pub HasRooms : Form → List PlainValue → Type 0
-HasRooms form vs = (k : ℕ) (part : Part) → part_of form k ≡ Some part → AllByRecursion (HasRoom part) vs
+HasRooms form vs = (k : ℕ) (part : BufferKind) → part_of form k ≡ Some part → AllByRecursion (HasRoom part) vs
 
-own_rooms : (form : Form) (c : Fields) (vs : List PlainValue) → AllByRecursion (IsOwn form c) vs → HasRooms form vs
+own_rooms : (form : Form) (c : FieldTree) (vs : List PlainValue) → AllByRecursion (IsOwn form c) vs → HasRooms form vs
 own_rooms forms.Nulls c vs own k part e = cc
 own_rooms forms.Bits c vs own zero part e = subst (λ p. AllByRecursion (HasRoom p) vs) (same_part Validity part e) (all_free (HasRoom Validity) (λ v. tt) vs)
 own_rooms forms.Bits c vs own (suc zero) part e = subst (λ p. AllByRecursion (HasRoom p) vs) (same_part Truths part e) (all_free (HasRoom Truths) (λ v. tt) vs)
@@ -87,6 +87,6 @@ own_rooms (forms.Lists (lists.Fixed size)) c vs own (suc k) part e = cc
 own_rooms forms.Structs c vs own zero part e = subst (λ p. AllByRecursion (HasRoom p) vs) (same_part Validity part e) (all_free (HasRoom Validity) (λ v. tt) vs)
 own_rooms forms.Structs c vs own (suc k) part e = cc
 
--- of a column's own node
+-- for a column's own node
 pub node_rooms : (c : Column) → AreRaws (fields_of_columns (c ∷ [])) (raws_of (c ∷ [])) → HasRooms (form_of_column c) c.raw
 node_rooms c are = own_rooms (form_of_column c) c.data_type.children c.raw are.0

@@ -1,4 +1,4 @@
--- What a pass takes of slots one after another, run by run.
+-- What a pass takes of consecutive slots, run by run.
 use Rattle.std.proofs.Common.{◌≡◌, ◌≤◌, ◌<◌, ℕ, zero, suc, ◌+◌, ◌-◌, List, [], ◌∷◌, ◌++◌, length, map, replicate, refl, sym, ap, ◌∙◌, subst, arith, append-nil, length-append, true}
 use Rattle.std.specs.List.{AllByRecursion, flat_map}
 use Rattle.std.proofs.lemmas.Grind.{flat_map-append}
@@ -14,23 +14,23 @@ use Rattle.arrow_body_writer.proofs.Sending.{along_more}
 use Rattle.arrow_body_writer.specs.Pass.{Takes}
 use Rattle.arrow_body_writer.specs.Sent.{sent_along}
 use Rattle.arrow_body_writer.specs.declared.pass.Pass.{Pass}
-use Rattle.arrow_body_writer.specs.declared.steps.Steps.{Steps}
+use Rattle.arrow_body_writer.specs.declared.steps.ChildPath.{ChildPath}
 
--- what values send: that of the first ones, and then that of the others
+-- what values send is what the first ones send, followed by what the others send
 abbrev pub Splits : (List PlainValue → List PlainValue) → Type 0
 Splits sent = (vs ws : List PlainValue) → sent (vs ++ ws) ≡ sent vs ++ sent ws
 
--- what the items of lists send along steps, with so many nulls under a null, and what a field of structs does
-abbrev pub by_items : ℕ → Steps → List PlainValue → List PlainValue
+-- what the items of lists send along steps, with n nulls under a null, and what a field of structs sends
+abbrev pub by_items : ℕ → ChildPath → List PlainValue → List PlainValue
 by_items n steps vs = sent_along steps (flat_map (items_in_value n) vs)
 
-abbrev pub by_field : ℕ → Steps → List PlainValue → List PlainValue
+abbrev pub by_field : ℕ → ChildPath → List PlainValue → List PlainValue
 by_field k steps vs = sent_along steps (map (field_value k) vs)
 
-pub items_split : (n : ℕ) (steps : Steps) → Splits (by_items n steps)
+pub items_split : (n : ℕ) (steps : ChildPath) → Splits (by_items n steps)
 items_split n steps vs ws = ap (sent_along steps) (flat_map-append (items_in_value n) vs ws) ∙ along_more steps (flat_map (items_in_value n) vs) (flat_map (items_in_value n) ws)
 
-pub field_split : (k : ℕ) (steps : Steps) → Splits (by_field k steps)
+pub field_split : (k : ℕ) (steps : ChildPath) → Splits (by_field k steps)
 field_split k steps vs ws = ap (sent_along steps) (map-append (field_value k) vs ws) ∙ along_more steps (map (field_value k) vs) (map (field_value k) ws)
 
 -- no values send nothing
@@ -41,41 +41,41 @@ empty_by (v ∷ vs) e = absurd (omega (arith, ap length e, length-append (v ∷ 
 pub nothing_sent : (sent : List PlainValue → List PlainValue) → Splits sent → sent [] ≡ []
 nothing_sent sent splits = empty_by (sent []) (splits [] [])
 
--- of an empty range nothing is taken
+-- nothing is taken of an empty range
 pub takes_start : (sent : List PlainValue → List PlainValue) (p : Pass) (raw : List PlainValue) (start : ℕ) → Splits sent → Takes p p (sent (values_from raw start start))
 takes_start sent p raw start splits = subst (Takes p p) (sym (ap sent (none_from raw start) ∙ nothing_sent sent splits)) (takes_none p)
 
--- a part of a range more is taken
+-- one more part of a range is taken
 pub takes_part : (sent : List PlainValue → List PlainValue) (a b d : Pass) (raw : List PlainValue) (start i end : ℕ) → Splits sent → start ≤ i → i ≤ end
     → Takes a b (sent (values_from raw start i)) → Takes b d (sent (values_from raw i end)) → Takes a d (sent (values_from raw start end))
 takes_part sent a b d raw start i end splits low order one other =
     subst (Takes a d) (sym (ap sent (from_both raw start i end low order) ∙ splits (values_from raw start i) (values_from raw i end)))
     (takes_more a b d (sent (values_from raw start i)) (sent (values_from raw i end)) one other)
 
--- one null more is taken
+-- one more null is taken
 pub takes_null : (sent : List PlainValue → List PlainValue) (a b d : Pass) (raw : List PlainValue) (start i : ℕ) → Splits sent → start ≤ i → i < length raw → is_null_value (value_at raw i) ≡ true
     → Takes a b (sent (values_from raw start i)) → Takes b d (sent (null_value ∷ [])) → Takes a d (sent (values_from raw start (i + 1)))
 takes_null sent a b d raw start i splits low high null one other =
     subst (Takes a d) (sym (ap sent (from_next raw start i low high ∙ ap (λ v. values_from raw start i ++ v ∷ []) (null_of (value_at raw i) null)) ∙ splits (values_from raw start i) (null_value ∷ [])))
     (takes_more a b d (sent (values_from raw start i)) (sent (null_value ∷ [])) one other)
 
--- one null more
+-- one more null
 null_more : (n : ℕ) → replicate (n + 1) null_value ≡ replicate n null_value ++ null_value ∷ []
 null_more zero = refl
 null_more (suc n) =
     let one : suc n + 1 ≡ suc (n + 1) = omega arith in
     ap (λ k. replicate k null_value) one ∙ ap (λ vs. null_value ∷ vs) (null_more n)
 
-pub takes_nulls : (steps : Steps) (a b d : Pass) (n : ℕ) → Takes a b (sent_along steps (replicate n null_value)) → Takes b d (sent_along steps (null_value ∷ [])) → Takes a d (sent_along steps (replicate (n + 1) null_value))
+pub takes_nulls : (steps : ChildPath) (a b d : Pass) (n : ℕ) → Takes a b (sent_along steps (replicate n null_value)) → Takes b d (sent_along steps (null_value ∷ [])) → Takes a d (sent_along steps (replicate (n + 1) null_value))
 takes_nulls steps a b d n one other =
     subst (Takes a d) (sym (ap (sent_along steps) (null_more n) ∙ along_more steps (replicate n null_value) (null_value ∷ [])))
     (takes_more a b d (sent_along steps (replicate n null_value)) (sent_along steps (null_value ∷ [])) one other)
 
--- in place of a null list so many nulls are sent
-pub null_list : (n : ℕ) (steps : Steps) → sent_along steps (replicate n null_value) ≡ by_items n steps (null_value ∷ [])
+-- in place of a null list n nulls are sent
+pub null_list : (n : ℕ) (steps : ChildPath) → sent_along steps (replicate n null_value) ≡ by_items n steps (null_value ∷ [])
 null_list n steps = ap (sent_along steps) (sym (append-nil (replicate n null_value)))
 
--- what holds of all that a range sends holds of what a part of it sends
+-- a property of everything that a range sends holds of everything that a part of it sends
 pub all_of_part : (P : PlainValue → Type 0) (sent : List PlainValue → List PlainValue) (raw : List PlainValue) (start i end stop : ℕ) → Splits sent → start ≤ i → i ≤ end → end ≤ stop
     → AllByRecursion P (sent (values_from raw start stop)) → AllByRecursion P (sent (values_from raw i end))
 all_of_part P sent raw start i end stop splits low order high all =
@@ -86,7 +86,7 @@ all_of_part P sent raw start i end stop splits low order high all =
     let parts = ap sent split ∙ splits before (part ++ after) ∙ ap (λ others. sent before ++ others) (splits part after) in
     all_first P (sent part) (sent after) (all_last P (sent before) (sent part ++ sent after) (subst (AllByRecursion P) parts all))
 
--- the values of a field in structs of which none is null are those of its child
+-- the values of a field in structs without nulls are those of its child
 pub fields_are : (c child : Column) (start stop k : ℕ) → HasField c k child → start ≤ stop → stop ≤ length c.raw → AreFull c start stop → map (field_value k) (values_from c.raw start stop) ≡ values_from child.raw start stop
 fields_are c child start stop k field order inside full =
     let here = length-values_from c.raw start stop inside in

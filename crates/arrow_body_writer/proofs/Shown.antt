@@ -1,4 +1,4 @@
--- What the accessors of a slot give is what is stored of its value.
+-- The accessors of a slot return what is stored of its value.
 use Rattle.std.proofs.Common.{◌≡◌, ◌-◌, ℕ, List, [], length, false, refl, ap, ◌∙◌}
 use Rattle.std.specs.Prelude.{pos, unwrap_or, None, Some}
 use Rattle.arrow_data.specs.Column.{Column, HasItems, values_from}
@@ -7,7 +7,7 @@ use Rattle.arrow_data.proofs.Sameness.{length-values_from}
 use Rattle.arrow_data.proofs.Lists.{list_again}
 use Rattle.arrow_body_laws.specs.Raws.{bytes_in_value, items_in_value, number_in, truth_in}
 
--- the truth value of a slot, false where it has none
+-- the truth value of a slot, false if it has none
 pub truth_or : (v : PlainValue) → unwrap_or (bool_in v) false ≡ truth_in v
 truth_or null_value = refl
 truth_or (bool_value b) = refl
@@ -17,7 +17,7 @@ truth_or (utf8_value b) = refl
 truth_or (list_value b) = refl
 truth_or (struct_value b) = refl
 
--- the number of a slot, 0 where it has none
+-- the number of a slot, 0 if it has none
 pub number_or : (v : PlainValue) → unwrap_or (int_in v) (pos 0) ≡ number_in v
 number_or null_value = refl
 number_or (bool_value b) = refl
@@ -47,7 +47,7 @@ of_text (utf8_value b) bytes e = cc
 of_text (list_value b) bytes e = cc
 of_text (struct_value b) bytes e = cc
 
--- all else has none
+-- any other value has no bytes
 pub of_neither : (v : PlainValue) → binary_in v ≡ None → utf8_in v ≡ None → bytes_in_value v ≡ []
 of_neither null_value e f = refl
 of_neither (bool_value b) e f = refl
@@ -61,11 +61,11 @@ of_neither (struct_value b) e f = refl
 pub items_are : (n : ℕ) (c : Column) (i start end : ℕ) (child : Column) → HasItems c i start end child → items_in_value n (value_at c.raw i) ≡ values_from child.raw start end
 items_are n c i start end child h = ap (items_in_value n) h.same ∙ list_again (values_from child.raw start end)
 
--- they are as many as there are slots
+-- the number of items is the number of those slots
 pub span_is : (c : Column) (i start end : ℕ) (child : Column) → HasItems c i start end child → length (items_in_value 0 (value_at c.raw i)) ≡ end - start
 span_is c i start end child h = ap length (items_are 0 c i start end child h) ∙ length-values_from child.raw start end h.inside
 
--- what is no list has no items
+-- a value that is not a list has no items
 pub no_items : (v : PlainValue) → items_in v ≡ None → items_in_value 0 v ≡ []
 no_items null_value e = refl
 no_items (bool_value b) e = refl

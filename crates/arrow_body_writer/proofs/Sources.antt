@@ -1,4 +1,4 @@
--- What the values of a dictionary from one on send, array by array.
+-- What the values of a dictionary from an index on send, array by array.
 use Rattle.std.proofs.Common.{◌≡◌, ◌≤◌, ℕ, zero, suc, ◌+◌, ◌-◌, List, [], ◌∷◌, ◌++◌, length, drop, sym, ap, ◌∙◌, subst, arith}
 use Rattle.std.specs.List.{AllByRecursion}
 use Rattle.std.proofs.lemmas.List.{ext_get_or, length-drop, take_all}
@@ -11,22 +11,22 @@ use Rattle.arrow_body_writer.proofs.Sending.{along_more}
 use Rattle.arrow_body_writer.specs.Pass.{Takes}
 use Rattle.arrow_body_writer.specs.Sent.{sent_along}
 use Rattle.arrow_body_writer.specs.declared.pass.Pass.{Pass}
-use Rattle.arrow_body_writer.specs.declared.source.Source.{Source, Slots, Rest, Items', Field'}
-use Rattle.arrow_body_writer.specs.declared.steps.Steps.{Steps}
+use Rattle.arrow_body_writer.specs.declared.source.ColumnSource.{ColumnSource, Slots, Rest, Items', Field'}
+use Rattle.arrow_body_writer.specs.declared.steps.ChildPath.{ChildPath}
 
--- what holds of all values holds of those from one on
+-- a property of all values holds of those from an index on
 pub all_from_one : (P : PlainValue → Type 0) (vs : List PlainValue) (n : ℕ) → AllByRecursion P vs → AllByRecursion P (drop n vs)
 all_from_one P vs zero all = all
 all_from_one P [] (suc n) all = tt
 all_from_one P (v ∷ vs) (suc n) all = all_from_one P vs n all.1
 
--- how many values an array has from a place on, and where in the dictionary they end
+-- how many values an array has from an index on, and where in the dictionary they end
 pub run_inside : (d : ValueList) (i : ℕ) (a : Column) (place : ℕ) → HasValue d i a place → i + (length a.raw - place) ≤ length d.values
 run_inside d i a place h =
     let last = h.follow (length a.raw - place - 1) (omega (arith, h.inside)) in
     omega (arith, h.inside, last.0)
 
--- they are the dictionary's
+-- they are the dictionary's values
 pub run_is : (d : ValueList) (i : ℕ) (a : Column) (place : ℕ) → HasValue d i a place
     → values_from a.raw place (length a.raw) ≡ values_from d.values i (i + (length a.raw - place))
 run_is d i a place h =
@@ -37,8 +37,8 @@ run_is d i a place h =
     ext_get_or null_value (values_from a.raw place (length a.raw)) (values_from d.values i (i + count)) (long ∙ sym same)
     (λ k l. at_values_from a.raw place (length a.raw) k (omega (arith, l, long)) ∙ sym (h.follow k (omega (arith, l, long, h.inside))).1 ∙ sym (at_values_from d.values i (i + count) k (omega (arith, l, long))))
 
--- what holds of all that a rest sends holds of what a range of it sends
-pub all_of_range : (P : PlainValue → Type 0) (steps : Steps) (vs : List PlainValue) (from start stop : ℕ) → from ≤ start → start ≤ stop
+-- a property of everything that the remaining values send holds of everything that a range of them sends
+pub all_of_range : (P : PlainValue → Type 0) (steps : ChildPath) (vs : List PlainValue) (from start stop : ℕ) → from ≤ start → start ≤ stop
     → AllByRecursion P (sent_along steps (drop from vs)) → AllByRecursion P (sent_along steps (values_from vs start stop))
 all_of_range P steps vs from start stop low high all =
     let before = values_from vs from start in
@@ -48,21 +48,21 @@ all_of_range P steps vs from start stop low high all =
     let parts = ap (sent_along steps) split ∙ along_more steps before (range ++ after) ∙ ap (λ others. sent_along steps before ++ others) (along_more steps range after) in
     all_first P (sent_along steps range) (sent_along steps after) (all_last P (sent_along steps before) (sent_along steps range ++ sent_along steps after) (subst (AllByRecursion P) parts all))
 
--- all values of it
-pub rest_all : (steps : Steps) (vs : List PlainValue) (from i : ℕ) (a b : Pass) → length vs ≤ i
+-- once all of them are taken
+pub rest_all : (steps : ChildPath) (vs : List PlainValue) (from i : ℕ) (a b : Pass) → length vs ≤ i
     → Takes a b (sent_along steps (values_from vs from i)) → Takes a b (sent_along steps (drop from vs))
 rest_all steps vs from i a b all taken = subst (λ ws. Takes a b (sent_along steps ws)) (take_all (i - from) (drop from vs) (omega (arith, all, length-drop from vs))) taken
 
--- and what they send is what the dictionary's send
-pub run_sent : (steps : Steps) (d : ValueList) (i : ℕ) (a : Column) (place end : ℕ) → HasValue d i a place → end ≡ length a.raw
+-- and they send what the dictionary's values send
+pub run_sent : (steps : ChildPath) (d : ValueList) (i : ℕ) (a : Column) (place end : ℕ) → HasValue d i a place → end ≡ length a.raw
     → sent_along steps (values_from a.raw place end) ≡ sent_along steps (values_from d.values i (i + (end - place)))
 run_sent steps d i a place end h all =
     ap (λ k. sent_along steps (values_from a.raw place k)) all
     ∙ ap (sent_along steps) (run_is d i a place h)
     ∙ ap (λ k. sent_along steps (values_from d.values i (i + (k - place)))) (sym all)
 
--- how many columns there are above
-abbrev pub count_above : Source → ℕ
+-- the number of columns above
+abbrev pub count_above : ColumnSource → ℕ
 count_above (Slots array) = 0
 count_above (Rest dictionary from) = 0
 count_above (Items' n p lists) = suc (count_above lists)

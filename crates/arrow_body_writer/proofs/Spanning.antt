@@ -1,4 +1,4 @@
--- Offsets that are sent as they lie, each so much greater.
+-- Offsets that are copied from the array, each increased by the same amount.
 use Rattle.std.proofs.Common.{◌≡◌, ℕ, zero, suc, ◌+◌, ◌-◌, ◌*◌, ◌%◌, ◌^◌, ◌<◌, ◌≤◌, Bool, true, false, List, [], ◌∷◌, ◌++◌, length, map, take, drop, get_or, refl, ap, ◌∙◌, sym, subst, arith, append_assoc, append-nil}
 use Rattle.std.specs.Prelude.{slice_range, if◌then◌else◌}
 use Rattle.std.specs.List.{flat_map, sum_by}
@@ -27,15 +27,15 @@ use Rattle.arrow_body_writer.specs.Part.{AreOffsetsTo, IsWritten}
 use Rattle.arrow_body_writer.specs.Runs.{AreOffsetsOf, AreSpansIn, IsPiece, IsThere}
 use Rattle.arrow_body_writer.specs.Spans.{AreSpans, PutsMoved, moved, place_in}
 use Rattle.arrow_body_writer.specs.declared.offsets.Offsets.{Offsets}
-use Rattle.arrow_body_writer.specs.declared.part.Part.{Part}
-use Rattle.arrow_body_writer.specs.declared.part.Part.TheVariants.{Validity, Truths, Numbers, StringOffsets, ListOffsets, Strings, FixedBytes}
-use Rattle.arrow_body_writer.specs.declared.pieces.Piece.{Piece}
-use Rattle.arrow_body_writer.specs.declared.pieces.Piece.TheVariants as pieces
-use Rattle.arrow_body_writer.specs.declared.spans.Spans.{Spans}
+use Rattle.arrow_body_writer.specs.declared.part.BufferKind.{BufferKind}
+use Rattle.arrow_body_writer.specs.declared.part.BufferKind.TheVariants.{Validity, Truths, Numbers, StringOffsets, ListOffsets, Strings, FixedBytes}
+use Rattle.arrow_body_writer.specs.declared.pieces.SlotRun.{SlotRun}
+use Rattle.arrow_body_writer.specs.declared.pieces.SlotRun.TheVariants as pieces
+use Rattle.arrow_body_writer.specs.declared.spans.OffsetRun.{OffsetRun}
 use Rattle.arrow_body_writer.specs.declared.writing.Writing.{Writing}
 
--- offsets go on by what slots have
-reach_first : (s : Spans) (long : PlainValue → ℕ) (raw : List PlainValue) (n : ℕ) → AreSpans s long raw → s.start + n ≤ s.stop
+-- offsets advance by the lengths of the slots
+reach_first : (s : OffsetRun) (long : PlainValue → ℕ) (raw : List PlainValue) (n : ℕ) → AreSpans s long raw → s.start + n ≤ s.stop
     → place_in s (s.start + n) ≡ place_in s s.start + sum_by long (values_from raw s.start (s.start + n))
 reach_first s long raw zero are inside =
     let here : s.start + 0 ≡ s.start = omega arith in
@@ -53,21 +53,21 @@ reach_first s long raw (suc n) are inside =
       sum_more long (values_from raw s.start i) (value_at raw i),
     )
 
-pub reach : (s : Spans) (long : PlainValue → ℕ) (raw : List PlainValue) → AreSpans s long raw → place_in s s.stop ≡ place_in s s.start + sum_by long (values_from raw s.start s.stop)
+pub reach : (s : OffsetRun) (long : PlainValue → ℕ) (raw : List PlainValue) → AreSpans s long raw → place_in s s.stop ≡ place_in s s.start + sum_by long (values_from raw s.start s.stop)
 reach s long raw are =
     let end : s.start + (s.stop - s.start) ≡ s.stop = omega (arith, are.there.order) in
     subst (λ k. place_in s k ≡ place_in s s.start + sum_by long (values_from raw s.start k)) end (reach_first s long raw (s.stop - s.start) are (omega (arith, are.there.order)))
 
--- what is added to a number is added where the width can tell it
+-- adding to a number adds to its remainder if the width can represent the sum
 on_by : (width : OffsetWidth) (p f by : ℕ) → (p + by) % 2 ^ (8 * offset_bytes width) + f ≤ greatest_offset width
     → (p + f + by) % 2 ^ (8 * offset_bytes width) ≡ (p + by) % 2 ^ (8 * offset_bytes width) + f
 on_by Small p f by near = omega (arith, near)
 on_by Large p f by near = omega (arith, near)
 
--- a number that the width can tell is what is left of it
-told : (width : OffsetWidth) (n : ℕ) → n ≤ greatest_offset width → n % 2 ^ (8 * offset_bytes width) ≡ n
-told Small n near = omega (arith, near)
-told Large n near = omega (arith, near)
+-- a number that the width can represent is its own remainder
+represented : (width : OffsetWidth) (n : ℕ) → n ≤ greatest_offset width → n % 2 ^ (8 * offset_bytes width) ≡ n
+represented Small n near = omega (arith, near)
+represented Large n near = omega (arith, near)
 
 -- a product with a sum
 mul_parts : (w a b c : ℕ) → c ≡ a + b → w * c ≡ w * a + w * b
@@ -76,8 +76,8 @@ mul_parts w a (suc b) c e =
     let next : c ≡ suc (a + b) = omega (arith, e) in
     omega (arith, ap (λ k. w * k) next, mul-suc w (a + b), mul-suc w b, mul_parts w a b (a + b) refl)
 
--- the number of an offset after the first, among those that are copied
-copied : (s : Spans) (n : ℕ) → s.start + suc n ≤ s.stop
+-- the number of an offset after the first, among the copied ones
+copied : (s : OffsetRun) (n : ℕ) → s.start + suc n ≤ s.stop
     → number_at (slice_range s.offsets.now (offset_bytes s.width * (s.start + 1)) (offset_bytes s.width * (s.stop + 1))) (offset_bytes s.width * n) (offset_bytes s.width) ≡ place_in s (s.start + n + 1)
 copied s n inside =
     let w = offset_bytes s.width in
@@ -87,7 +87,7 @@ copied s n inside =
     number_in_part s.offsets.now (w * (s.start + 1)) (w * (s.stop + 1) - w * (s.start + 1)) (w * n) w room ∙ ap (λ k. number_at s.offsets.now k w) place
 
 -- the offsets of the first slots are appended
-added_first : (s : Spans) (long : PlainValue → ℕ) (raw : List PlainValue) (old : Writing) (by n : ℕ) (before : List ℕ) (vs : List PlainValue) → AreSpans s long raw → s.start + n ≤ s.stop
+added_first : (s : OffsetRun) (long : PlainValue → ℕ) (raw : List PlainValue) (old : Writing) (by n : ℕ) (before : List ℕ) (vs : List PlainValue) → AreSpans s long raw → s.start + n ≤ s.stop
     → (place_in s s.start + by) % 2 ^ (8 * offset_bytes s.width) ≡ old.end % 2 ^ (8 * offset_bytes s.width) → AreOffsetsTo s.width long before vs old
     → sum_by long (vs ++ values_from raw s.start (s.start + n)) ≤ greatest_offset s.width
     → (old.out.items ++ moved (offset_bytes s.width) by n (slice_range s.offsets.now (offset_bytes s.width * (s.start + 1)) (offset_bytes s.width * (s.stop + 1))) ≡ before ++ offsets_bytes s.width (map long (vs ++ values_from raw s.start (s.start + n))))
@@ -98,7 +98,7 @@ added_first s long raw old by zero before vs are inside first so_far near =
     let past = so_far (subst (λ ws. sum_by long ws ≤ greatest_offset s.width) none near) in (
       append-nil old.out.items ∙ past.0 ∙ ap (λ ws. before ++ offsets_bytes s.width (map long ws)) (sym none),
       ap (λ k. (place_in s k + by) % 2 ^ (8 * offset_bytes s.width)) here ∙ first ∙ ap (λ k. k % 2 ^ (8 * offset_bytes s.width)) past.1
-          ∙ told s.width (sum_by long vs) (subst (λ ws. sum_by long ws ≤ greatest_offset s.width) none near) ∙ ap (sum_by long) (sym none),
+          ∙ represented s.width (sum_by long vs) (subst (λ ws. sum_by long ws ≤ greatest_offset s.width) none near) ∙ ap (sum_by long) (sym none),
     )
 added_first s long raw old by (suc n) before vs are inside first so_far near =
     let w = offset_bytes s.width in
@@ -119,8 +119,8 @@ added_first s long raw old by (suc n) before vs are inside first so_far near =
       ap (λ k. (k + by) % top) (ap (place_in s) next ∙ are.same i (omega arith) (omega (arith, inside))) ∙ sym is ∙ both.1 ∙ ap (sum_by long) (sym values),
     )
 
--- so those of all are
-pub spans_added : (s : Spans) (long : PlainValue → ℕ) (raw : List PlainValue) (old new : Writing) (len : ℕ) → AreSpans s long raw → PutsMoved s old.end old.out.items new.out.items
+-- so the offsets of all slots are appended
+pub spans_added : (s : OffsetRun) (long : PlainValue → ℕ) (raw : List PlainValue) (old new : Writing) (len : ℕ) → AreSpans s long raw → PutsMoved s old.end old.out.items new.out.items
     → len ≡ sum_by long (values_from raw s.start s.stop) → (old.end + len ≤ greatest_offset s.width → new.end ≡ old.end + len)
     → (before : List ℕ) (vs : List PlainValue) → AreOffsetsTo s.width long before vs old → AreOffsetsTo s.width long before (vs ++ values_from raw s.start s.stop) new
 spans_added s long raw old new len are puts is next before vs so_far near =
@@ -134,7 +134,7 @@ spans_added s long raw old new len are puts is next before vs so_far near =
     let past = so_far (omega (arith, near, sum)) in
     (puts.added ∙ all.0, next (omega (arith, is, near, sum, past.1)) ∙ omega (arith, is, sum, past.1))
 
--- offsets do not fall, and stay within what there is
+-- offsets do not decrease, and stay within bounds
 known : (w : OffsetWidth) (n top : ℕ) (o : List ℕ) (j : ℕ) → ((i : ℕ) → get_or o i 0 < 256) → HasOffsets w n top o → j < n
     → (place_of w o j ≤ place_of w o (j + 1)) × (place_of w o (j + 1) ≤ top)
 known w n top o j small rising h =
@@ -149,7 +149,7 @@ known w n top o j small rising h =
 part_long : {A : Type 0} (xs : List A) (a b : ℕ) → a ≤ b → b ≤ length xs → length (slice_range xs a b) ≡ b - a
 part_long xs a b order inside = omega (arith, length-take (b - a) (drop a xs), length-drop a xs, order, inside)
 
--- what a slot has is what lies between its offsets, valid or not
+-- the content of a slot lies between its offsets, whether it is valid or not
 between_them : {A : Type 0} (valid : Bool) (all x : List A) (a b : ℕ) → x ≡ (if valid then slice_range all a b else []) → (valid ≡ false → b ≡ a) → a ≤ b → b ≤ length all
     → (x ≡ slice_range all a b) × (b ≡ a + length x)
 between_them true all x a b is nothing order inside = (is, omega (arith, ap length is, part_long all a b order inside, order))
@@ -157,8 +157,8 @@ between_them false all x a b is nothing order inside =
     let none : b - a ≡ 0 = omega (arith, nothing refl) in
     (is ∙ sym (ap (λ n. take n (drop a all)) none), omega (arith, nothing refl, ap length is))
 
--- so it is of each slot of a range in which nothing lies under a null
-pub each_between : {A : Type 0} (o : Offsets) (all : List A) (give : PlainValue → List A) (raw : List PlainValue) (start stop : ℕ) (s : Spans) → AreHeld o all give raw → AreBetween o start stop s → stop ≤ length raw
+-- so it is for each slot of a range, if nothing lies under the nulls of that range
+pub each_between : {A : Type 0} (o : Offsets) (all : List A) (give : PlainValue → List A) (raw : List PlainValue) (start stop : ℕ) (s : OffsetRun) → AreHeld o all give raw → AreBetween o start stop s → stop ≤ length raw
     → (j : ℕ) → start ≤ j → j < stop → (place_in s j ≤ place_in s (j + 1)) × (place_in s (j + 1) ≤ length all) × (give (value_at raw j) ≡ slice_range all (place_in s j) (place_in s (j + 1))) × (place_in s (j + 1) ≡ place_in s j + length (give (value_at raw j)))
 each_between o all give raw start stop s held are inside j low high =
     let here : j < length raw = omega (arith, high, inside) in
@@ -168,7 +168,7 @@ each_between o all give raw start stop s held are inside j low high =
     (subst (λ b. (place_of o.width b j ≤ place_of o.width b (j + 1)) × (place_of o.width b (j + 1) ≤ length all) × (give (value_at raw j) ≡ slice_range all (place_of o.width b j) (place_of o.width b (j + 1))) × (place_of o.width b (j + 1) ≡ place_of o.width b j + length (give (value_at raw j)))) (sym are.offsets)
     (there.0, there.1, both.0, both.1))
 
-pub spans_are : {A : Type 0} (o : Offsets) (all : List A) (give : PlainValue → List A) (raw : List PlainValue) (start stop : ℕ) (s : Spans) → AreHeld o all give raw → AreBetween o start stop s → stop ≤ length raw
+pub spans_are : {A : Type 0} (o : Offsets) (all : List A) (give : PlainValue → List A) (raw : List PlainValue) (start stop : ℕ) (s : OffsetRun) → AreHeld o all give raw → AreBetween o start stop s → stop ≤ length raw
     → AreSpansOf s (λ v. length (give v)) raw start stop
 spans_are o all give raw start stop s held are inside = record {
   spans = record {
@@ -181,7 +181,7 @@ spans_are o all give raw start stop s held are inside = record {
 }
 
 -- the first offset and the last
-pub bounds_between : {A : Type 0} (o : Offsets) (all : List A) (give : PlainValue → List A) (raw : List PlainValue) (start stop : ℕ) (s : Spans) → AreHeld o all give raw → AreBetween o start stop s → stop ≤ length raw
+pub bounds_between : {A : Type 0} (o : Offsets) (all : List A) (give : PlainValue → List A) (raw : List PlainValue) (start stop : ℕ) (s : OffsetRun) → AreHeld o all give raw → AreBetween o start stop s → stop ≤ length raw
     → (place_in s start ≤ place_in s stop) × (place_in s stop ≤ length all)
 bounds_between o all give raw start stop s held are inside =
     let each = each_between o all give raw start stop s held are inside in
@@ -191,19 +191,19 @@ bounds_between o all give raw start stop s held are inside =
       subst (λ k. place_in s k ≤ length all) before (each (stop - 1) (omega (arith, are.some)) (omega (arith, are.some))).1,
     )
 
--- as much as the slots have
-pub reach_range : (s : Spans) (long : PlainValue → ℕ) (raw : List PlainValue) (start stop n : ℕ) → AreSpansOf s long raw start stop → n ≡ sum_by long (values_from raw s.start s.stop) → n ≡ sum_by long (values_from raw start stop)
+-- the distance between them is the total length of the slots
+pub reach_range : (s : OffsetRun) (long : PlainValue → ℕ) (raw : List PlainValue) (start stop n : ℕ) → AreSpansOf s long raw start stop → n ≡ sum_by long (values_from raw s.start s.stop) → n ≡ sum_by long (values_from raw start stop)
 reach_range s long raw start stop n are is = is ∙ (λ i. sum_by long (values_from raw (are.first i) (are.last i)))
 
--- and what all slots have lies between the first and the last
-pub pieces_between : {A : Type 0} (o : Offsets) (all : List A) (give : PlainValue → List A) (raw : List PlainValue) (start stop : ℕ) (s : Spans) → AreHeld o all give raw → AreBetween o start stop s → stop ≤ length raw
+-- and the contents of all slots lie between the first offset and the last
+pub pieces_between : {A : Type 0} (o : Offsets) (all : List A) (give : PlainValue → List A) (raw : List PlainValue) (start stop : ℕ) (s : OffsetRun) → AreHeld o all give raw → AreBetween o start stop s → stop ≤ length raw
     → slice_range all (place_in s start) (place_in s stop) ≡ flat_map give (values_from raw start stop)
 pieces_between o all give raw start stop s held are inside =
     joined_range give raw all (place_in s) start stop (omega (arith, are.some)) inside
     (λ j low high. let each = each_between o all give raw start stop s held are inside j low high in (each.0, each.2))
 
--- a piece of offsets is there
-pub there_in : (part : Part) (vs : List PlainValue) (piece : Piece) → IsPiece part vs piece → IsThere piece
+-- a piece of offsets has the offsets it needs
+pub there_in : (part : BufferKind) (vs : List PlainValue) (piece : SlotRun) → IsPiece part vs piece → IsThere piece
 there_in part vs (pieces.Bytes bytes) is = tt
 there_in Validity vs (pieces.Offsets s) is = absurd is
 there_in Truths vs (pieces.Offsets s) is = absurd is
@@ -213,21 +213,21 @@ there_in (ListOffsets width) vs (pieces.Offsets s) is = is.spans.there
 there_in Strings vs (pieces.Offsets s) is = absurd is
 there_in (FixedBytes width) vs (pieces.Offsets s) is = absurd is
 
--- what was appended to offsets
-abbrev pub AddsSpans : Spans → Writing → Writing → Type 0
+-- what is appended to offsets
+abbrev pub AddsSpans : OffsetRun → Writing → Writing → Type 0
 AddsSpans s old new =
     (long : PlainValue → ℕ) (raw : List PlainValue) → AreSpans s long raw → (before : List ℕ) (vs : List PlainValue)
     → AreOffsetsTo s.width long before vs old → AreOffsetsTo s.width long before (vs ++ values_from raw s.start s.stop) new
 
 -- the offsets of slots with these values
-these_added : (s : Spans) (width : OffsetWidth) (long : PlainValue → ℕ) (old new : Writing) (values : List PlainValue) → AreOffsetsOf s width long values → AddsSpans s old new
+these_added : (s : OffsetRun) (width : OffsetWidth) (long : PlainValue → ℕ) (old new : Writing) (values : List PlainValue) → AreOffsetsOf s width long values → AddsSpans s old new
     → (before : List ℕ) (vs : List PlainValue) → AreOffsetsTo width long before vs old → AreOffsetsTo width long before (vs ++ values) new
 these_added s width long old new values are added before vs =
     subst (λ w. AreOffsetsTo w long before vs old → AreOffsetsTo w long before (vs ++ values) new) are.same_width
     (subst (λ ws. AreOffsetsTo s.width long before vs old → AreOffsetsTo s.width long before (vs ++ ws) new) (sym are.values) (added long are.raw are.spans before vs))
 
 -- so a piece of offsets is added to its buffer
-pub offsets_written : (part : Part) (old new : Writing) (s : Spans) (values : List PlainValue) → AreSpansIn part values s → AddsSpans s old new
+pub offsets_written : (part : BufferKind) (old new : Writing) (s : OffsetRun) (values : List PlainValue) → AreSpansIn part values s → AddsSpans s old new
     → (before : List ℕ) (vs : List PlainValue) → IsWritten part before vs old → IsWritten part before (vs ++ values) new
 offsets_written Validity old new s values are added before vs = absurd are
 offsets_written Truths old new s values are added before vs = absurd are
@@ -238,7 +238,7 @@ offsets_written Strings old new s values are added before vs = absurd are
 offsets_written (FixedBytes width) old new s values are added before vs = absurd are
 
 -- offsets of a range of slots are those of their values
-pub offsets_of_range : (s : Spans) (width : OffsetWidth) (long : PlainValue → ℕ) (raw : List PlainValue) (start stop : ℕ) → AreSpansOf s long raw start stop → s.width ≡ width → AreOffsetsOf s width long (values_from raw start stop)
+pub offsets_of_range : (s : OffsetRun) (width : OffsetWidth) (long : PlainValue → ℕ) (raw : List PlainValue) (start stop : ℕ) → AreSpansOf s long raw start stop → s.width ≡ width → AreOffsetsOf s width long (values_from raw start stop)
 offsets_of_range s width long raw start stop are same = record {
   raw = raw;
   spans = are.spans;

@@ -1,10 +1,10 @@
--- Children that are sent whole, and what is stored of them.
+-- Children that are sent unsliced, and what is stored of them.
 use Rattle.std.proofs.Common.{◌≡◌, ◌<◌, ℕ, zero, suc, ◌+◌, List, [], ◌∷◌, ◌++◌, length, map, refl, sym, ap, ◌∙◌, subst, arith, append-nil, Option, None, Some}
 use Rattle.std.specs.Prelude.{slice_get}
 use Rattle.std.specs.List.{AllByRecursion, flat_map, range_with_len, sum_by}
 use Rattle.std.proofs.lemmas.List.Sums.{sum_by-append}
-use Rattle.arrow_types.specs.DataType.{Tag}
-use Rattle.arrow_types.specs.Field.{Fields, none, more, width, TypeShape}
+use Rattle.arrow_types.specs.DataType.{TypeId}
+use Rattle.arrow_types.specs.Field.{FieldTree, none, more, width, TypeShape}
 use Rattle.arrow_types.specs.declared.field.Encoding.{Encoding}
 use Rattle.arrow_data.specs.Column.{AreOf, Column, HasChild, HasFields, IsList, values_from}
 use Rattle.arrow_data.specs.Form.{HasFieldsOf, IsLeaf, form_of, node_form}
@@ -27,19 +27,19 @@ use Rattle.arrow_body_writer.proofs.RunPasses.{fields_are}
 use Rattle.arrow_body_writer.proofs.Sending.{lists_of, plain_list, plain_struct}
 use Rattle.arrow_body_writer.specs.Runs.{HasNoRun, HasRun}
 use Rattle.arrow_body_writer.specs.Sent.{nodes_of_column}
-use Rattle.arrow_body_writer.specs.Storable.{AreTold, columns_size}
+use Rattle.arrow_body_writer.specs.Storable.{AreRepresentable, columns_size}
 use Rattle.arrow_body_writer.specs.Storing.{Stores}
 use Rattle.arrow_body_writer.specs.Tally.{capped}
 use Rattle.arrow_body_writer.specs.Whole.{AreSentWhole}
 use Rattle.arrow_body_writer.specs.declared.body.Body.{Body}
 
--- the column at a place is as long as all are
+-- the column at an index is as long as all are
 long_at : (n : ℕ) (cs : List Column) (k : ℕ) (c : Column) → AllByRecursion (λ (d : Column). length d.raw ≡ n) cs → slice_get cs k ≡ Some c → length c.raw ≡ n
 long_at n [] k c long is = cc
 long_at n (d ∷ cs) zero c long is = let same : d ≡ c = cc in subst (λ (x : Column). length x.raw ≡ n) same long.0
 long_at n (d ∷ cs) (suc k) c long is = long_at n cs k c long.1 is
 
--- what is so of each column by its place is so of all
+-- a property of each column by its index holds of all columns
 raws_by_place : (f : ℕ → List PlainValue) (cs : List Column) (a w : ℕ) → w ≡ length cs → ((k : ℕ) (c : Column) → slice_get cs k ≡ Some c → f (a + k) ≡ c.raw) → map f (range_with_len a w) ≡ raws_of cs
 raws_by_place f [] a zero many each = refl
 raws_by_place f [] a (suc w) many each = absurd (omega (arith, many))
@@ -54,7 +54,7 @@ raws_by_place f (c ∷ cs) a (suc w) many each =
 typed_below : (c : Column) (children : List Column) → c.encoding ≡ None → AreOf c.data_type.children children → AreOf (below c.encoding c.data_type.children) children
 typed_below c children plain typed = subst (λ e. AreOf (below e c.data_type.children) children) (sym plain) typed
 
--- structs of which none is null send their children whole where these have no more slots
+-- structs without nulls send their children unsliced, if these have no more slots than there are structs
 pub fields_whole : (c : Column) (children : List Column) (slots : ℕ) → HasFields c children → AreFull c 0 (length c.raw) → slots ≡ length c.raw → AllByRecursion (λ (d : Column). length d.raw ≡ slots) children → AreSentWhole c children
 fields_whole c children slots fields full all long =
     let values : (k : ℕ) (d : Column) → slice_get children k ≡ Some d → map (field_value (0 + k)) c.raw ≡ d.raw = λ k d is.
@@ -68,7 +68,7 @@ fields_whole c children slots fields full all long =
           ∙ raws_by_place (λ k. map (field_value k) c.raw) children 0 (width c.data_type.children) (as_many c.data_type.children children fields.typed) values;
     }
 
--- lists send the child whole where their items are all its slots
+-- lists send their child unsliced if their items are all its slots
 items_whole : (c child : Column) → IsList c → AreOf c.data_type.children (child ∷ []) → ((n : ℕ) → flat_map (items_in_value n) (values_from c.raw 0 (length c.raw)) ≡ child.raw) → AreSentWhole c (child ∷ [])
 items_whole c child lists typed items =
     let form = lists_of (node_form c.data_type.tag c.encoding) lists in
@@ -82,7 +82,7 @@ pub run_whole : (c child : Column) (slots first last : ℕ) → IsList c → Has
 run_whole c child slots first last lists run all begins ends =
     items_whole c child lists run.typed (λ nulls. ap (λ n. flat_map (items_in_value nulls) (values_from c.raw 0 n)) (sym all) ∙ run.same nulls ∙ ap (λ n. values_from child.raw n last) begins ∙ all_from child.raw last ends)
 
--- also where there are none
+-- also if there are no slots
 no_vs : (vs : List PlainValue) → length vs ≡ 0 → [] ≡ vs
 no_vs [] empty = refl
 no_vs (v ∷ vs) empty = absurd (omega (arith, empty))
@@ -91,8 +91,8 @@ pub none_whole : (c child : Column) (slots : ℕ) → HasChild c child → HasNo
 none_whole c child slots has items all empty =
     items_whole c child has.is_list has.typed (λ nulls. ap (λ n. flat_map (items_in_value nulls) (values_from c.raw 0 n)) (sym all) ∙ items.none_of_lists has.is_list nulls ∙ no_vs child.raw empty)
 
--- below a leaf there is no field, and nothing is sent
-leaf_fields : (form : Form) (fields : Fields) → IsLeaf form → HasFieldsOf form fields → fields ≡ none
+-- a leaf has no field below it, and nothing is sent
+leaf_fields : (form : Form) (fields : FieldTree) → IsLeaf form → HasFieldsOf form fields → fields ≡ none
 leaf_fields forms.Nulls fields leaf has = has
 leaf_fields forms.Bits fields leaf has = has
 leaf_fields (forms.Numbers number) fields leaf has = has
@@ -102,7 +102,7 @@ leaf_fields (forms.FixedBytes w) fields leaf has = has
 leaf_fields (forms.Lists list) fields leaf has = absurd leaf
 leaf_fields forms.Structs fields leaf has = absurd leaf
 
-leaf_raws : (form : Form) (fields : Fields) (vs : List PlainValue) → IsLeaf form → raws_below form fields vs ≡ []
+leaf_raws : (form : Form) (fields : FieldTree) (vs : List PlainValue) → IsLeaf form → raws_below form fields vs ≡ []
 leaf_raws forms.Nulls fields vs leaf = refl
 leaf_raws forms.Bits fields vs leaf = refl
 leaf_raws (forms.Numbers number) fields vs leaf = refl
@@ -112,7 +112,7 @@ leaf_raws (forms.FixedBytes w) fields vs leaf = refl
 leaf_raws (forms.Lists list) fields vs leaf = absurd leaf
 leaf_raws forms.Structs fields vs leaf = absurd leaf
 
--- a column of a leaf's type without an encoding sends no child
+-- a column of a leaf type without an encoding sends no child
 pub leaf_whole : (c : Column) (form : Form) → c.encoding ≡ None → form ≡ form_of c.data_type.tag → HasFieldsOf form c.data_type.children → IsLeaf form → AreSentWhole c []
 leaf_whole c form plain is has leaf =
     let own : node_form c.data_type.tag c.encoding ≡ form = ap (node_form c.data_type.tag) plain ∙ sym is in
@@ -121,15 +121,15 @@ leaf_whole c form plain is has leaf =
       same = ap (λ f. raws_below f c.data_type.children c.raw) own ∙ leaf_raws form c.data_type.children c.raw leaf;
     }
 
--- nor does one of indices
+-- neither does a column of indices
 pub encoded_whole : (c : Column) (e : Encoding) → c.encoding ≡ Some e → AreSentWhole c []
 encoded_whole c e is = record {
   typed = subst (λ o. AreOf (below o c.data_type.children) []) (sym is) tt;
   same = ap (λ o. raws_below (node_form c.data_type.tag o) c.data_type.children c.raw) is;
 }
 
--- names and nullability are not looked at: what each node of columns gives is what each node of their fields gives
-level_typed : {A : Type 0} (g : Form → List PlainValue → List A) (fields : Fields) (cs : List Column) (raws : List (List PlainValue)) → AreOf fields cs → by_level g (fields_of_columns cs) raws ≡ by_level g fields raws
+-- names and nullability are ignored: each node of the columns gives what the node of the corresponding field gives
+level_typed : {A : Type 0} (g : Form → List PlainValue → List A) (fields : FieldTree) (cs : List Column) (raws : List (List PlainValue)) → AreOf fields cs → by_level g (fields_of_columns cs) raws ≡ by_level g fields raws
 level_typed g none [] raws are = refl
 level_typed g none (d ∷ cs) raws are = absurd are
 level_typed g (more h c rest) [] raws are = absurd are
@@ -138,7 +138,7 @@ level_typed g (more h c rest) (d ∷ cs) (vs ∷ raws) are = λ i.
     g (node_form (are.0 i).tag (are.1 i)) vs ++ (by_level g (are.0 i).children (raws_below (node_form (are.0 i).tag (are.1 i)) (are.0 i).children vs) ++ level_typed g rest cs raws are.2 i)
 
 -- what the nodes below a column give: those of the children
-level_below : {A : Type 0} (g : Form → List PlainValue → List A) (tag : Tag) (e : Option Encoding) (fields : Fields) (vs : List PlainValue) (children : List Column)
+level_below : {A : Type 0} (g : Form → List PlainValue → List A) (tag : TypeId) (e : Option Encoding) (fields : FieldTree) (vs : List PlainValue) (children : List Column)
     → AreOf (below e fields) children → raws_below (node_form tag e) fields vs ≡ raws_of children
     → by_level g fields (raws_below (node_form tag e) fields vs) ≡ by_level g (fields_of_columns children) (raws_of children)
 level_below g tag None fields vs children typed same = ap (by_level g fields) same ∙ sym (level_typed g fields children (raws_of children) typed)
@@ -178,11 +178,11 @@ whole_size align c children whole =
 abbrev pub HoldsRaws : List PlainValue → TypeShape → Option Encoding → Type 0
 HoldsRaws vs t e = AllByRecursion (IsOwn (node_form t.tag e) t.children) vs × IfFlattened e (AreRaws t.children (raws_below (node_form t.tag e) t.children vs))
 
--- what holds of a field's type and encoding holds of its column's
+-- a property of a field's type and encoding holds of its column's
 of_column : (P : TypeShape → Option Encoding → Type 0) (t u : TypeShape) (e f : Option Encoding) → t ≡ u → e ≡ f → P u f → P t e
 of_column P t u e f type encoding holds = subst (λ x. P x e) (sym type) (subst (λ x. P u x) (sym encoding) holds)
 
-raws_typed : (fields : Fields) (cs : List Column) (raws : List (List PlainValue)) → AreOf fields cs → AreRaws fields raws → AreRaws (fields_of_columns cs) raws
+raws_typed : (fields : FieldTree) (cs : List Column) (raws : List (List PlainValue)) → AreOf fields cs → AreRaws fields raws → AreRaws (fields_of_columns cs) raws
 raws_typed none [] raws are all = all
 raws_typed none (d ∷ cs) raws are all = absurd are
 raws_typed (more h c rest) [] raws are all = absurd are
@@ -191,21 +191,21 @@ raws_typed (more h c rest) (d ∷ cs) (vs ∷ raws) are all =
     let own = of_column (HoldsRaws vs) d.data_type (record { tag = h.tag; children = c }) d.encoding h.encoding are.0 are.1 (all.0, all.1) in
     (own.0, own.1, raws_typed rest cs raws are.2 all.2)
 
-raws_under : (tag : Tag) (e : Option Encoding) (fields : Fields) (vs : List PlainValue) (children : List Column) → AreOf (below e fields) children → raws_below (node_form tag e) fields vs ≡ raws_of children
+raws_under : (tag : TypeId) (e : Option Encoding) (fields : FieldTree) (vs : List PlainValue) (children : List Column) → AreOf (below e fields) children → raws_below (node_form tag e) fields vs ≡ raws_of children
     → IfFlattened e (AreRaws fields (raws_below (node_form tag e) fields vs)) → AreRaws (fields_of_columns children) (raws_of children)
 raws_under tag None fields vs children typed same are = raws_typed fields children (raws_of children) typed (subst (AreRaws fields) same are)
 raws_under tag (Some e) fields vs [] typed same are = tt
 raws_under tag (Some e) fields vs (d ∷ cs) typed same are = absurd typed
 
--- so may the children's
+-- so may those of the children
 pub whole_raws : (c : Column) (children : List Column) → AreSentWhole c children → AreRaws (fields_of_columns (c ∷ [])) (raws_of (c ∷ [])) → AreRaws (fields_of_columns children) (raws_of children)
 whole_raws c children whole are = raws_under c.data_type.tag c.encoding c.data_type.children c.raw children whole.typed whole.same are.1
 
--- nodes that can be told, of a field
+-- the nodes of a field that are representable
 abbrev pub SmallBelow : List PlainValue → TypeShape → Option Encoding → Type 0
 SmallBelow vs t e = IsSmall (node_form t.tag e) vs × AreSmall t.children (raws_below (node_form t.tag e) t.children vs)
 
-small_typed : (fields : Fields) (cs : List Column) (raws : List (List PlainValue)) → AreOf fields cs → AreSmall fields raws → AreSmall (fields_of_columns cs) raws
+small_typed : (fields : FieldTree) (cs : List Column) (raws : List (List PlainValue)) → AreOf fields cs → AreSmall fields raws → AreSmall (fields_of_columns cs) raws
 small_typed none [] raws are all = tt
 small_typed none (d ∷ cs) raws are all = absurd are
 small_typed (more h c rest) [] raws are all = absurd are
@@ -214,7 +214,7 @@ small_typed (more h c rest) (d ∷ cs) (vs ∷ raws) are all =
     let own = of_column (SmallBelow vs) d.data_type (record { tag = h.tag; children = c }) d.encoding h.encoding are.0 are.1 (all.0, all.1) in
     (own.0, own.1, small_typed rest cs raws are.2 all.2)
 
-small_named : (fields : Fields) (cs : List Column) (raws : List (List PlainValue)) → AreOf fields cs → AreSmall (fields_of_columns cs) raws → AreSmall fields raws
+small_named : (fields : FieldTree) (cs : List Column) (raws : List (List PlainValue)) → AreOf fields cs → AreSmall (fields_of_columns cs) raws → AreSmall fields raws
 small_named none [] raws are all = tt
 small_named none (d ∷ cs) raws are all = absurd are
 small_named (more h c rest) [] raws are all = absurd are
@@ -224,7 +224,7 @@ small_named (more h c rest) (d ∷ cs) (vs ∷ raws) are all =
     (own.0, own.1, small_named rest cs raws are.2 all.2)
 
 -- no child has more nodes than the column
-fewer : (fields : Fields) (cs : List Column) (n : ℕ) → AreOf fields cs → taken_nodes fields < n → AllByRecursion (λ (c : Column). nodes_of_column c < n) cs
+fewer : (fields : FieldTree) (cs : List Column) (n : ℕ) → AreOf fields cs → taken_nodes fields < n → AllByRecursion (λ (c : Column). nodes_of_column c < n) cs
 fewer none [] n are less = tt
 fewer none (d ∷ cs) n are less = absurd are
 fewer (more h c rest) [] n are less = absurd are
@@ -232,7 +232,7 @@ fewer (more h c rest) (d ∷ cs) n are less =
     let same : flattened d.encoding (taken_nodes d.data_type.children) ≡ flattened h.encoding (taken_nodes c) = λ i. flattened (are.1 i) (taken_nodes (are.0 i).children) in
     (omega (arith, less, same), fewer rest cs n are.2 (omega (arith, less)))
 
-taken_below : (e : Option Encoding) (fields : Fields) → taken_nodes (below e fields) ≡ flattened e (taken_nodes fields)
+taken_below : (e : Option Encoding) (fields : FieldTree) → taken_nodes (below e fields) ≡ flattened e (taken_nodes fields)
 taken_below None fields = refl
 taken_below (Some e) fields = refl
 
@@ -241,42 +241,42 @@ whole_counted c children n whole less =
     fewer (below c.encoding c.data_type.children) children n whole.typed (omega (arith, less, taken_below c.encoding c.data_type.children))
 
 -- without values all nodes are small
-none_small : (fields : Fields) → AreSmall fields []
+none_small : (fields : FieldTree) → AreSmall fields []
 none_small none = tt
 none_small (more h c rest) = tt
 
-small_under : (tag : Tag) (e : Option Encoding) (fields : Fields) (vs : List PlainValue) (children : List Column) → AreOf (below e fields) children → raws_below (node_form tag e) fields vs ≡ raws_of children
+small_under : (tag : TypeId) (e : Option Encoding) (fields : FieldTree) (vs : List PlainValue) (children : List Column) → AreOf (below e fields) children → raws_below (node_form tag e) fields vs ≡ raws_of children
     → AreSmall fields (raws_below (node_form tag e) fields vs) → AreSmall (fields_of_columns children) (raws_of children)
 small_under tag None fields vs children typed same small = small_typed fields children (raws_of children) typed (subst (AreSmall fields) same small)
 small_under tag (Some e) fields vs [] typed same small = tt
 small_under tag (Some e) fields vs (d ∷ cs) typed same small = absurd typed
 
-small_over : (tag : Tag) (e : Option Encoding) (fields : Fields) (vs : List PlainValue) (children : List Column) → AreOf (below e fields) children → raws_below (node_form tag e) fields vs ≡ raws_of children
+small_over : (tag : TypeId) (e : Option Encoding) (fields : FieldTree) (vs : List PlainValue) (children : List Column) → AreOf (below e fields) children → raws_below (node_form tag e) fields vs ≡ raws_of children
     → AreSmall (fields_of_columns children) (raws_of children) → AreSmall fields (raws_below (node_form tag e) fields vs)
 small_over tag None fields vs children typed same small = subst (AreSmall fields) (sym same) (small_named fields children (raws_of children) typed small)
 small_over tag (Some e) fields vs children typed same small = none_small fields
 
--- the column can be told just where its own node and its children can
-pub whole_told : (c : Column) (children : List Column) → AreSentWhole c children → AreTold (c ∷ []) → AreTold children
-whole_told c children whole told = record {
-  counted = whole_counted c children 18446744073709551615 whole told.counted.0;
-  small = small_under c.data_type.tag c.encoding c.data_type.children c.raw children whole.typed whole.same told.small.1;
+-- the column is representable exactly if its own node and its children are
+pub whole_represented : (c : Column) (children : List Column) → AreSentWhole c children → AreRepresentable (c ∷ []) → AreRepresentable children
+whole_represented c children whole represented = record {
+  counted = whole_counted c children 18446744073709551615 whole represented.counted.0;
+  small = small_under c.data_type.tag c.encoding c.data_type.children c.raw children whole.typed whole.same represented.small.1;
 }
 
-pub told_whole : (c : Column) (children : List Column) → AreSentWhole c children → nodes_of_column c < 18446744073709551615 → IsSmall (node_form c.data_type.tag c.encoding) c.raw → AreTold children → AreTold (c ∷ [])
-told_whole c children whole counted own told = record {
+pub represented_whole : (c : Column) (children : List Column) → AreSentWhole c children → nodes_of_column c < 18446744073709551615 → IsSmall (node_form c.data_type.tag c.encoding) c.raw → AreRepresentable children → AreRepresentable (c ∷ [])
+represented_whole c children whole counted own represented = record {
   counted = (counted, tt);
-  small = (own, small_over c.data_type.tag c.encoding c.data_type.children c.raw children whole.typed whole.same told.small, tt);
+  small = (own, small_over c.data_type.tag c.encoding c.data_type.children c.raw children whole.typed whole.same represented.small, tt);
 }
 
--- so its size is that of its own node and that of its children
+-- so its size is the sum of the size of its own node and the size of its children
 pub sized_whole : (align : ℕ) (c : Column) (children : List Column) (own below all : ℕ) → AreSentWhole c children → nodes_of_column c < 18446744073709551615 → IsSmall (node_form c.data_type.tag c.encoding) c.raw
-    → own ≡ sum_by (rounded align) (own_sizes (node_form c.data_type.tag c.encoding) c.raw) → AreTold children → below ≡ capped (columns_size align children) → all ≡ capped (own + below)
-    → AreTold (c ∷ []) × (all ≡ capped (columns_size align (c ∷ [])))
-sized_whole align c children own below all whole counted small is told size sum =
-    (told_whole c children whole counted small told, omega (arith, sum, is, size, whole_size align c children whole))
+    → own ≡ sum_by (rounded align) (own_sizes (node_form c.data_type.tag c.encoding) c.raw) → AreRepresentable children → below ≡ capped (columns_size align children) → all ≡ capped (own + below)
+    → AreRepresentable (c ∷ []) × (all ≡ capped (columns_size align (c ∷ [])))
+sized_whole align c children own below all whole counted small is represented size sum =
+    (represented_whole c children whole counted small represented, omega (arith, sum, is, size, whole_size align c children whole))
 
--- the column is stored where its own node is, and then its children are
+-- the column is stored when its own node is stored, followed by its children
 pub stores_whole : (align : ℕ) (c : Column) (children : List Column) (a b z : Body) → 0 < align → AreSentWhole c children
     → Stores align (own_node c.raw ∷ []) (own_chunks (node_form c.data_type.tag c.encoding) c.raw) a b
     → Stores align (stored_nodes (fields_of_columns children) (raws_of children)) (stored_chunks (fields_of_columns children) (raws_of children)) b z

@@ -2,8 +2,8 @@
 use Rattle.std.specs.Prelude.{◌≡◌, ◌<◌, ℕ, ◌*◌, ◌^◌, Bool, List, ◌++◌, length}
 use Rattle.arrow_body_laws.specs.Packed.{number_of_bits, packed}
 
--- After `before` the bits stand packed, save those of the last byte, which is not full: it and the weight of its next bit
--- are kept beside (Columnar Format, "Validity bitmaps").
+-- The bits are packed after `before`, except those of the last byte, which is not full: that byte and the weight of
+-- its next bit are kept separately (Columnar Format, "Validity bitmaps").
 pub record IsPacking (before : List ℕ) (bits : List Bool) (byte weight : ℕ) (items : List ℕ) : Type 0 where
   pub whole : List Bool
   pub rest : List Bool

@@ -1,26 +1,26 @@
--- A body on its way: what is added to it.
+-- A body under construction: what is added to it.
 use Rattle.std.specs.Prelude.{◌≡◌, ℕ, List, [], ◌++◌, length}
 use Rattle.std.specs.List.{flat_map}
 use Rattle.arrow_types.specs.declared.node.FieldNode.{FieldNode}
 use Rattle.arrow_data.specs.Column.{Column}
 use Rattle.arrow_body_laws.specs.Laws.{raws_of}
 use Rattle.arrow_body_laws.specs.Stored.{PlainBody, fields_of_columns, padded, places_from, stored_chunks, stored_nodes}
-use Rattle.arrow_body_writer.specs.Storable.{AreTold}
+use Rattle.arrow_body_writer.specs.Storable.{AreRepresentable}
 use Rattle.arrow_body_writer.specs.declared.body.Body.{Body}
 
--- what a body says
+-- the contents of a body
 abbrev pub body_view : Body → PlainBody
 body_view b = record { nodes = b.nodes.items; buffers = b.buffers.items; bytes = b.bytes.items }
 
--- nodes, and the bytes of buffers with their padding, stand after what was there
+-- nodes, and the bytes of buffers with their padding, are appended to what the body had
 pub record Stores (align : ℕ) (nodes : List FieldNode) (chunks : List (List ℕ)) (old new : Body) : Type 0 where
   pub nodes_added : new.nodes.items ≡ old.nodes.items ++ nodes
   pub buffers_added : new.buffers.items ≡ old.buffers.items ++ places_from align (length old.bytes.items) chunks
   pub bytes_added : new.bytes.items ≡ old.bytes.items ++ flat_map (padded align) chunks
 
--- columns that can be told stand after what was there
+-- columns that are representable are appended to what the body had
 pub record StoresColumns (align : ℕ) (cs : List Column) (old new : Body) : Type 0 where
-  pub told : AreTold cs
+  pub represented : AreRepresentable cs
   pub stored : Stores align (stored_nodes (fields_of_columns cs) (raws_of cs)) (stored_chunks (fields_of_columns cs) (raws_of cs)) old new
 
 -- nothing was added to a body

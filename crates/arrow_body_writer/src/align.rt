@@ -1,10 +1,10 @@
-//! To which number of bytes buffers are padded.
+//! The number of bytes to which buffers are padded.
 
 ghost use Rattle.std.specs.Prelude.{◌≡◌, ◌≤◌, ◌+◌};
 ghost use Rattle.arrow_body_laws.specs.Stored.{rounded};
 ghost use Rattle.arrow_body_writer.specs.Align.{alignment_of};
 
-/// To which number of bytes each buffer is padded (Columnar Format, "Buffer Alignment and
+/// The number of bytes to which each buffer is padded (Columnar Format, "Buffer Alignment and
 /// Padding").
 #[derive(Clone, Copy, Debug, PartialEq, Eq)]
 pub enum Align {

@@ -11,7 +11,7 @@ use crate::whole::is_full;
 use arrow_bits::Bits;
 use arrow_data::{Array, Buffers};
 
-// The buffer of validity, None of a column in which all is null.
+/// The validity buffer, None for a column of the Null layout, in which all is null.
 fn validity_of(buffers: Buffers<'_>) -> Option<&[u8]>
     ensures { option_map (λ bits. bits.now) result ≡ validity_of buffers.entry }
 {
@@ -26,7 +26,7 @@ fn validity_of(buffers: Buffers<'_>) -> Option<&[u8]>
     }
 }
 
-// The validity bitmap of the array, None where it has none.
+/// The validity bitmap of the array, None if it has none.
 pub(crate) fn bitmap(array: &Array) -> Option<&[u8]>
     ensures { IfSome result (λ bits. AreMarked array.now.raw bits.now) }
 {
@@ -34,8 +34,8 @@ pub(crate) fn bitmap(array: &Array) -> Option<&[u8]>
     if bits.is_empty() { None } else { Some(bits) }
 }
 
-// The bitmap of structs, where a child of theirs has no null of its own: in its place a null is sent
-// where the struct is null, and nowhere else (Columnar Format, "Struct Layout").
+/// The bitmap of structs, if a child of theirs has no null of its own: then a null is sent in place
+/// of the child's slot exactly if the struct is null (Columnar Format, "Struct Layout").
 pub(crate) fn bitmap_above<'a>(structs: &'a Array, child: &Array) -> Option<&'a [u8]>
     ensures { IfSome result (λ bits. (k : ℕ) → HasField structs.now k child.now
         → AreMasked child.now.raw (map (field_value k) structs.now.raw) bits.now) }
@@ -47,7 +47,7 @@ pub(crate) fn bitmap_above<'a>(structs: &'a Array, child: &Array) -> Option<&'a 
     }
 }
 
-// How many of the first bits of bytes are 0.
+/// The number of zero bits among the first bits of the bytes.
 fn zeros_of(bytes: &[u8], len: usize) -> usize
     requires { len ≤ 8 * length bytes.now }
     ensures { result ≡ count_by not (bits_of len bytes.now) }
@@ -58,7 +58,7 @@ fn zeros_of(bytes: &[u8], len: usize) -> usize
     }
 }
 
-// How many bits of a range are 0.
+/// The number of zero bits in a range.
 pub(crate) fn zeros(bits: BitRange<'_>) -> usize
     requires { IsBitRange bits }
     ensures { result ≡ count_by not (bits_in bits.entry) }

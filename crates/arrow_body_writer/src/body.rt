@@ -5,7 +5,7 @@ ghost use Rattle.arrow_data.specs.Column.{Column};
 ghost use Rattle.arrow_data.specs.Form.{node_form};
 ghost use Rattle.arrow_data.specs.FullSlots.{AreFull};
 ghost use Rattle.arrow_body_laws.specs.Laws.{IsBodyOf, raws_of};
-ghost use Rattle.arrow_body_laws.specs.Tidy.{IsTidy};
+ghost use Rattle.arrow_body_laws.specs.Canonical.{IsCanonical};
 ghost use Rattle.arrow_body_laws.specs.Raws.{AreRaws, IsSmall};
 ghost use Rattle.arrow_body_laws.specs.Stored.{fields_of_columns, own_chunks, own_node};
 ghost use Rattle.arrow_body_laws.specs.Stored.{stored};
@@ -13,47 +13,52 @@ ghost use Rattle.std.specs.List.{AllByRecursion};
 ghost use Rattle.std.specs.Vec.{vec_capacity};
 ghost use Rattle.arrow_body_writer.specs.Align.{alignment_of};
 ghost use Rattle.arrow_body_writer.specs.Counts.{IsCounted, sent_at};
-ghost use Rattle.arrow_body_writer.specs.Part.{HasRoom, IsTold, chunk_of};
-ghost use Rattle.arrow_body_writer.specs.Sent.{form_of_column, nodes_of_column, sent_below};
+ghost use Rattle.arrow_body_writer.specs.Part.{HasRoom, IsRepresentable, chunk_of};
+ghost use Rattle.arrow_body_writer.specs.Sent.{form_of_column, nodes_of_column, visible_children};
 ghost use Rattle.arrow_body_writer.specs.Source.{IsSource, column_in, rest_of};
-ghost use Rattle.arrow_body_writer.specs.Storable.{AreTold, CanBeStored};
+ghost use Rattle.arrow_body_writer.specs.Storable.{AreRepresentable, CanBeStored};
 ghost use Rattle.arrow_body_writer.specs.Tally.{IsTally};
 ghost use Rattle.arrow_body_writer.specs.Storing.{IsEmpty, Stores, StoresColumns, body_view};
-ghost use Rattle.arrow_body_writer.specs.declared.store_fault.StoreFault.TheVariants.{TooLarge};
+ghost use Rattle.arrow_body_writer.specs.declared.store_fault.BodyStoreFault.TheVariants.{TooLarge};
 
 use crate::align::Align;
 use crate::buffers::{put_buffer, put_padded};
-use crate::counts::{Counted, count_sent};
+use crate::counts::{NodeCounts, count_sent};
 use crate::forms::{are_countable, nodes_in_all, nodes_in_rest};
 use crate::measured::{body_size, rest_size};
-use crate::part::{Part, part_of};
+use crate::part::{BufferKind, part_of};
 use crate::sizes::is_small;
 use crate::slots::full_form;
-use crate::source::Source;
-use crate::store_fault::StoreFault;
+use crate::source::ColumnSource;
+use crate::store_fault::BodyStoreFault;
 use arrow_data::form::Form;
 use arrow_data::{Array, Dictionary};
 use arrow_types::{Buffer, FieldNode};
 use std::alloc::{AllocError, Global};
 use std::mem;
 
-/// The body of a batch, with its nodes and the places of its buffers (Columnar Format, "RecordBatch
-/// message").
+/// The body of a batch, with its nodes and the positions of its buffers (Columnar Format,
+/// "RecordBatch message").
 #[derive(Drop)]
 pub struct Body {
     /// A node for each field on each level, in pre-order.
     pub nodes: Vec<FieldNode>,
-    /// Where each buffer lies in the bytes, and how long it is without its padding.
+    /// The offset of each buffer in the bytes, and its length without padding.
     pub buffers: Vec<Buffer>,
     /// The bytes of the buffers, each padded to the alignment.
     pub bytes: Vec<u8>,
 }
 
-// Appends a buffer of the node.
-fn put_chunk(body: &mut Body, align: Align, part: Part, node: &Counted) -> Result<(), AllocError>
+/// Appends a buffer of the node.
+fn put_chunk(
+    body: &mut Body,
+    align: Align,
+    part: BufferKind,
+    node: &NodeCounts,
+) -> Result<(), AllocError>
     requires counted { IsCounted node.now }
     requires room { AllByRecursion (HasRoom part) (sent_at node.now) }
-    requires told { IsTold part (sent_at node.now) }
+    requires represented { IsRepresentable part (sent_at node.now) }
     ensures { OnOk result (Stores (alignment_of align) []
         (chunk_of part (sent_at node.now) ∷ []) body.old body.new) }
 {
@@ -69,8 +74,13 @@ fn put_chunk(body: &mut Body, align: Align, part: Part, node: &Counted) -> Resul
     Ok(())
 }
 
-// Appends the node of slots that were counted, and its buffers; it has this form.
-fn put_counted(body: &mut Body, align: Align, form: Form, node: &Counted) -> Result<(), AllocError>
+/// Appends the node of counted slots, and its buffers; the node has this form.
+fn put_counted(
+    body: &mut Body,
+    align: Align,
+    form: Form,
+    node: &NodeCounts,
+) -> Result<(), AllocError>
     requires source { IsSource node.now.source }
     requires form { form ≡ form_of_column (column_in node.now.source) }
     requires tally { IsTally form (sent_at node.now) node.now.tally }
@@ -92,8 +102,8 @@ fn put_counted(body: &mut Body, align: Align, form: Form, node: &Counted) -> Res
     Ok(())
 }
 
-// Appends the column's own node, and its buffers.
-fn put_node(body: &mut Body, align: Align, source: &Source) -> Result<(), StoreFault>
+/// Appends the column's own node, and its buffers.
+fn put_node(body: &mut Body, align: Align, source: &ColumnSource) -> Result<(), BodyStoreFault>
     requires source { IsSource source.now }
     requires raws { AreRaws (fields_of_columns (column_in source.now ∷ [])) (raws_of (column_in source.now ∷ [])) }
     ensures small { OnOk result (IsSmall (form_of_column (column_in source.now)) (column_in source.now).raw) }
@@ -105,16 +115,16 @@ fn put_node(body: &mut Body, align: Align, source: &Source) -> Result<(), StoreF
     let form = source.form();
     let tally = count_sent(form, source);
     if !is_small(form, tally) {
-        return Err(StoreFault::TooLarge);
+        return Err(BodyStoreFault::TooLarge);
     }
-    let counted = Counted {
+    let counted = NodeCounts {
         source: *source,
         tally,
     };
     Ok(put_counted(body, align, form, &counted)?)
 }
 
-// Appends a buffer with these bytes.
+/// Appends a buffer with these bytes.
 fn put_bytes(body: &mut Body, align: Align, bytes: &[u8]) -> Result<(), AllocError>
     ensures { OnOk result (Stores (alignment_of align) [] (bytes.now ∷ []) body.old body.new) }
 {
@@ -125,7 +135,7 @@ fn put_bytes(body: &mut Body, align: Align, bytes: &[u8]) -> Result<(), AllocErr
     put_padded(&mut body.bytes, align, bytes)
 }
 
-// A node for the slots of an array, of which none is null.
+/// A node for the slots of an array without nulls.
 fn full_node(array: &Array) -> FieldNode
     requires { length array.now.raw ≤ 2147483647 }
     ensures length { result.length ≡ pos (length array.now.raw) }
@@ -137,8 +147,8 @@ fn full_node(array: &Array) -> FieldNode
     }
 }
 
-// Appends the array's own node, of which no slot is null, and the buffer of its validity: nothing of
-// it is sent (Columnar Format, "Validity bitmaps").
+/// Appends the array's own node, of which no slot is null, and its validity buffer, for which no
+/// bytes are sent (Columnar Format, "Validity bitmaps").
 fn put_full(body: &mut Body, align: Align, array: &Array) -> Result<(), AllocError>
     requires full { AreFull array.now 0 (length array.now.raw) }
     requires few { length array.now.raw ≤ 2147483647 }
@@ -149,9 +159,9 @@ fn put_full(body: &mut Body, align: Align, array: &Array) -> Result<(), AllocErr
     put_bytes(body, align, &[])
 }
 
-// Appends the array's own node, and its buffers. Of structs and numbers of which none is null it is
-// known at once what these hold.
-fn put_own(body: &mut Body, align: Align, array: &Array) -> Result<(), StoreFault>
+/// Appends the array's own node, and its buffers. For structs and numbers without nulls, the
+/// contents of the buffers are known at once.
+fn put_own(body: &mut Body, align: Align, array: &Array) -> Result<(), BodyStoreFault>
     requires { AreRaws (fields_of_columns (array.now ∷ [])) (raws_of (array.now ∷ [])) }
     ensures small { OnOk result
         (IsSmall (node_form array.now.data_type.tag array.now.encoding) array.now.raw) }
@@ -167,12 +177,12 @@ fn put_own(body: &mut Body, align: Align, array: &Array) -> Result<(), StoreFaul
             put_full(body, align, array)?;
             Ok(put_bytes(body, align, array.value_bytes(0, array.len()))?)
         }
-        Some(_) | None => put_node(body, align, &Source::Slots(array)),
+        Some(_) | None => put_node(body, align, &ColumnSource::Slots(array)),
     }
 }
 
-// Appends the column's own node, and its buffers.
-fn put_level(body: &mut Body, align: Align, source: &Source) -> Result<(), StoreFault>
+/// Appends the column's own node, and its buffers.
+fn put_level(body: &mut Body, align: Align, source: &ColumnSource) -> Result<(), BodyStoreFault>
     requires source { IsSource source.now }
     requires raws { AreRaws (fields_of_columns (column_in source.now ∷ [])) (raws_of (column_in source.now ∷ [])) }
     ensures small { OnOk result (IsSmall (form_of_column (column_in source.now)) (column_in source.now).raw) }
@@ -182,20 +192,21 @@ fn put_level(body: &mut Body, align: Align, source: &Source) -> Result<(), Store
         → IsSmall (form_of_column (column_in source.now)) (column_in source.now).raw → ⊥) }
 {
     match source {
-        Source::Slots(array) => put_own(body, align, array),
+        ColumnSource::Slots(array) => put_own(body, align, array),
         _ => put_node(body, align, source),
     }
 }
 
-// Appends all nodes of the column, and their buffers: its own node, and then the columns that are
-// sent below it (Columnar Format, "RecordBatch message"). Not where one of the nodes cannot be told.
+/// Appends all nodes of the column, and their buffers: its own node, followed by the columns that
+/// are sent below it (Columnar Format, "RecordBatch message"). Fails if one of the nodes is not
+/// representable.
 #[cycle(put)]
-fn put_column(body: &mut Body, align: Align, source: &Source) -> Result<(), StoreFault>
+fn put_column(body: &mut Body, align: Align, source: &ColumnSource) -> Result<(), BodyStoreFault>
     requires source { IsSource source.now }
     requires counted { nodes_of_column (column_in source.now) < 18446744073709551615 }
     requires raws { AreRaws (fields_of_columns (column_in source.now ∷ [])) (raws_of (column_in source.now ∷ [])) }
     ensures stored { OnOk result (StoresColumns (alignment_of align) (column_in source.now ∷ []) body.old body.new) }
-    ensures large { IfErr result (λ fault. fault ≡ TooLarge → AreTold (column_in source.now ∷ []) → ⊥) }
+    ensures large { IfErr result (λ fault. fault ≡ TooLarge → AreRepresentable (column_in source.now ∷ []) → ⊥) }
 {
     put_level(body, align, source)?;
     match source.whole_below() {
@@ -204,28 +215,28 @@ fn put_column(body: &mut Body, align: Align, source: &Source) -> Result<(), Stor
     }
 }
 
-// Appends the columns of arrays.
+/// Appends the columns of arrays.
 #[cycle(put)]
-fn put_columns(body: &mut Body, align: Align, arrays: &[Array]) -> Result<(), StoreFault>
+fn put_columns(body: &mut Body, align: Align, arrays: &[Array]) -> Result<(), BodyStoreFault>
     requires counted { AllByRecursion (λ (c : Column). nodes_of_column c < 18446744073709551615) arrays.now }
     requires raws { AreRaws (fields_of_columns arrays.now) (raws_of arrays.now) }
     ensures stored { OnOk result (StoresColumns (alignment_of align) arrays.now body.old body.new) }
-    ensures large { IfErr result (λ fault. fault ≡ TooLarge → AreTold arrays.now → ⊥) }
+    ensures large { IfErr result (λ fault. fault ≡ TooLarge → AreRepresentable arrays.now → ⊥) }
 {
     for array in arrays {
-        put_column(body, align, &Source::Slots(array))?;
+        put_column(body, align, &ColumnSource::Slots(array))?;
     }
     Ok(())
 }
 
-// Appends the columns that are sent below a column's own node.
+/// Appends the columns that are sent below a column's own node.
 #[cycle(put)]
-fn put_below(body: &mut Body, align: Align, source: &Source) -> Result<(), StoreFault>
+fn put_below(body: &mut Body, align: Align, source: &ColumnSource) -> Result<(), BodyStoreFault>
     requires source { IsSource source.now }
     requires counted { nodes_of_column (column_in source.now) < 18446744073709551615 }
     requires raws { AreRaws (fields_of_columns (column_in source.now ∷ [])) (raws_of (column_in source.now ∷ [])) }
-    ensures stored { OnOk result (StoresColumns (alignment_of align) (sent_below (column_in source.now)) body.old body.new) }
-    ensures large { IfErr result (λ fault. fault ≡ TooLarge → AreTold (sent_below (column_in source.now)) → ⊥) }
+    ensures stored { OnOk result (StoresColumns (alignment_of align) (visible_children (column_in source.now)) body.old body.new) }
+    ensures large { IfErr result (λ fault. fault ≡ TooLarge → AreRepresentable (visible_children (column_in source.now)) → ⊥) }
 {
     for k in 0..source.width() {
         put_column(body, align, &source.below(k))?;
@@ -245,7 +256,7 @@ impl Body {
         }
     }
 
-    /// Takes all out of the body, and makes room for so many bytes, which takes at most one growth.
+    /// Empties the body, and reserves room for `size` bytes, which takes at most one allocation.
     /// After `AllocError` it is empty too.
     pub fn make_room(&mut self, size: usize) -> Result<(), AllocError>
         ensures empty { IsEmpty self.new }
@@ -255,7 +266,7 @@ impl Body {
         self.bytes.reserve_exact(size)
     }
 
-    // Takes all out of the body, and keeps its room.
+    /// Empties the body, and keeps its room.
     fn empty(&mut self)
         ensures { IsEmpty self.new }
     {
@@ -264,8 +275,8 @@ impl Body {
         self.bytes.clear();
     }
 
-    // Takes all out of the body, and makes room for so many nodes, and for as many buffers as these
-    // can have. After `AllocError` it is empty too.
+    /// Empties the body, and reserves room for `nodes` nodes, and for as many buffers as these can
+    /// have. After `AllocError` it is empty too.
     fn begin(&mut self, nodes: usize) -> Result<(), AllocError>
         ensures { IsEmpty self.new }
     {
@@ -275,20 +286,20 @@ impl Body {
     }
 }
 
-/// The body of the columns, laid out anew: each node with the slots that it is sent and no others,
-/// each buffer without a byte that no value needs, padded with zero bytes to the alignment. Nothing
-/// is in it that stood under a null. Nodes, buffers and bytes take one growth each, and the bytes
-/// are as many as `body_size` says. The body is read as the raw values of the columns, and it is
-/// tidy. `AllocError` where a growth was refused.
+/// The body of the columns, laid out again: each node has exactly the slots that are sent to it,
+/// each buffer has no byte that no value needs and is padded with zero bytes to the alignment. It
+/// contains no byte that was under a null. Nodes, buffers and bytes take one allocation each, and
+/// the number of bytes is what `body_size` returns. Reading the body gives the raw values of the
+/// columns, and it is canonical. `AllocError` if an allocation failed.
 ///
-/// Condition: the columns can be stored, that is, `body_size` answers a number.
+/// Condition: the columns can be stored, that is, `body_size` returns a number.
 pub fn store(alloc: Global, arrays: &[Array], align: Align) -> Result<Body, AllocError>
     requires { CanBeStored (alignment_of align) arrays.now }
     ensures same { IfOk result (λ b. body_view b ≡ stored (alignment_of align)
         (fields_of_columns arrays.now) (raws_of arrays.now)) }
     ensures read { IfOk result (λ b. IsBodyOf (alignment_of align)
         (fields_of_columns arrays.now) (raws_of arrays.now) (body_view b)) }
-    ensures tidy { IfOk result (λ b. IsTidy (alignment_of align)
+    ensures canonical { IfOk result (λ b. IsCanonical (alignment_of align)
         (fields_of_columns arrays.now) b.nodes.items b.buffers.items b.bytes.items) }
 {
     // A body that can be stored has a size.
@@ -301,25 +312,25 @@ pub fn store(alloc: Global, arrays: &[Array], align: Align) -> Result<Body, Allo
     }
 }
 
-/// Makes a body that of `store`, in the room of what it was, in one walk over the columns. Nodes,
-/// buffers and bytes grow only where this room is too small for them. `TooLarge` only where the
-/// columns cannot be told, whatever the most bytes of a body; `Memory` where a growth was refused.
-/// After a fault the body is empty.
-pub fn store_in(body: &mut Body, arrays: &[Array], align: Align) -> Result<(), StoreFault>
-    ensures told { OnOk result (AreTold arrays.now) }
+/// Turns a body into that of `store`, reusing its room, in one walk over the columns. Nodes,
+/// buffers and bytes are reallocated only if this room is too small for them. `TooLarge` only if
+/// the columns are not representable, regardless of the greatest size of a body; `Memory` if an
+/// allocation failed. After an error the body is empty.
+pub fn store_in(body: &mut Body, arrays: &[Array], align: Align) -> Result<(), BodyStoreFault>
+    ensures represented { OnOk result (AreRepresentable arrays.now) }
     ensures raws { OnOk result (AreRaws (fields_of_columns arrays.now) (raws_of arrays.now)) }
     ensures same { OnOk result (body_view body.new ≡ stored (alignment_of align)
         (fields_of_columns arrays.now) (raws_of arrays.now)) }
     ensures read { OnOk result (IsBodyOf (alignment_of align)
         (fields_of_columns arrays.now) (raws_of arrays.now) (body_view body.new)) }
-    ensures tidy { OnOk result (IsTidy (alignment_of align) (fields_of_columns arrays.now)
+    ensures canonical { OnOk result (IsCanonical (alignment_of align) (fields_of_columns arrays.now)
         body.new.nodes.items body.new.buffers.items body.new.bytes.items) }
-    ensures large { IfErr result (λ fault. fault ≡ TooLarge → AreTold arrays.now → ⊥) }
+    ensures large { IfErr result (λ fault. fault ≡ TooLarge → AreRepresentable arrays.now → ⊥) }
     ensures emptied { IfErr result (λ _. IsEmpty body.new) }
 {
     if !are_countable(arrays) {
         body.empty();
-        return Err(StoreFault::TooLarge);
+        return Err(BodyStoreFault::TooLarge);
     }
     body.begin(nodes_in_all(arrays))?;
     match put_columns(body, align, arrays) {
@@ -332,13 +343,13 @@ pub fn store_in(body: &mut Body, arrays: &[Array], align: Align) -> Result<(), S
 }
 
 /// The body of one column without an encoding whose slots hold the values of the dictionary from
-/// value `from` on (`Message.fbs`, table `DictionaryBatch`), as `store` would lay it out; from a
-/// place after the last value on there are none. The values come array by array, as they lie in the
-/// dictionary. Nodes, buffers and bytes take one growth each, and the bytes are as many as
-/// `rest_size` says. The body is read as these values, and it is tidy. `AllocError` where a growth
-/// was refused.
+/// value `from` on (`Message.fbs`, table `DictionaryBatch`), as `store` would lay it out; from an
+/// index after the last value on there are none. The values come array by array, as they lie in the
+/// dictionary. Nodes, buffers and bytes take one allocation each, and the number of bytes is what
+/// `rest_size` returns. Reading the body gives these values, and it is canonical. `AllocError` if
+/// an allocation failed.
 ///
-/// Condition: the column can be stored, that is, `rest_size` answers a number.
+/// Condition: the column can be stored, that is, `rest_size` returns a number.
 pub fn store_rest(
     alloc: Global,
     dictionary: &Dictionary,
@@ -352,7 +363,7 @@ pub fn store_rest(
     ensures read { IfOk result (λ b. IsBodyOf (alignment_of align)
         (fields_of_columns (rest_of dictionary.now from ∷ []))
         (raws_of (rest_of dictionary.now from ∷ [])) (body_view b)) }
-    ensures tidy { IfOk result (λ b. IsTidy (alignment_of align)
+    ensures canonical { IfOk result (λ b. IsCanonical (alignment_of align)
         (fields_of_columns (rest_of dictionary.now from ∷ []))
         b.nodes.items b.buffers.items b.bytes.items) }
 {
@@ -365,15 +376,15 @@ pub fn store_rest(
     }
 }
 
-/// Makes a body that of `store_rest`, in the room of what it was, as `store_in` does, with its
-/// faults, after which the body is empty.
+/// Turns a body into that of `store_rest`, reusing its room, as `store_in` does, with the same
+/// errors, after which the body is empty.
 pub fn store_rest_in(
     body: &mut Body,
     dictionary: &Dictionary,
     from: usize,
     align: Align,
-) -> Result<(), StoreFault>
-    ensures told { OnOk result (AreTold (rest_of dictionary.now from ∷ [])) }
+) -> Result<(), BodyStoreFault>
+    ensures represented { OnOk result (AreRepresentable (rest_of dictionary.now from ∷ [])) }
     ensures raws { OnOk result (AreRaws (fields_of_columns (rest_of dictionary.now from ∷ []))
         (raws_of (rest_of dictionary.now from ∷ []))) }
     ensures same { OnOk result (body_view body.new ≡ stored (alignment_of align)
@@ -382,20 +393,20 @@ pub fn store_rest_in(
     ensures read { OnOk result (IsBodyOf (alignment_of align)
         (fields_of_columns (rest_of dictionary.now from ∷ []))
         (raws_of (rest_of dictionary.now from ∷ [])) (body_view body.new)) }
-    ensures tidy { OnOk result (IsTidy (alignment_of align)
+    ensures canonical { OnOk result (IsCanonical (alignment_of align)
         (fields_of_columns (rest_of dictionary.now from ∷ []))
         body.new.nodes.items body.new.buffers.items body.new.bytes.items) }
     ensures large { IfErr result (λ fault. fault ≡ TooLarge
-        → AreTold (rest_of dictionary.now from ∷ []) → ⊥) }
+        → AreRepresentable (rest_of dictionary.now from ∷ []) → ⊥) }
     ensures emptied { IfErr result (λ _. IsEmpty body.new) }
 {
     let nodes = nodes_in_rest(dictionary);
     if nodes == usize::MAX {
         body.empty();
-        return Err(StoreFault::TooLarge);
+        return Err(BodyStoreFault::TooLarge);
     }
     body.begin(nodes)?;
-    match put_column(body, align, &Source::Rest(dictionary, from)) {
+    match put_column(body, align, &ColumnSource::Rest(dictionary, from)) {
         Ok(()) => Ok(()),
         Err(fault) => {
             body.empty();

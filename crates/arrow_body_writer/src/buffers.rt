@@ -5,30 +5,30 @@ ghost use Rattle.std.specs.List.{AllByRecursion};
 ghost use Rattle.arrow_body_laws.specs.Stored.{padded, rounded};
 ghost use Rattle.arrow_body_writer.specs.Align.{alignment_of};
 ghost use Rattle.arrow_body_writer.specs.Counts.{IsCounted, sent_at};
-ghost use Rattle.arrow_body_writer.specs.Part.{HasRoom, IsTold, chunk_of, part_bytes};
+ghost use Rattle.arrow_body_writer.specs.Part.{HasRoom, IsRepresentable, chunk_of, part_bytes};
 ghost use Rattle.arrow_body_writer.specs.Slice.{IsSlice, values_in};
 
 use crate::align::Align;
-use crate::counts::Counted;
-use crate::packing::Pending;
-use crate::part::Part;
+use crate::counts::NodeCounts;
+use crate::packing::BitPacker;
+use crate::part::BufferKind;
 use crate::pass::Pass;
-use crate::slice::Slice;
-use crate::steps::Steps;
+use crate::slice::ColumnSlice;
+use crate::steps::ChildPath;
 use crate::writing::{Writing, put_zeros};
 use std::alloc::AllocError;
 
-// Appends what the slots are in a buffer.
-fn put_slice(out: Vec<u8>, part: Part, slice: Slice<'_>) -> Result<Vec<u8>, AllocError>
+/// Appends the contents of a buffer for the slots.
+fn put_slice(out: Vec<u8>, part: BufferKind, slice: ColumnSlice<'_>) -> Result<Vec<u8>, AllocError>
     requires slots { IsSlice slice }
     requires room { AllByRecursion (HasRoom part) (values_in slice) }
-    requires told { IsTold part (values_in slice) }
+    requires represented { IsRepresentable part (values_in slice) }
     ensures { IfOk result (λ written.
         written.items ≡ out.items ++ part_bytes part (values_in slice.entry)) }
 {
     let mut writing = Writing {
         out,
-        pending: Pending::new(),
+        pending: BitPacker::new(),
         end: 0,
     };
     writing.begin(part)?;
@@ -37,11 +37,11 @@ fn put_slice(out: Vec<u8>, part: Part, slice: Slice<'_>) -> Result<Vec<u8>, Allo
     Ok(writing.out)
 }
 
-// Appends what a buffer of the node holds of the slots that it is sent.
-fn put_part(out: Vec<u8>, part: Part, node: &Counted) -> Result<Vec<u8>, AllocError>
+/// Appends the contents of a buffer of the node, for the slots that are sent to it.
+fn put_part(out: Vec<u8>, part: BufferKind, node: &NodeCounts) -> Result<Vec<u8>, AllocError>
     requires counted { IsCounted node.now }
     requires room { AllByRecursion (HasRoom part) (sent_at node.now) }
-    requires told { IsTold part (sent_at node.now) }
+    requires represented { IsRepresentable part (sent_at node.now) }
     ensures { IfOk result (λ written.
         written.items ≡ out.items ++ part_bytes part (sent_at node.now)) }
 {
@@ -50,12 +50,12 @@ fn put_part(out: Vec<u8>, part: Part, node: &Counted) -> Result<Vec<u8>, AllocEr
     }
     let mut writing = Writing {
         out,
-        pending: Pending::new(),
+        pending: BitPacker::new(),
         end: 0,
     };
     writing.begin(part)?;
     let mut pass = Pass::Put(part, writing);
-    node.source.send(&mut pass, &Steps::Here)?;
+    node.source.send(&mut pass, &ChildPath::Here)?;
     match pass {
         Pass::Put(part, mut writing) => {
             writing.finish(part)?;
@@ -65,7 +65,7 @@ fn put_part(out: Vec<u8>, part: Part, node: &Counted) -> Result<Vec<u8>, AllocEr
     }
 }
 
-// Appends zero bytes after a buffer of this length, up to a multiple of the alignment.
+/// Appends zero bytes after a buffer of this length, up to a multiple of the alignment.
 fn put_padding(out: &mut Vec<u8>, align: Align, len: usize) -> Result<(), AllocError>
     requires { len ≤ 9223372036854775807 }
     ensures { OnOk result (out.new.items
@@ -75,7 +75,7 @@ fn put_padding(out: &mut Vec<u8>, align: Align, len: usize) -> Result<(), AllocE
     put_zeros(out, zeros as u32)
 }
 
-// Appends the bytes of a buffer, padded.
+/// Appends the bytes of a buffer, padded.
 pub(crate) fn put_padded(out: &mut Vec<u8>, align: Align, bytes: &[u8]) -> Result<(), AllocError>
     ensures { OnOk result (out.new.items
         ≡ out.old.items ++ padded (alignment_of align) bytes.now) }
@@ -84,24 +84,24 @@ pub(crate) fn put_padded(out: &mut Vec<u8>, align: Align, bytes: &[u8]) -> Resul
     put_padding(out, align, bytes.len())
 }
 
-// Appends a buffer of the node, padded, and tells its length without the padding. No validity is
-// sent where no slot is null (Columnar Format, "Validity bitmaps").
+/// Appends a buffer of the node, padded, and returns its length without the padding. No validity is
+/// sent if no slot is null (Columnar Format, "Validity bitmaps").
 pub(crate) fn put_buffer(
     out: Vec<u8>,
     align: Align,
-    part: Part,
-    node: &Counted,
+    part: BufferKind,
+    node: &NodeCounts,
 ) -> Result<(Vec<u8>, usize), AllocError>
     requires counted { IsCounted node.now }
     requires room { AllByRecursion (HasRoom part) (sent_at node.now) }
-    requires told { IsTold part (sent_at node.now) }
+    requires represented { IsRepresentable part (sent_at node.now) }
     ensures { IfOk result (λ written.
         (written.0.items
         ≡ out.items ++ padded (alignment_of align) (chunk_of part (sent_at node.now)))
         × (written.1 ≡ length (chunk_of part (sent_at node.now)))) }
 {
     let tally = node.tally;
-    if tally.nulls == 0 && matches!(part, Part::Validity) {
+    if tally.nulls == 0 && matches!(part, BufferKind::Validity) {
         return Ok((out, 0));
     }
     let start = out.len();

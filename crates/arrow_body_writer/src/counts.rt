@@ -1,33 +1,33 @@
-//! The slots of a column's own node, counted.
+//! The counts of the slots of a column's own node.
 
 ghost use Rattle.arrow_body_writer.specs.Source.{IsSource, column_in};
 ghost use Rattle.arrow_body_writer.specs.Tally.{IsTally};
 
 use crate::pass::Pass;
-use crate::source::Source;
-use crate::steps::Steps;
-use crate::tally::{Tally, counted};
+use crate::source::ColumnSource;
+use crate::steps::ChildPath;
+use crate::tally::{ByteTally, counted};
 use arrow_data::form::Form;
 
-// A column, and the slots of its own node, counted.
+/// A column, and the counts of the slots of its own node.
 #[derive(Clone, Copy)]
-pub(crate) struct Counted<'a> {
-    pub(crate) source: Source<'a>,
-    pub(crate) tally: Tally,
+pub(crate) struct NodeCounts<'a> {
+    pub(crate) source: ColumnSource<'a>,
+    pub(crate) tally: ByteTally,
 }
 
-// Counts the slots of the column's own node, which has this form.
-pub(crate) fn count_sent(form: Form, source: &Source) -> Tally
+/// Counts the slots of the column's own node, which has this form.
+pub(crate) fn count_sent(form: Form, source: &ColumnSource) -> ByteTally
     requires { IsSource source.now }
     ensures { IsTally form (column_in source.now).raw result }
 {
     if let Some(slice) = source.own_slots() {
         return counted(form, slice);
     }
-    let mut pass = Pass::Count(form, Tally::new());
-    match source.send(&mut pass, &Steps::Here) {
+    let mut pass = Pass::Count(form, ByteTally::new());
+    match source.send(&mut pass, &ChildPath::Here) {
         Ok(()) => pass.tally(),
-        // Where slots are counted no memory is asked for.
-        Err(_) => Tally::new(),
+        // Counting slots does not allocate.
+        Err(_) => ByteTally::new(),
     }
 }

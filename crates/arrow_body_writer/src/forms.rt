@@ -1,4 +1,4 @@
-//! How many nodes a column has.
+//! The number of nodes of a column.
 
 ghost use Rattle.std.specs.Prelude.{◌≡◌, ◌<◌, ◌↔◌, ℕ, [], ◌∷◌, IsTrue};
 ghost use Rattle.std.specs.List.{AllByRecursion};
@@ -18,8 +18,8 @@ use arrow_data::form::{Form, form_of};
 use arrow_data::{Array, Dictionary};
 use arrow_types::{DataType, Encoding, Field};
 
-// How many nodes the fields have, or the greatest number where there are more. Below each type
-// stand the fields that it asks for.
+/// The number of nodes of the fields, or the greatest number if there are more. Each type has the
+/// child fields that it needs.
 #[cycle(counted)]
 pub(crate) fn count_nodes(fields: &[Field]) -> usize
     ensures count { result ≡ capped (taken_nodes (fields_view fields.now)) }
@@ -36,7 +36,7 @@ pub(crate) fn count_nodes(fields: &[Field]) -> usize
     count
 }
 
-// How many nodes stand below a type: those of the fields that it asks for.
+/// The number of nodes below a type: those of the child fields that it needs.
 #[cycle(counted)]
 pub(crate) fn count_below(data_type: &DataType) -> usize
     ensures count { result ≡ capped (taken_nodes (type_view data_type.now).children) }
@@ -50,8 +50,8 @@ pub(crate) fn count_below(data_type: &DataType) -> usize
     }
 }
 
-// How many nodes a column of the type and the encoding has, or the greatest number where there are
-// more. Below each type stand the fields that it asks for.
+/// The number of nodes of a column of the type and the encoding, or the greatest number if there are
+/// more. Each type has the child fields that it needs.
 fn count_column(data_type: &DataType, encoding: Option<Encoding>) -> usize
     ensures count { result ≡ capped (nodes_of_type (type_view data_type.now) encoding) }
     ensures formed { IfFlattened encoding (HasFieldsOf (form_of (type_view data_type.now).tag)
@@ -63,18 +63,18 @@ fn count_column(data_type: &DataType, encoding: Option<Encoding>) -> usize
     }
 }
 
-// How many nodes the array's column has, or the greatest number where there are more. Its raw
-// values can be stored.
+/// The number of nodes of the array's column, or the greatest number if there are more. Its raw
+/// values can be stored.
 pub(crate) fn nodes_in(array: &Array) -> usize
     ensures count { result ≡ capped (nodes_of_column array.now) }
     ensures raws { AreRaws (fields_of_columns (array.now ∷ [])) (raws_of (array.now ∷ [])) }
 {
-    // What is known of every array is asked for, so that the proof has it.
+    // Calls a function whose contract gives the invariant of every array, so that the proof has it.
     let _slots = array.len();
     count_column(array.data_type(), array.encoding().copied())
 }
 
-// The same of a column of values of the dictionary.
+/// The same for a column of values of the dictionary.
 pub(crate) fn nodes_in_rest(dictionary: &Dictionary) -> usize
     ensures count { (from : ℕ) → result ≡ capped (nodes_of_column (rest_of dictionary.now from)) }
     ensures raws { (from : ℕ) → AreRaws (fields_of_columns (rest_of dictionary.now from ∷ []))
@@ -83,8 +83,8 @@ pub(crate) fn nodes_in_rest(dictionary: &Dictionary) -> usize
     count_column(dictionary.data_type(), None)
 }
 
-// How many nodes the columns of the arrays have, or the greatest number where there are more. Their
-// raw values can be stored.
+/// The number of nodes of the columns of the arrays, or the greatest number if there are more. Their
+/// raw values can be stored.
 pub(crate) fn nodes_in_all(arrays: &[Array]) -> usize
     ensures count { result ≡ capped (taken_nodes (fields_of_columns arrays.now)) }
     ensures raws { AreRaws (fields_of_columns arrays.now) (raws_of arrays.now) }
@@ -96,7 +96,7 @@ pub(crate) fn nodes_in_all(arrays: &[Array]) -> usize
     count
 }
 
-// Whether each of the columns has fewer nodes than the greatest number.
+/// Whether each of the columns has fewer nodes than the greatest number.
 pub(crate) fn are_countable(arrays: &[Array]) -> bool
     ensures { IsTrue result
         ↔ AllByRecursion (λ (c : Column). nodes_of_column c < 18446744073709551615) arrays.now }

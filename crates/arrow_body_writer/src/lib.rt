@@ -1,42 +1,42 @@
-//! Columns laid out again as the one tidy body of a batch (Columnar Format, "RecordBatch message").
+//! Columns as the one canonical body of a batch (Columnar Format, "RecordBatch message").
 //!
-//! What the field nodes, the buffers and the bytes of raw values are is said in
-//! `arrow_body_laws`, as one function of the alignment, the fields and the raw values. `store_in`
-//! makes just that body of columns in the room of an earlier one, or tells that it cannot be stored.
-//! `body_size` tells without memory how many bytes it has, and `store` gives it anew. `store_rest`,
-//! `store_rest_in` and `rest_size` do the same of a column whose slots hold the values of a
-//! dictionary from one on.
+//! `arrow_body_laws` defines the field nodes, the buffers and the bytes of raw values, as a single
+//! function of the alignment, the fields and the raw values. `store_in` builds exactly that body of
+//! columns, reusing the room of an earlier one, or reports that it cannot be stored. `body_size`
+//! returns the number of its bytes without allocating, and `store` returns it as a new body.
+//! `store_rest`, `store_rest_in` and `rest_size` do the same for a column whose slots hold the
+//! values of a dictionary from an index on.
 //!
-//! A body is written front to back, by the public calls of `arrow_data` alone. Numbers beside a
-//! validity bitmap are copied with the bytes under nulls, which are cleared in the copy (`masked`).
-//! Offsets and the bytes between them are copied where nothing lies under a null (`offsets`), and
-//! to each offset so much is added as the buffer has gone on (`spans`). Of all other slots no byte
-//! is copied that stood under a null.
+//! A body is written front to back, only through the public functions of `arrow_data`. Numbers that
+//! have a validity bitmap are copied including the bytes under nulls, which are cleared in the copy
+//! (`masked`). Offsets and the bytes between them are copied if nothing lies under a null
+//! (`offsets`), and each offset is increased by the length that the buffer already had (`spans`).
+//! For all other slots no byte is copied that was under a null.
 //!
-//! A column is stored level by level: its own node, then the columns that are sent below it. Where
-//! each child of a list or a struct is sent just its own slots (`whole`) these are the children.
-//! Else a column says from which one above it is sent (`source`): then one walk from the array down
-//! along the steps to it counts its slots or writes one of its buffers (`pass`). So the work grows
-//! with the nodes, and under nulls and slots that are not sent with the levels above each, too.
+//! A column is stored level by level: its own node, then the columns sent below it. If each child
+//! of a list or a struct is sent exactly its own slots (`whole`), these are the children. Otherwise
+//! a column records the column above from which it is sent (`source`): then one walk down the steps
+//! from the array counts its slots or writes a buffer (`pass`). So the work grows with the nodes
+//! and, under nulls and slots that are not sent, with the levels above each.
 //!
 //! | Notion | Definition |
 //! |---|---|
 //! | the alignment | `specs/Align.antt`: `alignment_of` |
 //! | columns that can be stored, their size | `specs/Storable.antt`: `CanBeStored`, `columns_size` |
 //! | what is added to a body | `specs/Storing.antt`: `Stores` |
-//! | where a column's values come from | `specs/Source.antt`: `rest_of`, `column_in` |
-//! | what is sent along steps, and below a column | `specs/Sent.antt`: `sent_along`, `sent_below` |
-//! | slots one after another | `specs/Slice.antt`: `IsSlice`, `values_in` |
+//! | the origin of a column's values | `specs/Source.antt`: `rest_of`, `column_in` |
+//! | what is sent along steps, and below a column | `specs/Sent.antt`: `sent_along`, `visible_children` |
+//! | consecutive slots | `specs/Slice.antt`: `IsSlice`, `values_in` |
 //! | a column whose slots are counted | `specs/Counts.antt`: `IsCounted`, `sent_at` |
-//! | slots passed, and counted | `specs/Pass.antt`: `Takes`; `specs/Tally.antt`: `IsTally` |
-//! | children that are sent whole | `specs/Whole.antt`: `AreSentWhole` |
-//! | a buffer on its way | `specs/Part.antt`: `IsWritten`; `specs/Packing.antt`; `specs/Runs.antt` |
-//! | offsets, bitmaps as they lie | `specs/Offsets.antt`: `AreHeld`; `specs/Marks.antt`: `AreMarked` |
+//! | slots that are passed, and counted | `specs/Pass.antt`: `Takes`; `specs/Tally.antt`: `IsTally` |
+//! | children that are sent unsliced | `specs/Whole.antt`: `AreSentWhole` |
+//! | a buffer under construction | `specs/Part.antt`: `IsWritten`; `specs/Packing.antt`; `specs/Runs.antt` |
+//! | offsets, bitmaps as arrays store them | `specs/Offsets.antt`: `AreHeld`; `specs/Marks.antt`: `AreMarked` |
 //!
-//! Of the proofs, `Sending` says what is sent along steps and below a column, `Passing`, `RunPasses`
-//! and `Sources` what a pass takes of that, `Chunks` shows that what all columns add is the stored
-//! body, `Wholes` when children are sent whole; `FullNodes` speaks of nodes without a null, `Marking`,
-//! `Bytewise`, `Masking` of bitmaps, `Numbering` of numbers, `Holding`, `Moving`, `Spanning` of offsets.
+//! Proofs: `Sending` of what is sent, `Passing`, `RunPasses`, `Sources` of passes over it, `Chunks`
+//! of the body, `Wholes` of unsliced children, `FullNodes` of nodes without a null, `Marking`,
+//! `Bytewise`, `Masking` of bitmaps, `Numbering` of numbers, `Holding`, `Moving`, `Spanning` of
+//! offsets.
 #![tactic(auto)]
 
 pub(crate) mod align;
@@ -66,4 +66,4 @@ pub(crate) mod writing;
 pub use align::Align;
 pub use body::{Body, store, store_in, store_rest, store_rest_in};
 pub use measured::{body_size, rest_size};
-pub use store_fault::StoreFault;
+pub use store_fault::BodyStoreFault;

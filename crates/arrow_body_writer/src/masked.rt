@@ -1,4 +1,4 @@
-//! Numbers beside a validity bitmap, copied all at once.
+//! Numbers that have a validity bitmap, copied all at once.
 
 ghost use Rattle.std.specs.Prelude.{◌≡◌, ◌≤◌, ◌<◌, ◌+◌, ◌-◌, ◌*◌, ◌++◌, List, ℕ, IfSome, OnOk};
 ghost use Rattle.std.specs.Prelude.{drop, length, replicate, slice_index, slice_range, take};
@@ -12,15 +12,15 @@ use arrow_bits::first_unset;
 use arrow_data::{Array, Buffers};
 use std::alloc::AllocError;
 
-// How many bytes each number takes, the bytes, and a bit for each slot, 0 of a null one.
+/// The number of bytes of each number, the bytes, and a bit for each slot, 0 for a null one.
 #[derive(Clone, Copy)]
-pub(crate) struct Masked<'a> {
+pub(crate) struct NullMasked<'a> {
     pub(crate) width: usize,
     pub(crate) values: &'a [u8],
     pub(crate) bits: &'a [u8],
 }
 
-// The bytes of numbers, where these have this width.
+/// The bytes of numbers, if these have this width.
 fn of_width(own: usize, values: &[u8], width: usize) -> Option<&[u8]>
     ensures { IfSome result (λ found. (own ≡ width) × (found.now ≡ values.now)
         × ((k : ℕ) → slice_index values.now k < 256)) }
@@ -28,7 +28,7 @@ fn of_width(own: usize, values: &[u8], width: usize) -> Option<&[u8]>
     if own == width { Some(values) } else { None }
 }
 
-// The bytes of the array's numbers or indices, where these have this width.
+/// The bytes of the array's numbers or indices, if these have this width.
 pub(crate) fn values_of(array: &Array, width: usize) -> Option<&[u8]>
     ensures { IfSome result (λ values. AreNumbered width array.now.raw values.now) }
 {
@@ -39,20 +39,20 @@ pub(crate) fn values_of(array: &Array, width: usize) -> Option<&[u8]>
     }
 }
 
-// The numbers or indices of the array, where they have this width and beside them is a bitmap.
-pub(crate) fn numbers_of(array: &Array, width: usize) -> Option<Masked<'_>>
+/// The numbers or indices of the array, if they have this width and the array has a bitmap.
+pub(crate) fn numbers_of(array: &Array, width: usize) -> Option<NullMasked<'_>>
     ensures width { IfSome result (λ n. n.width ≡ width) }
     ensures held { IfSome result (λ n. HasNumbers n array.now.raw) }
 {
     let (bits, values) = (bitmap(array)?, values_of(array, width)?);
-    Some(Masked {
+    Some(NullMasked {
         width,
         values,
         bits,
     })
 }
 
-// Puts zero bytes in place of so many from a place on.
+/// Overwrites `width` bytes with zeros, from offset `at` on.
 fn clear(bytes: &mut [u8], at: usize, width: usize)
     requires { at + width ≤ length bytes.old }
     ensures { bytes.new ≡ take at bytes.old
@@ -61,8 +61,9 @@ fn clear(bytes: &mut [u8], at: usize, width: usize)
     bytes[at..at + width].fill(0);
 }
 
-impl<'a> Masked<'a> {
-    // Puts 0 in place of the number of each null slot of a range, whose numbers these are.
+impl<'a> NullMasked<'a> {
+    /// Overwrites the number of each null slot of a range with 0; `numbers` are the numbers of that
+    /// range.
     fn clear_nulls(self, numbers: &mut [u8], start: usize, stop: usize)
         requires order { start ≤ stop }
         requires bits { stop ≤ 8 * length self.bits.now }
@@ -79,7 +80,7 @@ impl<'a> Masked<'a> {
         }
     }
 
-    // Appends the numbers of a range of slots, 0 for a null one.
+    /// Appends the numbers of a range of slots, 0 for a null one.
     pub(crate) fn put(self, out: &mut Vec<u8>, start: usize, stop: usize) -> Result<(), AllocError>
         requires order { start ≤ stop }
         requires bits { stop ≤ 8 * length self.bits.now }

@@ -1,4 +1,4 @@
-//! The offsets of byte strings, texts and lists, where nothing lies under a null.
+//! The offsets of byte strings, texts and lists, if nothing lies under a null.
 
 ghost use Rattle.std.specs.Prelude.{◌≡◌, ◌≤◌, ◌<◌, ◌+◌, ◌*◌, List, IfSome, length, slice_range};
 ghost use Rattle.std.specs.List.{flat_map};
@@ -9,12 +9,12 @@ ghost use Rattle.arrow_body_laws.specs.Raws.{bytes_in_value, items_in_value};
 ghost use Rattle.arrow_body_writer.specs.Offsets.{AreBetween, AreHeld, AreOf, HasSpans};
 ghost use Rattle.arrow_body_writer.specs.Slice.{IsSlice, values_in};
 
-use crate::slice::Slice;
-use crate::spans::Spans;
+use crate::slice::ColumnSlice;
+use crate::spans::OffsetRun;
 use arrow_data::form::{ListForm, OffsetWidth};
 use arrow_data::{Array, Buffers};
 
-// The offsets of an array, and a bit for each slot, 0 of a null one: none where no slot is null.
+/// The offsets of an array, and a bit for each slot, 0 for a null one: no bits if no slot is null.
 #[derive(Clone, Copy)]
 pub(crate) struct Offsets<'a> {
     pub(crate) width: OffsetWidth,
@@ -23,7 +23,7 @@ pub(crate) struct Offsets<'a> {
 }
 
 impl<'a> Offsets<'a> {
-    // Offsets, with a bit for each slot.
+    /// Offsets, with a bit for each slot.
     fn of(width: OffsetWidth, validity: &'a [u8], bytes: &'a [u8]) -> Offsets<'a>
         ensures { AreOf width validity.now bytes.now result }
     {
@@ -34,9 +34,9 @@ impl<'a> Offsets<'a> {
         }
     }
 
-    // Those of a range of slots, where nothing lies under the nulls among these; None also where
-    // there are no slots.
-    fn between(self, start: usize, stop: usize) -> Option<Spans<'a>>
+    /// The offsets of a range of slots, if nothing lies under the nulls of the range; None also if
+    /// the range is empty.
+    fn between(self, start: usize, stop: usize) -> Option<OffsetRun<'a>>
         requires order { start ≤ stop }
         requires there { start < stop
             → offset_bytes self.width * (stop + 1) ≤ length self.bytes.now }
@@ -46,7 +46,7 @@ impl<'a> Offsets<'a> {
         if start == stop {
             return None;
         }
-        let spans = Spans {
+        let spans = OffsetRun {
             width: self.width,
             offsets: self.bytes,
             start,
@@ -60,8 +60,8 @@ impl<'a> Offsets<'a> {
     }
 }
 
-// The offsets of the array's byte strings or texts, and all their bytes. None where slots hold
-// something else.
+/// The offsets of the array's byte strings or texts, and all their bytes. None if slots hold
+/// something else.
 fn strings_of(array: &Array) -> Option<(Offsets<'_>, &[u8])>
     ensures { IfSome result (λ r. AreHeld r.0 r.1.now bytes_in_value array.now.raw) }
 {
@@ -72,8 +72,8 @@ fn strings_of(array: &Array) -> Option<(Offsets<'_>, &[u8])>
     }
 }
 
-// The offsets of the array's lists. None where slots hold something else, and where no offsets are
-// stored (Columnar Format, "Fixed-Size List Layout").
+/// The offsets of the array's lists. None if slots hold something else, or if no offsets are stored
+/// (Columnar Format, "Fixed-Size List Layout").
 fn lists_of(array: &Array) -> Option<Offsets<'_>>
     ensures { IfSome result (λ offsets. (all : List PlainValue)
         × AreHeld offsets all (items_in_value 0) array.now.raw) }
@@ -89,7 +89,7 @@ fn lists_of(array: &Array) -> Option<Offsets<'_>>
     }
 }
 
-// The bytes from one place up to another.
+/// The bytes from one offset up to another.
 fn part(bytes: &[u8], first: u64, last: u64) -> &[u8]
     requires order { first ≤ last }
     requires inside { last ≤ length bytes.now }
@@ -98,26 +98,26 @@ fn part(bytes: &[u8], first: u64, last: u64) -> &[u8]
     &bytes[first as usize..last as usize]
 }
 
-// The offsets of the byte strings or texts of a slice, and their bytes, where nothing lies under the
-// nulls among these. None also where there are no slots, or where they hold something else.
-pub(crate) fn strings_between(slice: Slice<'_>) -> Option<(Spans<'_>, &[u8])>
+/// The offsets of the byte strings or texts of a slice, and their bytes, if nothing lies under the
+/// nulls of the slice. None also if there are no slots, or if they hold something else.
+pub(crate) fn strings_between(slice: ColumnSlice<'_>) -> Option<(OffsetRun<'_>, &[u8])>
     requires { IsSlice slice }
     ensures spans { IfSome result (λ r.
         HasSpans slice.entry (λ v. length (bytes_in_value v)) r.0) }
     ensures bytes { IfSome result (λ r. r.1.now ≡ flat_map bytes_in_value (values_in slice.entry)) }
 {
-    let Slice { array, start, stop } = slice;
+    let ColumnSlice { array, start, stop } = slice;
     let (offsets, bytes) = strings_of(array)?;
     let spans = offsets.between(start, stop)?;
     Some((spans, part(bytes, spans.at(start), spans.at(stop))))
 }
 
-// The same of the lists of a slice.
-pub(crate) fn lists_between(slice: Slice<'_>) -> Option<Spans<'_>>
+/// The same for the lists of a slice.
+pub(crate) fn lists_between(slice: ColumnSlice<'_>) -> Option<OffsetRun<'_>>
     requires { IsSlice slice }
     ensures { IfSome result (HasSpans slice.entry (λ v. length (items_in_value 0 v))) }
 {
-    let Slice { array, start, stop } = slice;
+    let ColumnSlice { array, start, stop } = slice;
     let offsets = lists_of(array)?;
     offsets.between(start, stop)
 }

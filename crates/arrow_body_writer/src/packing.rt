@@ -8,7 +8,7 @@ ghost use Rattle.arrow_body_laws.specs.Packed.{number_of_bits, packed};
 use arrow_bits::bit;
 use std::alloc::AllocError;
 
-// The bits of bytes from one up to another.
+/// The bits of bytes from one index up to another.
 #[derive(Clone, Copy)]
 pub(crate) struct BitRange<'a> {
     pub(crate) bytes: &'a [u8],
@@ -16,24 +16,24 @@ pub(crate) struct BitRange<'a> {
     pub(crate) stop: usize,
 }
 
-// The bits of a byte that is not full yet, the first the least significant, and the weight of the
-// bit that comes next (Columnar Format, "Validity bitmaps").
+/// The bits of a byte that is not full yet, the first being the least significant, and the weight of
+/// the next bit (Columnar Format, "Validity bitmaps").
 #[derive(Clone, Copy)]
-pub(crate) struct Pending {
+pub(crate) struct BitPacker {
     pub(crate) byte: u8,
     pub(crate) weight: u8,
 }
 
-impl Pending {
-    // No bit.
-    pub(crate) fn new() -> Pending
+impl BitPacker {
+    /// No bit.
+    pub(crate) fn new() -> BitPacker
         ensures kept { (result.byte ≡ 0) × (result.weight ≡ 1) }
         ensures none { (before : List ℕ) → IsPacking before [] result.byte result.weight before }
     {
-        Pending { byte: 0, weight: 1 }
+        BitPacker { byte: 0, weight: 1 }
     }
 
-    // Adds a bit, and appends the byte where it is full.
+    /// Adds a bit, and appends the byte if it becomes full.
     pub(crate) fn push(&mut self, out: &mut Vec<u8>, bit: bool) -> Result<(), AllocError>
         ensures { OnOk result ((before : List ℕ) (bits : List Bool)
             → IsPacking before bits self.old.byte self.old.weight out.old.items
@@ -46,7 +46,7 @@ impl Pending {
         };
         if self.weight == 128 {
             out.push(byte)?;
-            *self = Pending::new();
+            *self = BitPacker::new();
         } else {
             self.byte = byte;
             self.weight = self.weight.wrapping_mul(2);
@@ -54,7 +54,7 @@ impl Pending {
         Ok(())
     }
 
-    // Adds eight bits, and appends the byte that is full by them.
+    /// Adds eight bits, and appends the byte that they fill.
     fn push_byte(&mut self, out: &mut Vec<u8>, bits: u8) -> Result<(), AllocError>
         ensures { OnOk result ((before : List ℕ) (was more : List Bool)
             → length more ≡ 8 → number_of_bits more ≡ bits
@@ -67,7 +67,7 @@ impl Pending {
         Ok(())
     }
 
-    // Adds bits of bytes, one by one.
+    /// Adds bits of bytes, one by one.
     fn push_each(&mut self, out: &mut Vec<u8>, bits: BitRange<'_>) -> Result<(), AllocError>
         requires { IsBitRange bits }
         ensures { OnOk result ((before : List ℕ) (was : List Bool)
@@ -81,7 +81,7 @@ impl Pending {
         Ok(())
     }
 
-    // Adds bits of bytes: those of whole bytes eight at once.
+    /// Adds bits of bytes: those of full bytes eight at once.
     pub(crate) fn push_range(
         &mut self,
         out: &mut Vec<u8>,
@@ -115,7 +115,7 @@ impl Pending {
         self.push_each(out, after)
     }
 
-    // Appends the byte that is not full, if it has bits.
+    /// Appends the byte that is not full, if it has bits.
     pub(crate) fn finish(self, out: &mut Vec<u8>) -> Result<(), AllocError>
         ensures { OnOk result ((before : List ℕ) (bits : List Bool)
             → IsPacking before bits self.byte self.weight out.old.items

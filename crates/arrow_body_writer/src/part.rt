@@ -1,42 +1,42 @@
-//! The buffers of a node, and how wide what they hold is.
+//! The buffers of a node, and the width of what they hold.
 
 ghost use Rattle.std.specs.Prelude.{◌≡◌, None, MatchOption};
 ghost use Rattle.arrow_body_writer.specs.Part.{part_of};
 
 use arrow_data::form::{Form, ListForm, NumberForm, OffsetWidth};
 
-// One buffer of a node, by what it holds (Columnar Format, "Buffer Listing for Each Layout").
+/// One buffer of a node, by what it holds (Columnar Format, "Buffer Listing for Each Layout").
 #[derive(Clone, Copy)]
-pub(crate) enum Part {
-    // A bit for each slot, 0 of a null one.
+pub(crate) enum BufferKind {
+    /// A bit for each slot, 0 for a null one.
     Validity,
-    // The truth values.
+    /// The truth values.
     Truths,
-    // The numbers.
+    /// The numbers.
     Numbers(NumberForm),
-    // The offsets of byte strings or texts.
+    /// The offsets of byte strings or texts.
     StringOffsets(OffsetWidth),
-    // The offsets of lists.
+    /// The offsets of lists.
     ListOffsets(OffsetWidth),
-    // The bytes of byte strings or texts.
+    /// The bytes of byte strings or texts.
     Strings,
-    // So many bytes for each slot.
+    /// This many bytes for each slot.
     FixedBytes(u32),
 }
 
-// Buffer `k` of a node of the form, None where it has no more than `k`.
-pub(crate) fn part_of(form: Form, k: usize) -> Option<Part>
+/// Buffer `k` of a node of the form, None if it has no more than `k`.
+pub(crate) fn part_of(form: Form, k: usize) -> Option<BufferKind>
     ensures { result ≡ part_of form k }
 {
     match (form, k) {
         (Form::Nulls, _) => None,
-        (_, 0) => Some(Part::Validity),
-        (Form::Bits, 1) => Some(Part::Truths),
-        (Form::Numbers(form), 1) => Some(Part::Numbers(form)),
-        (Form::Bytes(width) | Form::Texts(width), 1) => Some(Part::StringOffsets(width)),
-        (Form::Bytes(_) | Form::Texts(_), 2) => Some(Part::Strings),
-        (Form::FixedBytes(width), 1) => Some(Part::FixedBytes(width)),
-        (Form::Lists(ListForm::Offsets(width)), 1) => Some(Part::ListOffsets(width)),
+        (_, 0) => Some(BufferKind::Validity),
+        (Form::Bits, 1) => Some(BufferKind::Truths),
+        (Form::Numbers(form), 1) => Some(BufferKind::Numbers(form)),
+        (Form::Bytes(width) | Form::Texts(width), 1) => Some(BufferKind::StringOffsets(width)),
+        (Form::Bytes(_) | Form::Texts(_), 2) => Some(BufferKind::Strings),
+        (Form::FixedBytes(width), 1) => Some(BufferKind::FixedBytes(width)),
+        (Form::Lists(ListForm::Offsets(width)), 1) => Some(BufferKind::ListOffsets(width)),
         (
             Form::Bits
             | Form::Numbers(_)

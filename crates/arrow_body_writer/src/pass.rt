@@ -1,4 +1,4 @@
-//! A pass over the slots that a node is sent, of its own array or of one above it.
+//! A pass over the slots that are sent to a node, from its own array or from one above it.
 
 ghost use Rattle.std.specs.Prelude.{◌≡◌, ℕ, List, [], ◌∷◌, IfOk, IsFalse, IsTrue, OnErr, OnOk, None, Some, map};
 ghost use Rattle.std.specs.Prelude.{replicate};
@@ -14,38 +14,38 @@ ghost use Rattle.arrow_body_writer.specs.Tally.{IsTally};
 
 use crate::bitmap::bitmap_above;
 use crate::packing::BitRange;
-use crate::part::Part;
-use crate::slice::Slice;
+use crate::part::BufferKind;
+use crate::slice::ColumnSlice;
 use crate::slots::items;
-use crate::steps::Steps;
-use crate::tally::Tally;
+use crate::steps::ChildPath;
+use crate::tally::ByteTally;
 use crate::writing::Writing;
 use arrow_data::form::Form;
 use std::alloc::AllocError;
 
-// What is made of the slots of a node.
+/// What a pass does with the slots of a node.
 #[derive(Drop)]
 pub(crate) enum Pass {
-    // They are counted; the node has this form.
-    Count(Form, Tally),
-    // They are written to this buffer of the node.
-    Put(Part, Writing),
+    /// They are counted; the node has this form.
+    Count(Form, ByteTally),
+    /// They are written to this buffer of the node.
+    Put(BufferKind, Writing),
 }
 
 impl Pass {
-    // The slots that are counted, none where a buffer is written.
-    pub(crate) fn tally(self) -> Tally
+    /// The counts of the slots, zero if a buffer is written.
+    pub(crate) fn tally(self) -> ByteTally
         ensures { (form : Form) (before : List ℕ) (vs : List PlainValue)
             → form_in self ≡ Some form → IsPassed before vs self → IsTally form vs result }
     {
         match self {
             Pass::Count(_, tally) => tally,
-            Pass::Put(..) => Tally::new(),
+            Pass::Put(..) => ByteTally::new(),
         }
     }
 
-    // Takes the slots, which are the node's own.
-    fn take_slots(&mut self, slice: Slice<'_>) -> Result<(), AllocError>
+    /// Takes the slots, which belong to the node itself.
+    fn take_slots(&mut self, slice: ColumnSlice<'_>) -> Result<(), AllocError>
         requires slots { IsSlice slice }
         requires room { AllByRecursion (HasPlace (part_in self.old)) (values_in slice) }
         ensures ok { OnOk result (Takes self.old self.new (values_in slice.entry)) }
@@ -60,7 +60,7 @@ impl Pass {
         }
     }
 
-    // Takes a null.
+    /// Takes a null.
     fn take_null(&mut self) -> Result<(), AllocError>
         ensures ok { OnOk result (Takes self.old self.new (null_value ∷ [])) }
         ensures err { OnErr result (part_in self.old ≡ None → ⊥) }
@@ -74,24 +74,24 @@ impl Pass {
         }
     }
 
-    // Takes what a null sends along the steps: a null below structs, so many below lists (Columnar
-    // Format, "Struct Layout", "Fixed-Size List Layout").
+    /// Takes what a null sends along the steps: one null below structs, the number of nulls of the
+    /// step below lists (Columnar Format, "Struct Layout", "Fixed-Size List Layout").
     #[cycle(take_null_along)]
-    fn take_null_along(&mut self, steps: &Steps<'_>) -> Result<(), AllocError>
+    fn take_null_along(&mut self, steps: &ChildPath<'_>) -> Result<(), AllocError>
         ensures ok { OnOk result
             (Takes self.old self.new (sent_along steps.now (null_value ∷ []))) }
         ensures err { OnErr result (part_in self.old ≡ None → ⊥) }
     {
         match steps {
-            Steps::Here => self.take_null(),
-            Steps::Items(nulls, rest) => self.take_nulls_along(*nulls, rest),
-            Steps::Field(_, rest) => self.take_null_along(rest),
+            ChildPath::Here => self.take_null(),
+            ChildPath::Items(nulls, rest) => self.take_nulls_along(*nulls, rest),
+            ChildPath::Field(_, rest) => self.take_null_along(rest),
         }
     }
 
-    // Takes what so many nulls send along the steps.
+    /// Takes what `nulls` nulls send along the steps.
     #[cycle(take_null_along)]
-    fn take_nulls_along(&mut self, nulls: u32, rest: &Steps<'_>) -> Result<(), AllocError>
+    fn take_nulls_along(&mut self, nulls: u32, rest: &ChildPath<'_>) -> Result<(), AllocError>
         ensures ok { OnOk result
             (Takes self.old self.new (sent_along rest.now (replicate nulls null_value))) }
         ensures err { OnErr result (part_in self.old ≡ None → ⊥) }
@@ -102,14 +102,14 @@ impl Pass {
         Ok(())
     }
 
-    // Takes what field k of structs sends to its own node, where its child has no null of its own: by
-    // the bitmap of the structs, all at once (Columnar Format, "Struct Layout"). Tells whether it did:
-    // not where what is asked for is neither counts, nor bits, nor numbers.
+    /// Takes what field k of structs sends to its own node, if its child has no null of its own: by
+    /// the bitmap of the structs, all at once (Columnar Format, "Struct Layout"). Returns whether it
+    /// did: it does not if the pass asks for something other than counts, bits or numbers.
     fn take_masked(
         &mut self,
-        structs: Slice<'_>,
+        structs: ColumnSlice<'_>,
         k: usize,
-        steps: &Steps<'_>,
+        steps: &ChildPath<'_>,
     ) -> Result<bool, AllocError>
         requires { IsSlice structs }
         ensures taken { IfOk result (λ done. IsTrue done → Takes self.old self.new
@@ -117,8 +117,8 @@ impl Pass {
         ensures kept { IfOk result (λ done. IsFalse done → self.new ≡ self.old) }
         ensures err { OnErr result (part_in self.old ≡ None → ⊥) }
     {
-        let Slice { array, start, stop } = structs;
-        let (Steps::Here, Some(child)) = (steps, array.field(k)) else {
+        let ColumnSlice { array, start, stop } = structs;
+        let (ChildPath::Here, Some(child)) = (steps, array.field(k)) else {
             return Ok(false);
         };
         let Some(bytes) = bitmap_above(array, child) else {
@@ -131,12 +131,12 @@ impl Pass {
         }
     }
 
-    // Takes what the slots send along the steps.
+    /// Takes what the slots send along the steps.
     #[cycle(sent)]
     pub(crate) fn take_along(
         &mut self,
-        slice: Slice<'_>,
-        steps: &Steps<'_>,
+        slice: ColumnSlice<'_>,
+        steps: &ChildPath<'_>,
     ) -> Result<(), AllocError>
         requires slots { IsSlice slice }
         requires down { LeadDown steps.now slice.array.now.data_type slice.array.now.encoding }
@@ -145,9 +145,9 @@ impl Pass {
         ensures err { OnErr result (part_in self.old ≡ None → ⊥) }
     {
         match steps {
-            Steps::Here => self.take_slots(slice),
-            Steps::Items(nulls, rest) => self.take_items(slice, *nulls, rest),
-            Steps::Field(k, rest) => {
+            ChildPath::Here => self.take_slots(slice),
+            ChildPath::Items(nulls, rest) => self.take_items(slice, *nulls, rest),
+            ChildPath::Field(k, rest) => {
                 if self.take_masked(slice, *k, rest)? {
                     return Ok(());
                 }
@@ -156,15 +156,15 @@ impl Pass {
         }
     }
 
-    // Takes what the items of lists send along the steps: those of one list after those of the one
-    // before, and so many nulls under a null list (Columnar Format, "Variable-size List Layout",
-    // "Fixed-Size List Layout"). Lists between two nulls are taken at once.
+    /// Takes what the items of lists send along the steps: those of one list after those of the one
+    /// before, and `nulls` nulls under a null list (Columnar Format, "Variable-size List Layout",
+    /// "Fixed-Size List Layout"). The lists between two nulls are taken at once.
     #[cycle(sent)]
     fn take_items(
         &mut self,
-        lists: Slice<'_>,
+        lists: ColumnSlice<'_>,
         nulls: u32,
-        steps: &Steps<'_>,
+        steps: &ChildPath<'_>,
     ) -> Result<(), AllocError>
         requires lists { IsList lists.array.now }
         requires slots { IsSlice lists }
@@ -175,11 +175,11 @@ impl Pass {
             (sent_along steps.now (flat_map (items_in_value nulls) (values_in lists.entry)))) }
         ensures err { OnErr result (part_in self.old ≡ None → ⊥) }
     {
-        let Slice { array, start, stop } = lists;
+        let ColumnSlice { array, start, stop } = lists;
         let mut i = start;
         while i < stop {
             let end = array.first_null(i, stop);
-            let full = Slice {
+            let full = ColumnSlice {
                 array,
                 start: i,
                 stop: end,
@@ -196,14 +196,14 @@ impl Pass {
         Ok(())
     }
 
-    // Takes what field k of structs sends along the steps: the slots of its child, or a null under
-    // a null (Columnar Format, "Struct Layout").
+    /// Takes what field k of structs sends along the steps: the slots of its child, or a null under
+    /// a null (Columnar Format, "Struct Layout").
     #[cycle(sent)]
     fn take_field(
         &mut self,
-        structs: Slice<'_>,
+        structs: ColumnSlice<'_>,
         k: usize,
-        steps: &Steps<'_>,
+        steps: &ChildPath<'_>,
     ) -> Result<(), AllocError>
         requires structs { IsStruct structs.array.now }
         requires slots { IsSlice structs }
@@ -214,7 +214,7 @@ impl Pass {
             (sent_along steps.now (map (field_value k) (values_in structs.entry)))) }
         ensures err { OnErr result (part_in self.old ≡ None → ⊥) }
     {
-        let Slice { array, start, stop } = structs;
+        let ColumnSlice { array, start, stop } = structs;
         let Some(children) = array.fields() else {
             return Ok(());
         };
@@ -222,7 +222,7 @@ impl Pass {
         let mut i = start;
         while i < stop {
             let end = array.first_null(i, stop);
-            let full = Slice {
+            let full = ColumnSlice {
                 array: child,
                 start: i,
                 stop: end,

@@ -1,4 +1,4 @@
-//! How many bytes the buffers of a node have.
+//! The sizes in bytes of the buffers of a node.
 
 ghost use Rattle.std.specs.Prelude.{◌≡◌, ◌≤◌, ◌↔◌, IsTrue, List};
 ghost use Rattle.std.specs.List.{sum_by};
@@ -7,17 +7,17 @@ ghost use Rattle.arrow_data.specs.PlainValue.{PlainValue};
 ghost use Rattle.arrow_body_laws.specs.Raws.{IsSmall, offset_limit};
 ghost use Rattle.arrow_body_laws.specs.Stored.{rounded};
 ghost use Rattle.arrow_body_writer.specs.Align.{alignment_of};
-ghost use Rattle.arrow_body_writer.specs.Tally.{IsTally, sizes_told};
+ghost use Rattle.arrow_body_writer.specs.Tally.{IsTally, sizes_represented};
 
 use crate::align::Align;
-use crate::tally::Tally;
+use crate::tally::ByteTally;
 use arrow_data::form::{Form, ListForm};
 
-// The most slots that a node can have (`Schema.fbs`, where lengths go; `Message.fbs`, struct
-// `FieldNode`).
+/// The most slots that a node can have (`Schema.fbs`, on lengths; `Message.fbs`, struct
+/// `FieldNode`).
 const MOST_SLOTS: u64 = 2_147_483_647;
 
-// The greatest that the offsets of a node of the form can tell.
+/// The greatest offset that a node of the form can represent.
 fn offset_limit(form: Form) -> u64
     ensures { result ≡ offset_limit form }
 {
@@ -29,8 +29,8 @@ fn offset_limit(form: Form) -> u64
     }
 }
 
-// Whether slots that were counted are as few as a node can have, and their offsets can be told.
-pub(crate) fn is_small(form: Form, tally: Tally) -> bool
+/// Whether the counted slots are no more than a node can have, and their offsets are representable.
+pub(crate) fn is_small(form: Form, tally: ByteTally) -> bool
     ensures small { (vs : List PlainValue) → IsTally form vs tally
         → IsTrue result ↔ IsSmall form vs }
     ensures few { IsTrue result → tally.slots ≤ 2147483647 }
@@ -39,7 +39,7 @@ pub(crate) fn is_small(form: Form, tally: Tally) -> bool
     tally.slots <= MOST_SLOTS && tally.end <= offset_limit(form)
 }
 
-// The bytes of a bitmap of so many slots.
+/// The size in bytes of a bitmap of `slots` slots.
 fn bitmap_size(slots: u64) -> u64
     requires { slots ≤ 2147483647 }
     ensures same { result ≡ div_ceil slots 8 }
@@ -48,12 +48,13 @@ fn bitmap_size(slots: u64) -> u64
     slots / 8 + u64::from(slots % 8 > 0)
 }
 
-// The bytes of the buffers of a node of the form, each padded; the node has slots that were counted.
-pub(crate) fn node_size(align: Align, form: Form, tally: Tally) -> u64
+/// The size in bytes of the buffers of a node of the form, each padded; the node has the counted
+/// slots.
+pub(crate) fn node_size(align: Align, form: Form, tally: ByteTally) -> u64
     requires few { tally.slots ≤ 2147483647 }
     requires near { tally.end ≤ 9223372036854775807 }
     ensures { result ≡ sum_by (rounded (alignment_of align))
-        (sizes_told form tally.slots tally.nulls tally.end) }
+        (sizes_represented form tally.slots tally.nulls tally.end) }
 {
     let validity = if tally.nulls == 0 {
         0

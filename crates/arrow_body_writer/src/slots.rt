@@ -1,4 +1,4 @@
-//! What one slot adds to each buffer of its node.
+//! What a single slot adds to each buffer of its node.
 
 ghost use Rattle.std.specs.Prelude.{◌≡◌, ◌≤◌, ◌<◌, [], ◌++◌, IfSome, IsTrue, MatchOption, OnOk, length};
 ghost use Rattle.std.specs.List.{flat_map};
@@ -14,14 +14,14 @@ ghost use Rattle.arrow_data.specs.declared.form.Form.TheVariants as forms;
 ghost use Rattle.arrow_body_writer.specs.Runs.{HasItems, HasNoItems, are_strings};
 ghost use Rattle.arrow_body_writer.specs.Slice.{IsFull, IsSlice, values_in};
 
-use crate::slice::Slice;
+use crate::slice::ColumnSlice;
 use crate::whole::is_full;
 use arrow_bits::put_int;
 use arrow_data::Array;
 use arrow_data::form::{Form, NumberForm, node_form};
 use std::alloc::AllocError;
 
-// The truth value of the slot, false under a null.
+/// The truth value of the slot, false under a null.
 #[tactic(auto, using(crate::proofs::Shown::shown))]
 pub(crate) fn truth(array: &Array, i: usize) -> bool
     requires { i < length array.now.raw }
@@ -30,7 +30,7 @@ pub(crate) fn truth(array: &Array, i: usize) -> bool
     array.bool_at(i).unwrap_or(false)
 }
 
-// The number of the slot, 0 under a null.
+/// The number of the slot, 0 under a null.
 #[tactic(auto, using(crate::proofs::Shown::shown))]
 pub(crate) fn number(array: &Array, i: usize) -> i128
     requires { i < length array.now.raw }
@@ -39,7 +39,7 @@ pub(crate) fn number(array: &Array, i: usize) -> i128
     array.int_at(i).unwrap_or(0)
 }
 
-// The bytes of the slot's byte string or text, none under a null.
+/// The bytes of the slot's byte string or text, none under a null.
 #[tactic(auto, using(crate::proofs::Shown::shown))]
 pub(crate) fn string(array: &Array, i: usize) -> &[u8]
     requires { i < length array.now.raw }
@@ -52,7 +52,7 @@ pub(crate) fn string(array: &Array, i: usize) -> &[u8]
     }
 }
 
-// How many items the slot's list has, none under a null.
+/// The number of items of the slot's list, 0 under a null.
 pub(crate) fn span(array: &Array, i: usize) -> usize
     requires { i < length array.now.raw }
     ensures { result ≡ length (items_in_value 0 (value_at array.now.raw i)) }
@@ -63,17 +63,17 @@ pub(crate) fn span(array: &Array, i: usize) -> usize
     }
 }
 
-// The form of the array's own node.
+/// The form of the array's own node.
 pub(crate) fn own_form(array: &Array) -> Form
     ensures form { result ≡ node_form array.now.data_type.tag array.now.encoding }
     ensures known { IsColumn array.now }
 {
-    // What is known of every array is asked for, so that the proof has it.
+    // Calls a function whose contract gives the invariant of every array, so that the proof has it.
     let _slots = array.len();
     node_form(array.data_type(), array.encoding().copied())
 }
 
-// The form of the array's own node, where no slot is null.
+/// The form of the array's own node, if no slot is null.
 pub(crate) fn full_form(array: &Array) -> Option<Form>
     ensures form { IfSome result (λ form.
         form ≡ node_form array.now.data_type.tag array.now.encoding) }
@@ -84,14 +84,14 @@ pub(crate) fn full_form(array: &Array) -> Option<Form>
     if is_full(array) { Some(form) } else { None }
 }
 
-// Whether slots of the form hold byte strings or texts.
+/// Whether slots of the form hold byte strings or texts.
 fn holds_strings(form: Form) -> bool
     ensures { result ≡ are_strings form }
 {
     matches!(form, Form::Bytes(_) | Form::Texts(_) | Form::FixedBytes(_))
 }
 
-// Whether slots of the form hold these numbers.
+/// Whether slots of the form hold these numbers.
 fn holds_numbers(form: Form, numbers: NumberForm) -> bool
     ensures { IsTrue result → form ≡ forms.Numbers numbers }
 {
@@ -101,7 +101,7 @@ fn holds_numbers(form: Form, numbers: NumberForm) -> bool
     }
 }
 
-// Whether slots of the form hold byte strings of this width.
+/// Whether slots of the form hold byte strings of this width.
 fn holds_fixed(form: Form, width: u32) -> bool
     ensures { IsTrue result → form ≡ forms.FixedBytes width }
 {
@@ -111,8 +111,8 @@ fn holds_fixed(form: Form, width: u32) -> bool
     }
 }
 
-// The bytes of the byte strings or texts of a slice, of which none is null.
-pub(crate) fn strings(slice: Slice<'_>) -> &[u8]
+/// The bytes of the byte strings or texts of a slice, of which none is null.
+pub(crate) fn strings(slice: ColumnSlice<'_>) -> &[u8]
     requires slots { IsSlice slice }
     requires full { IsFull slice }
     ensures { result.now ≡ flat_map bytes_in_value (values_in slice.entry) }
@@ -125,8 +125,8 @@ pub(crate) fn strings(slice: Slice<'_>) -> &[u8]
     }
 }
 
-// The bytes of the numbers of a slice, of which none is null. None where they are not of this form.
-pub(crate) fn numbers(slice: Slice<'_>, form: NumberForm) -> Option<&[u8]>
+/// The bytes of the numbers of a slice, of which none is null. None if they are not of this form.
+pub(crate) fn numbers(slice: ColumnSlice<'_>, form: NumberForm) -> Option<&[u8]>
     requires slots { IsSlice slice }
     requires full { IsFull slice }
     ensures { IfSome result (λ bytes. bytes.now
@@ -139,8 +139,8 @@ pub(crate) fn numbers(slice: Slice<'_>, form: NumberForm) -> Option<&[u8]>
     }
 }
 
-// The byte strings of a slice, of which none is null. None where they do not have this width.
-pub(crate) fn fixed(slice: Slice<'_>, width: u32) -> Option<&[u8]>
+/// The byte strings of a slice, of which none is null. None if they do not have this width.
+pub(crate) fn fixed(slice: ColumnSlice<'_>, width: u32) -> Option<&[u8]>
     requires slots { IsSlice slice }
     requires full { IsFull slice }
     ensures { IfSome result (λ bytes. bytes.now
@@ -154,34 +154,34 @@ pub(crate) fn fixed(slice: Slice<'_>, width: u32) -> Option<&[u8]>
     }
 }
 
-// The items of the lists of a slice, of which none is null, one after another: the slots of the
-// child that they are. None where there is no list.
-pub(crate) fn items(slice: Slice<'_>) -> Option<Slice<'_>>
+/// The items of the lists of a slice, of which none is null, one after another: the corresponding
+/// slots of the child. None if there is no list.
+pub(crate) fn items(slice: ColumnSlice<'_>) -> Option<ColumnSlice<'_>>
     requires slots { IsSlice slice }
     requires full { IsFull slice }
     ensures { MatchOption result
         (HasNoItems slice.entry)
         (HasItems slice.entry) }
 {
-    let Slice { array, start, stop } = slice;
+    let ColumnSlice { array, start, stop } = slice;
     if start == stop {
         return None;
     }
-    // What is known of every array is asked for, so that the proof has it.
+    // Calls a function whose contract gives the invariant of every array, so that the proof has it.
     let _slots = array.len();
     let Some(child) = array.items() else {
         return None;
     };
     let (first, _, _) = array.list_at(start)?;
     let (_, end, _) = array.list_at(stop - 1)?;
-    Some(Slice {
+    Some(ColumnSlice {
         array: child,
         start: first,
         stop: end,
     })
 }
 
-// Appends the number of the slot.
+/// Appends the number of the slot.
 pub(crate) fn put_number(
     out: &mut Vec<u8>,
     width: usize,
@@ -197,7 +197,7 @@ pub(crate) fn put_number(
     put_int(out, width, number(array, i))
 }
 
-// Appends the bytes of the slot's byte string or text.
+/// Appends the bytes of the slot's byte string or text.
 pub(crate) fn put_string(out: &mut Vec<u8>, array: &Array, i: usize) -> Result<(), AllocError>
     requires { i < length array.now.raw }
     ensures { OnOk result (out.new.items

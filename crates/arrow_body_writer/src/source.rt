@@ -1,5 +1,5 @@
-//! Where the raw values of a column come from: an array, the rest of a dictionary, or the lists or
-//! structs above it.
+//! The origin of the raw values of a column: an array, the values of a dictionary from an index on,
+//! or the lists or structs above it.
 
 ghost use Rattle.std.specs.Prelude.{◌≡◌, ◌<◌, IfSome, MatchOption, OnErr, OnOk, None, Some, [], ◌∷◌, length, slice_get};
 ghost use Rattle.std.specs.List.{AllByRecursion};
@@ -10,38 +10,37 @@ ghost use Rattle.arrow_body_laws.specs.Laws.{raws_of};
 ghost use Rattle.arrow_body_laws.specs.Raws.{AreRaws, nulls_under};
 ghost use Rattle.arrow_body_laws.specs.Stored.{fields_of_columns};
 ghost use Rattle.arrow_body_writer.specs.Pass.{HasPlace, Takes, part_in};
-ghost use Rattle.arrow_body_writer.specs.Sent.{LeadDown, form_of_column, sent_along, sent_below};
+ghost use Rattle.arrow_body_writer.specs.Sent.{LeadDown, form_of_column, sent_along, visible_children};
 ghost use Rattle.arrow_body_writer.specs.Slice.{IsSlice, values_in};
 ghost use Rattle.arrow_body_writer.specs.Source.{IsSource, column_in, rest_of};
 ghost use Rattle.arrow_body_writer.specs.Whole.{AreSentWhole};
 
 use crate::pass::Pass;
-use crate::slice::{Slice, all_slots};
-use crate::steps::Steps;
+use crate::slice::{ColumnSlice, all_slots};
+use crate::steps::ChildPath;
 use crate::whole::whole_below;
 use arrow_data::form::{Form, ListForm, node_form};
 use arrow_data::{Array, Dictionary};
 use arrow_types::{DataType, Encoding, Field};
 use std::alloc::AllocError;
 
-// A column that is stored.
+/// A column that is stored.
 #[derive(Clone, Copy)]
-pub(crate) enum Source<'a> {
-    // That of an array.
+pub(crate) enum ColumnSource<'a> {
+    /// The column of an array.
     Slots(&'a Array),
-    // The values of a dictionary from this one on, in a column without an encoding: none where the
-    // dictionary has no more than so many values (`Message.fbs`, table `DictionaryBatch`).
+    /// The values of a dictionary from this index on, in a column without an encoding: none if the
+    /// dictionary has no more values than that (`Message.fbs`, table `DictionaryBatch`).
     Rest(&'a Dictionary, usize),
-    // The items of the lists of a column, with so many nulls under a null list (Columnar Format,
-    // "Variable-size List Layout", "Fixed-Size List Layout").
-    Items(u32, &'a Source<'a>),
-    // This field of the structs of a column, null where these are (Columnar Format, "Struct
-    // Layout").
-    Field(&'a Source<'a>, usize),
+    /// The items of the lists of a column, with this many nulls under a null list (Columnar Format,
+    /// "Variable-size List Layout", "Fixed-Size List Layout").
+    Items(u32, &'a ColumnSource<'a>),
+    /// This field of the structs of a column, null if these are (Columnar Format, "Struct Layout").
+    Field(&'a ColumnSource<'a>, usize),
 }
 
-// How many nulls the child is sent under a null list: as many as each list has items where all have
-// as many, none elsewhere (Columnar Format, "Fixed-Size List Layout").
+/// The number of nulls that are sent to the child under a null list: the length of each list if all
+/// have the same length, 0 otherwise (Columnar Format, "Fixed-Size List Layout").
 fn nulls_under(list: ListForm) -> u32
     ensures { result ≡ nulls_under list }
 {
@@ -51,7 +50,7 @@ fn nulls_under(list: ListForm) -> u32
     }
 }
 
-// The child field at a place.
+/// The child field at an index.
 fn child_field(data_type: &DataType, k: usize) -> &Field
     requires { k < width (type_view data_type.now).children }
     ensures { type_of_field (type_view data_type.now).children k
@@ -60,34 +59,34 @@ fn child_field(data_type: &DataType, k: usize) -> &Field
     &data_type.children()[k]
 }
 
-impl<'a> Source<'a> {
-    // The type of the values.
+impl<'a> ColumnSource<'a> {
+    /// The type of the values.
     pub(crate) fn data_type(&self) -> &DataType
         requires { IsSource self.now }
         ensures { type_view result.now ≡ (column_in self.now).data_type }
     {
         match self {
-            Source::Slots(array) => array.data_type(),
-            Source::Rest(dictionary, _) => dictionary.data_type(),
-            Source::Items(_, lists) => &child_field(lists.data_type(), 0).data_type,
-            Source::Field(structs, k) => &child_field(structs.data_type(), *k).data_type,
+            ColumnSource::Slots(array) => array.data_type(),
+            ColumnSource::Rest(dictionary, _) => dictionary.data_type(),
+            ColumnSource::Items(_, lists) => &child_field(lists.data_type(), 0).data_type,
+            ColumnSource::Field(structs, k) => &child_field(structs.data_type(), *k).data_type,
         }
     }
 
-    // How the column refers to its dictionary.
+    /// How the column refers to its dictionary.
     pub(crate) fn encoding(&self) -> Option<Encoding>
         requires { IsSource self.now }
         ensures { result ≡ (column_in self.now).encoding }
     {
         match self {
-            Source::Slots(array) => array.encoding().copied(),
-            Source::Rest(..) => None,
-            Source::Items(_, lists) => child_field(lists.data_type(), 0).dictionary,
-            Source::Field(structs, k) => child_field(structs.data_type(), *k).dictionary,
+            ColumnSource::Slots(array) => array.encoding().copied(),
+            ColumnSource::Rest(..) => None,
+            ColumnSource::Items(_, lists) => child_field(lists.data_type(), 0).dictionary,
+            ColumnSource::Field(structs, k) => child_field(structs.data_type(), *k).dictionary,
         }
     }
 
-    // The form of the column's own node.
+    /// The form of the column's own node.
     pub(crate) fn form(&self) -> Form
         requires { IsSource self.now }
         ensures { result ≡ form_of_column (column_in self.now) }
@@ -95,32 +94,33 @@ impl<'a> Source<'a> {
         node_form(self.data_type(), self.encoding())
     }
 
-    // All slots of the array, where the column is an array's.
-    pub(crate) fn own_slots(&self) -> Option<Slice<'a>>
+    /// All slots of the array, if the column is an array's.
+    pub(crate) fn own_slots(&self) -> Option<ColumnSlice<'a>>
         ensures slots { IfSome result (λ slice. IsSlice slice) }
         ensures sent { IfSome result (λ slice. values_in slice ≡ (column_in self.now).raw) }
     {
         match self {
-            Source::Slots(array) => Some(all_slots(array)),
+            ColumnSource::Slots(array) => Some(all_slots(array)),
             _ => None,
         }
     }
 
-    // The children of an array, where they are sent whole.
+    /// The children of an array, if they are sent unsliced.
     pub(crate) fn whole_below(&self) -> Option<&'a [Array]>
         ensures { IfSome result (λ children. AreSentWhole (column_in self.now) children.now) }
     {
         match self {
-            Source::Slots(array) => whole_below(array),
+            ColumnSource::Slots(array) => whole_below(array),
             _ => None,
         }
     }
 
-    // How many columns are sent below the column's own node: none below a dictionary-encoded one.
+    /// The number of columns that are sent below the column's own node: 0 below a dictionary-encoded
+    /// one.
     pub(crate) fn width(&self) -> usize
         requires source { IsSource self.now }
         requires raws { AreRaws (fields_of_columns (column_in self.now ∷ [])) (raws_of (column_in self.now ∷ [])) }
-        ensures { result ≡ length (sent_below (column_in self.now)) }
+        ensures { result ≡ length (visible_children (column_in self.now)) }
     {
         match self.encoding() {
             Some(_) => 0,
@@ -128,23 +128,23 @@ impl<'a> Source<'a> {
         }
     }
 
-    // The column at a place among these.
-    pub(crate) fn below(&self, k: usize) -> Source<'_>
+    /// The column at an index among these.
+    pub(crate) fn below(&self, k: usize) -> ColumnSource<'_>
         requires source { IsSource self.now }
         requires raws { AreRaws (fields_of_columns (column_in self.now ∷ [])) (raws_of (column_in self.now ∷ [])) }
-        requires inside { k < length (sent_below (column_in self.now)) }
+        requires inside { k < length (visible_children (column_in self.now)) }
         ensures source { IsSource result }
-        ensures same { slice_get (sent_below (column_in self.now)) k ≡ Some (column_in result) }
+        ensures same { slice_get (visible_children (column_in self.now)) k ≡ Some (column_in result) }
     {
         match self.form() {
-            Form::Lists(list) => Source::Items(nulls_under(list), self),
-            _ => Source::Field(self, k),
+            Form::Lists(list) => ColumnSource::Items(nulls_under(list), self),
+            _ => ColumnSource::Field(self, k),
         }
     }
 
-    // Takes what all slots of the column send along the steps.
+    /// Takes what all slots of the column send along the steps.
     #[cycle(send)]
-    pub(crate) fn send(&self, pass: &mut Pass, steps: &Steps<'_>) -> Result<(), AllocError>
+    pub(crate) fn send(&self, pass: &mut Pass, steps: &ChildPath<'_>) -> Result<(), AllocError>
         requires source { IsSource self.now }
         requires down { LeadDown steps.now (column_in self.now).data_type (column_in self.now).encoding }
         requires room { AllByRecursion (HasPlace (part_in pass.old))
@@ -154,20 +154,23 @@ impl<'a> Source<'a> {
         ensures err { OnErr result (part_in pass.old ≡ None → ⊥) }
     {
         match self {
-            Source::Slots(array) => pass.take_along(all_slots(array), steps),
-            Source::Rest(dictionary, from) => take_rest(pass, dictionary, *from, steps),
-            Source::Items(nulls, lists) => lists.send(pass, &Steps::Items(*nulls, &*steps)),
-            Source::Field(structs, k) => structs.send(pass, &Steps::Field(*k, &*steps)),
+            ColumnSource::Slots(array) => pass.take_along(all_slots(array), steps),
+            ColumnSource::Rest(dictionary, from) => take_rest(pass, dictionary, *from, steps),
+            ColumnSource::Items(nulls, lists) => lists.send(
+                pass,
+                &ChildPath::Items(*nulls, &*steps),
+            ),
+            ColumnSource::Field(structs, k) => structs.send(pass, &ChildPath::Field(*k, &*steps)),
         }
     }
 }
 
-// Takes what the values of a dictionary from one on send along the steps, array by array.
+/// Takes what the values of a dictionary from an index on send along the steps, array by array.
 fn take_rest(
     pass: &mut Pass,
     dictionary: &Dictionary,
     from: usize,
-    steps: &Steps<'_>,
+    steps: &ChildPath<'_>,
 ) -> Result<(), AllocError>
     requires down { LeadDown steps.now dictionary.now.data_type None }
     requires room { AllByRecursion (HasPlace (part_in pass.old))
@@ -180,7 +183,7 @@ fn take_rest(
     while i < dictionary.len() {
         let (array, start) = dictionary.value(i);
         let stop = array.len();
-        pass.take_along(Slice { array, start, stop }, steps)?;
+        pass.take_along(ColumnSlice { array, start, stop }, steps)?;
         i += stop - start;
     }
     Ok(())

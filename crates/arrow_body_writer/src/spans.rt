@@ -1,4 +1,4 @@
-//! Offsets that lie in an array, for slots that are sent at once.
+//! Offsets in an array, for slots that are sent at once.
 
 ghost use Rattle.std.specs.Prelude.{◌≡◌, ◌≤◌, ◌<◌, ◌+◌, ◌*◌, ◌/◌, ◌++◌, List, ℕ, IsTrue, OnOk};
 ghost use Rattle.std.specs.Prelude.{drop, false, length};
@@ -13,16 +13,16 @@ use arrow_data::form::OffsetWidth;
 use byteorder::{ByteOrder, LittleEndian};
 use std::alloc::AllocError;
 
-// The offsets of a range of slots, as they lie among those of an array.
+/// The offsets of a range of slots, as they are stored among those of an array.
 #[derive(Clone, Copy)]
-pub(crate) struct Spans<'a> {
+pub(crate) struct OffsetRun<'a> {
     pub(crate) width: OffsetWidth,
     pub(crate) offsets: &'a [u8],
     pub(crate) start: usize,
     pub(crate) stop: usize,
 }
 
-// Adds so much to each of the numbers of four bytes, modulo 2^32.
+/// Adds `by` to each of the four-byte numbers, modulo 2^32.
 fn move_small(numbers: &mut [u8], by: u32)
     ensures { numbers.new ≡ moved 4 by (length numbers.old / 4) numbers.old
         ++ drop (4 * (length numbers.old / 4)) numbers.old }
@@ -34,7 +34,7 @@ fn move_small(numbers: &mut [u8], by: u32)
     }
 }
 
-// Adds so much to each of the numbers of eight bytes, modulo 2^64.
+/// Adds `by` to each of the eight-byte numbers, modulo 2^64.
 fn move_large(numbers: &mut [u8], by: u64)
     ensures { numbers.new ≡ moved 8 by (length numbers.old / 8) numbers.old
         ++ drop (8 * (length numbers.old / 8)) numbers.old }
@@ -46,7 +46,7 @@ fn move_large(numbers: &mut [u8], by: u64)
     }
 }
 
-// Appends numbers of four bytes, each so much greater, modulo 2^32.
+/// Appends four-byte numbers, each increased by `by`, modulo 2^32.
 fn put_small(out: &mut Vec<u8>, numbers: &[u8], by: u32) -> Result<(), AllocError>
     ensures { OnOk result ((n : ℕ) → length numbers.now ≡ 4 * n
         → out.new.items ≡ out.old.items ++ moved 4 by n numbers.now) }
@@ -59,7 +59,7 @@ fn put_small(out: &mut Vec<u8>, numbers: &[u8], by: u32) -> Result<(), AllocErro
     Ok(())
 }
 
-// Appends numbers of eight bytes, each so much greater, modulo 2^64.
+/// Appends eight-byte numbers, each increased by `by`, modulo 2^64.
 fn put_large(out: &mut Vec<u8>, numbers: &[u8], by: u64) -> Result<(), AllocError>
     ensures { OnOk result ((n : ℕ) → length numbers.now ≡ 8 * n
         → out.new.items ≡ out.old.items ++ moved 8 by n numbers.now) }
@@ -72,8 +72,8 @@ fn put_large(out: &mut Vec<u8>, numbers: &[u8], by: u64) -> Result<(), AllocErro
     Ok(())
 }
 
-impl<'a> Spans<'a> {
-    // Offset `j` of the array.
+impl<'a> OffsetRun<'a> {
+    /// Offset `j` of the array.
     pub(crate) fn at(self, j: usize) -> u64
         requires there { AreThere self }
         requires inside { j ≤ self.stop }
@@ -85,7 +85,7 @@ impl<'a> Spans<'a> {
         }
     }
 
-    // How much lies between the first offset and the last.
+    /// The difference of the last offset and the first.
     pub(crate) fn len(self) -> usize
         requires { AreThere self }
         ensures { (long : PlainValue → ℕ) (raw : List PlainValue) → AreSpans self.entry long raw
@@ -94,7 +94,7 @@ impl<'a> Spans<'a> {
         self.at(self.stop).wrapping_sub(self.at(self.start)) as usize
     }
 
-    // Whether nothing lies under the nulls among the slots, whose bits are 0.
+    /// Whether nothing lies under the nulls among the slots, those whose bits are 0.
     pub(crate) fn hide_nothing(self, bits: &[u8]) -> bool
         requires there { AreThere self }
         requires bits { self.stop ≤ 8 * length bits.now }
@@ -111,8 +111,8 @@ impl<'a> Spans<'a> {
         true
     }
 
-    // Appends the offsets after the slots, each so much greater that the one before them would be
-    // this end.
+    /// Appends the offsets after the slots, each increased by the amount that takes the offset
+    /// before them to `end`.
     pub(crate) fn put(self, out: &mut Vec<u8>, end: u64) -> Result<(), AllocError>
         requires { AreThere self }
         ensures { OnOk result (PutsMoved self.entry end out.old.items out.new.items) }

@@ -6,21 +6,21 @@ use std::alloc::AllocError;
 
 /// Why columns are not stored.
 #[derive(Clone, Copy, Debug, PartialEq, Eq)]
-pub enum StoreFault {
-    /// A node has more than 2,147,483,647 slots, or an offset cannot be told by a number of its
-    /// width; or a column has 2^64 - 1 nodes or more, which no memory holds.
+pub enum BodyStoreFault {
+    /// A node has more than 2,147,483,647 slots, or an offset cannot be represented by a number of
+    /// its width; or a column has 2^64 - 1 nodes or more, which do not fit into memory.
     TooLarge,
-    /// A growth was refused.
+    /// An allocation failed.
     Memory,
 }
 
-/// A growth that was refused: `Memory`.
-impl From<AllocError> for StoreFault {
-    ghost use Rattle.arrow_body_writer.specs.declared.store_fault.StoreFault.TheVariants.{Memory};
+/// A failed allocation becomes `Memory`.
+impl From<AllocError> for BodyStoreFault {
+    ghost use Rattle.arrow_body_writer.specs.declared.store_fault.BodyStoreFault.TheVariants.{Memory};
 
     ghost from_gives = { λ refused fault. fault ≡ Memory };
 
-    fn from(_refused: AllocError) -> StoreFault {
-        StoreFault::Memory
+    fn from(_refused: AllocError) -> BodyStoreFault {
+        BodyStoreFault::Memory
     }
 }

@@ -1,4 +1,4 @@
-//! The slots that a node is sent, counted.
+//! The counts of the slots that are sent to a node.
 
 ghost use Rattle.std.specs.Prelude.{◌≡◌, ◌≤◌, ◌<◌, ◌+◌, ◌-◌, ◌*◌, List, IfSome, IsFalse, IsTrue};
 ghost use Rattle.std.specs.Prelude.{count_by, length, not};
@@ -13,20 +13,20 @@ ghost use Rattle.arrow_body_writer.specs.Tally.{Counts, CountsNull, IsTally, cap
 use crate::bitmap::{bitmap, zeros};
 use crate::offsets::{lists_between, strings_between};
 use crate::packing::BitRange;
-use crate::slice::{Slice, is_without_null};
+use crate::slice::{ColumnSlice, is_without_null};
 use crate::slots::{items, strings};
 use arrow_data::form::{Form, ListForm};
 
-// How many slots there are, how many of them are null, and up to where their offsets go. Each stays
-// at the greatest number where it would be greater.
+/// The number of slots, the number of nulls among them, and the end of their offsets. Each is capped
+/// at the greatest number.
 #[derive(Clone, Copy)]
-pub(crate) struct Tally {
+pub(crate) struct ByteTally {
     pub(crate) slots: u64,
     pub(crate) nulls: u64,
     pub(crate) end: u64,
 }
 
-// Whether a node of the form has offsets.
+/// Whether a node of the form has offsets.
 fn has_offsets(form: Form) -> bool
     ensures { IsFalse result → (vs : List PlainValue) → last_offset form vs ≡ 0 }
 {
@@ -36,8 +36,8 @@ fn has_offsets(form: Form) -> bool
     )
 }
 
-// How far the offsets of lists go on of which none is null: 0 where none are stored.
-fn list_stretch(list: ListForm, slice: Slice<'_>) -> usize
+/// How far the offsets of lists without nulls advance: 0 if none are stored.
+fn list_stretch(list: ListForm, slice: ColumnSlice<'_>) -> usize
     requires slots { IsSlice slice }
     requires full { IsFull slice }
     ensures { result ≡ last_item list (values_in slice.entry) }
@@ -51,8 +51,8 @@ fn list_stretch(list: ListForm, slice: Slice<'_>) -> usize
     }
 }
 
-// How far the offsets of slots go on of which none is null: 0 where the form has none.
-fn stretch(form: Form, slice: Slice<'_>) -> usize
+/// How far the offsets of slots without nulls advance: 0 if the form has none.
+fn stretch(form: Form, slice: ColumnSlice<'_>) -> usize
     requires slots { IsSlice slice }
     requires full { IsFull slice }
     ensures { result ≡ last_offset form (values_in slice.entry) }
@@ -65,9 +65,9 @@ fn stretch(form: Form, slice: Slice<'_>) -> usize
     }
 }
 
-// How far the offsets of the byte strings or texts of a slice go on, where nothing lies under the
-// nulls among these. None also where there are no slots, or other ones.
-fn string_reach(slice: Slice<'_>) -> Option<usize>
+/// How far the offsets of the byte strings or texts of a slice advance, if nothing lies under the
+/// nulls of the slice. None also if there are no slots, or slots of another kind.
+fn string_reach(slice: ColumnSlice<'_>) -> Option<usize>
     requires { IsSlice slice }
     ensures { IfSome result (λ len. len
         ≡ sum_by (λ v. length (bytes_in_value v)) (values_in slice.entry)) }
@@ -76,8 +76,8 @@ fn string_reach(slice: Slice<'_>) -> Option<usize>
     Some(spans.len())
 }
 
-// The same of the lists of a slice: 0 where no offsets are stored.
-fn list_reach(list: ListForm, slice: Slice<'_>) -> Option<usize>
+/// The same for the lists of a slice: 0 if no offsets are stored.
+fn list_reach(list: ListForm, slice: ColumnSlice<'_>) -> Option<usize>
     requires { IsSlice slice }
     ensures { IfSome result (λ len. len ≡ last_item list (values_in slice.entry)) }
 {
@@ -90,8 +90,8 @@ fn list_reach(list: ListForm, slice: Slice<'_>) -> Option<usize>
     }
 }
 
-// The same of the slots of a node of the form: 0 where it has no offsets.
-fn reach(form: Form, slice: Slice<'_>) -> Option<usize>
+/// The same for the slots of a node of the form: 0 if it has no offsets.
+fn reach(form: Form, slice: ColumnSlice<'_>) -> Option<usize>
     requires { IsSlice slice }
     ensures { IfSome result (λ len. len ≡ last_offset form (values_in slice.entry)) }
 {
@@ -103,19 +103,19 @@ fn reach(form: Form, slice: Slice<'_>) -> Option<usize>
     }
 }
 
-impl Tally {
-    // No slots.
-    pub(crate) fn new() -> Tally
+impl ByteTally {
+    /// No slots.
+    pub(crate) fn new() -> ByteTally
         ensures { result ≡ record { slots = 0; nulls = 0; end = 0 } }
     {
-        Tally {
+        ByteTally {
             slots: 0,
             nulls: 0,
             end: 0,
         }
     }
 
-    // Counts a null.
+    /// Counts a null.
     pub(crate) fn add_null(&mut self)
         ensures { CountsNull self.old self.new }
     {
@@ -123,8 +123,8 @@ impl Tally {
         self.nulls = self.nulls.saturating_add(1);
     }
 
-    // Counts slots of which none is null.
-    fn add_full(&mut self, form: Form, slice: Slice<'_>)
+    /// Counts slots without nulls.
+    fn add_full(&mut self, form: Form, slice: ColumnSlice<'_>)
         requires slots { IsSlice slice }
         requires full { IsFull slice }
         ensures { Counts form (values_in slice.entry) self.old self.new }
@@ -133,8 +133,9 @@ impl Tally {
         self.end = self.end.saturating_add(stretch(form, slice) as u64);
     }
 
-    // Counts the slots up to the first null and that one, and tells where the next one is.
-    fn add_run(&mut self, form: Form, slice: Slice<'_>) -> usize
+    /// Counts the slots up to the first null, including that one, and returns the index of the next
+    /// one.
+    fn add_run(&mut self, form: Form, slice: ColumnSlice<'_>) -> usize
         requires slots { IsSlice slice }
         requires some { slice.start < slice.stop }
         ensures more { slice.entry.start < result }
@@ -142,9 +143,9 @@ impl Tally {
         ensures counted { Counts form
             (values_from slice.entry.array.now.raw slice.entry.start result) self.old self.new }
     {
-        let Slice { array, start, stop } = slice;
+        let ColumnSlice { array, start, stop } = slice;
         let end = array.first_null(start, stop);
-        let full = Slice {
+        let full = ColumnSlice {
             array,
             start,
             stop: end,
@@ -158,15 +159,15 @@ impl Tally {
         }
     }
 
-    // Counts the slots, run by run.
-    fn add_runs(&mut self, form: Form, slice: Slice<'_>)
+    /// Counts the slots, run by run.
+    fn add_runs(&mut self, form: Form, slice: ColumnSlice<'_>)
         requires { IsSlice slice }
         ensures { Counts form (values_in slice.entry) self.old self.new }
     {
-        let Slice { array, start, stop } = slice;
+        let ColumnSlice { array, start, stop } = slice;
         let mut i = start;
         while i < stop {
-            let rest = Slice {
+            let rest = ColumnSlice {
                 array,
                 start: i,
                 stop,
@@ -175,7 +176,7 @@ impl Tally {
         }
     }
 
-    // Counts slots whose bits these are, and whose offsets go so far on.
+    /// Counts slots by these bits; their offsets advance by `len`.
     fn add_marked(&mut self, bits: BitRange<'_>, len: usize)
         requires { IsBitRange bits }
         ensures slots { self.new.slots
@@ -189,7 +190,8 @@ impl Tally {
         self.end = self.end.saturating_add(len as u64);
     }
 
-    // Counts slots by their bits alone, where a node of the form has no offsets; tells whether it did.
+    /// Counts slots by their bits only, if a node of the form has no offsets; returns whether it
+    /// did.
     pub(crate) fn add_masked(&mut self, form: Form, bits: BitRange<'_>) -> bool
         requires { IsBitRange bits }
         ensures counted { IsTrue result → (raw : List PlainValue)
@@ -204,21 +206,21 @@ impl Tally {
         true
     }
 
-    // Counts slots beside a bitmap: by its bits, where nothing lies under a null.
-    fn add_beside(&mut self, form: Form, slice: Slice<'_>, bytes: &[u8])
+    /// Counts slots that have a bitmap: by its bits, if nothing lies under a null.
+    fn add_beside(&mut self, form: Form, slice: ColumnSlice<'_>, bytes: &[u8])
         requires slots { IsSlice slice }
         requires bits { AreMarked slice.array.now.raw bytes.now }
         ensures { Counts form (values_in slice.entry) self.old self.new }
     {
-        let Slice { start, stop, .. } = slice;
+        let ColumnSlice { start, stop, .. } = slice;
         match reach(form, slice) {
             Some(len) => self.add_marked(BitRange { bytes, start, stop }, len),
             None => self.add_runs(form, slice),
         }
     }
 
-    // Counts the slots.
-    pub(crate) fn add_slots(&mut self, form: Form, slice: Slice<'_>)
+    /// Counts the slots.
+    pub(crate) fn add_slots(&mut self, form: Form, slice: ColumnSlice<'_>)
         requires { IsSlice slice }
         ensures { Counts form (values_in slice.entry) self.old self.new }
     {
@@ -232,12 +234,12 @@ impl Tally {
     }
 }
 
-// The slots, counted; their node has this form.
-pub(crate) fn counted(form: Form, slice: Slice<'_>) -> Tally
+/// The slots, counted; their node has this form.
+pub(crate) fn counted(form: Form, slice: ColumnSlice<'_>) -> ByteTally
     requires { IsSlice slice }
     ensures { IsTally form (values_in slice.entry) result }
 {
-    let mut tally = Tally::new();
+    let mut tally = ByteTally::new();
     tally.add_slots(form, slice);
     tally
 }

@@ -1,4 +1,4 @@
-//! Children that are sent whole: all slots that they have, and no others.
+//! Children that are sent unsliced: exactly the slots that they have.
 
 ghost use Rattle.std.specs.Prelude.{◌≡◌, ◌↔◌, [], ◌∷◌, IfSome, IsTrue, length};
 ghost use Rattle.std.specs.List.{AllByRecursion};
@@ -6,19 +6,19 @@ ghost use Rattle.arrow_data.specs.Column.{Column};
 ghost use Rattle.arrow_data.specs.FullSlots.{AreFull};
 ghost use Rattle.arrow_body_writer.specs.Whole.{AreSentWhole};
 
-use crate::slice::Slice;
+use crate::slice::ColumnSlice;
 use crate::slots::items;
 use arrow_data::Array;
 use arrow_data::form::form_of;
 
-// Whether no slot is null.
+/// Whether no slot is null.
 pub(crate) fn is_full(array: &Array) -> bool
     ensures { IsTrue result ↔ AreFull array.now 0 (length array.now.raw) }
 {
     array.first_null(0, array.len()) == array.len()
 }
 
-// Whether each of the arrays has just so many slots.
+/// Whether each of the arrays has exactly `len` slots.
 fn are_as_long(arrays: &[Array], len: usize) -> bool
     ensures { IsTrue result ↔ AllByRecursion (λ (c : Column). length c.raw ≡ len) arrays.now }
 {
@@ -30,8 +30,8 @@ fn are_as_long(arrays: &[Array], len: usize) -> bool
     true
 }
 
-// The child of lists of which none is null, where their items are all slots of it (Columnar Format,
-// "Variable-size List Layout", "Fixed-Size List Layout").
+/// The child of lists without nulls, if their items are all slots of it (Columnar Format,
+/// "Variable-size List Layout", "Fixed-Size List Layout").
 fn whole_items(array: &Array) -> Option<&Array>
     ensures { IfSome result (λ child. AreSentWhole array.now (child.now ∷ [])) }
 {
@@ -41,15 +41,15 @@ fn whole_items(array: &Array) -> Option<&Array>
         return None;
     }
     let (start, stop) = (0, array.len());
-    match items(Slice { array, start, stop }) {
+    match items(ColumnSlice { array, start, stop }) {
         Some(all) if all.start == 0 && all.stop == all.array.len() => Some(all.array),
         None if count == 0 => Some(own),
         Some(_) | None => None,
     }
 }
 
-// The children of structs of which none is null, where they have no more slots than there are
-// structs (Columnar Format, "Struct Layout").
+/// The children of structs without nulls, if they have no more slots than there are structs
+/// (Columnar Format, "Struct Layout").
 fn whole_fields(array: &Array) -> Option<&[Array]>
     ensures { IfSome result (λ children. AreSentWhole array.now children.now) }
 {
@@ -61,8 +61,8 @@ fn whole_fields(array: &Array) -> Option<&[Array]>
     }
 }
 
-// Whether nothing stands below the column: below one of indices (its children come with the
-// dictionary), and below a type without children.
+/// Whether there is no column below this one: none is below a column of indices (its children come
+/// with the dictionary), nor below a type without children.
 fn is_leaf(array: &Array) -> bool
     ensures { IsTrue result → AreSentWhole array.now [] }
 {
@@ -70,8 +70,8 @@ fn is_leaf(array: &Array) -> bool
     array.encoding().is_some() || form.is_leaf()
 }
 
-// The children of lists or structs, where each is sent just its own slots: so it can be laid out as
-// a column by itself. A column with an encoding or of another type has none.
+/// The children of lists or structs, if each is sent exactly its own slots, so that it can be
+/// stored as a column by itself. A column with an encoding or of another type has none.
 pub(crate) fn whole_below(array: &Array) -> Option<&[Array]>
     ensures { IfSome result (λ children. AreSentWhole array.now children.now) }
 {

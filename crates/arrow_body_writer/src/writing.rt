@@ -1,4 +1,4 @@
-//! A buffer on its way into the body, slot by slot.
+//! A buffer under construction in the body, slot by slot.
 
 ghost use Rattle.std.specs.Prelude.{◌≡◌, ◌<◌, ◌≤◌, ◌+◌, ◌++◌, [], ◌∷◌, List, ℕ, IfOk, IsFalse, IsTrue, OnOk};
 ghost use Rattle.std.specs.Prelude.{length, replicate};
@@ -9,34 +9,35 @@ ghost use Rattle.arrow_data.specs.Form.{greatest_offset, offset_bytes};
 ghost use Rattle.arrow_data.specs.PlainValue.{PlainValue, null_value, value_at};
 ghost use Rattle.arrow_body_laws.specs.Raws.{fixed_in};
 ghost use Rattle.arrow_body_writer.specs.Marks.{AreMasked, IsBitRange};
-ghost use Rattle.arrow_body_writer.specs.Part.{AreOffsetsTo, HasNextOffset, HasRoom, IsTold};
+ghost use Rattle.arrow_body_writer.specs.Part.{AreOffsetsTo, HasNextOffset, HasRoom, IsRepresentable};
 ghost use Rattle.arrow_body_writer.specs.Part.{IsWritten, Puts, part_bytes};
 ghost use Rattle.arrow_body_writer.specs.Runs.{IsPiece, IsThere};
 ghost use Rattle.arrow_body_writer.specs.Slice.{IsFull, IsSlice, values_in};
 ghost use Rattle.arrow_body_writer.specs.Spans.{AreSpans, AreThere};
 
 use crate::bitmap::bitmap;
-use crate::masked::{Masked, numbers_of, values_of};
-use crate::packing::{BitRange, Pending};
-use crate::part::Part;
-use crate::pieces::{Piece, pieces, spanned};
-use crate::slice::Slice;
+use crate::masked::{NullMasked, numbers_of, values_of};
+use crate::packing::{BitPacker, BitRange};
+use crate::part::BufferKind;
+use crate::pieces::{SlotRun, pieces, spanned};
+use crate::slice::ColumnSlice;
 use crate::slots::{put_number, put_string, span, string, truth};
-use crate::spans::Spans;
+use crate::spans::OffsetRun;
 use arrow_bits::put_int;
 use arrow_data::Array;
 use arrow_data::form::OffsetWidth;
 use std::alloc::AllocError;
 
-// The bytes so far; of a buffer of bits those of its last byte, of a buffer of offsets the last.
+/// The bytes so far; for a buffer of bits the bits of its last byte, for a buffer of offsets the
+/// last offset.
 #[derive(Drop)]
 pub(crate) struct Writing {
     pub(crate) out: Vec<u8>,
-    pub(crate) pending: Pending,
+    pub(crate) pending: BitPacker,
     pub(crate) end: u64,
 }
 
-// Appends zero bytes.
+/// Appends zero bytes.
 pub(crate) fn put_zeros(out: &mut Vec<u8>, count: u32) -> Result<(), AllocError>
     ensures { OnOk result (out.new.items ≡ out.old.items ++ replicate count 0) }
 {
@@ -44,14 +45,14 @@ pub(crate) fn put_zeros(out: &mut Vec<u8>, count: u32) -> Result<(), AllocError>
     out.resize(end, 0)
 }
 
-// Appends bytes.
+/// Appends bytes.
 fn put_bytes(out: &mut Vec<u8>, bytes: &[u8]) -> Result<(), AllocError>
     ensures { OnOk result (out.new.items ≡ out.old.items ++ bytes.now) }
 {
     out.extend_from_slice(bytes)
 }
 
-// Appends the bytes of the slot's byte string, which is of this width, zero bytes under a null.
+/// Appends the bytes of the slot's byte string, which is of this width, zero bytes under a null.
 pub(crate) fn put_fixed(
     out: &mut Vec<u8>,
     width: u32,
@@ -68,7 +69,8 @@ pub(crate) fn put_fixed(
     }
 }
 
-// What is kept of offsets at the next end, so many on.
+/// The end that is kept after the next offset: `end` plus `len`, capped at the greatest offset of
+/// the width.
 fn next_end(width: OffsetWidth, end: u64, len: usize) -> u64
     ensures known { result ≤ greatest_offset width }
     ensures same { end + len ≤ greatest_offset width → result ≡ end + len }
@@ -78,7 +80,7 @@ fn next_end(width: OffsetWidth, end: u64, len: usize) -> u64
     if next < greatest { next } else { greatest }
 }
 
-// Appends an offset.
+/// Appends an offset.
 fn put_offset(out: &mut Vec<u8>, width: OffsetWidth, offset: u64) -> Result<(), AllocError>
     requires { offset ≤ greatest_offset width }
     ensures { OnOk result (out.new.items
@@ -88,21 +90,21 @@ fn put_offset(out: &mut Vec<u8>, width: OffsetWidth, offset: u64) -> Result<(), 
 }
 
 impl Writing {
-    // Begins the buffer after what stands there: of offsets the first is 0.
-    pub(crate) fn begin(&mut self, part: Part) -> Result<(), AllocError>
+    /// Begins the buffer after the existing bytes: the first of the offsets is 0.
+    pub(crate) fn begin(&mut self, part: BufferKind) -> Result<(), AllocError>
         ensures { OnOk result (IsWritten part self.old.out.items [] self.new) }
     {
-        self.pending = Pending::new();
+        self.pending = BitPacker::new();
         self.end = 0;
         match part {
-            Part::StringOffsets(width) | Part::ListOffsets(width) => {
+            BufferKind::StringOffsets(width) | BufferKind::ListOffsets(width) => {
                 put_offset(&mut self.out, width, 0)
             }
             _ => Ok(()),
         }
     }
 
-    // Appends the next offset, so many on.
+    /// Appends the next offset, the last one plus `len`.
     fn put_end(&mut self, width: OffsetWidth, len: usize) -> Result<(), AllocError>
         ensures { OnOk result (HasNextOffset width len self.old self.new) }
     {
@@ -110,50 +112,57 @@ impl Writing {
         put_offset(&mut self.out, width, self.end)
     }
 
-    // Adds what the slot is in the buffer.
-    pub(crate) fn put(&mut self, part: Part, array: &Array, i: usize) -> Result<(), AllocError>
+    /// Adds the contents of the buffer for the slot.
+    pub(crate) fn put(
+        &mut self,
+        part: BufferKind,
+        array: &Array,
+        i: usize,
+    ) -> Result<(), AllocError>
         requires inside { i < length array.now.raw }
         requires room { HasRoom part (value_at array.now.raw i) }
         ensures { OnOk result (Puts part (value_at array.now.raw i ∷ []) self.old self.new) }
     {
         match part {
-            Part::Validity => self.pending.push(&mut self.out, !array.is_null(i)),
-            Part::Truths => self.pending.push(&mut self.out, truth(array, i)),
-            Part::Numbers(form) => put_number(&mut self.out, form.width(), array, i),
-            Part::StringOffsets(width) => self.put_end(width, string(array, i).len()),
-            Part::ListOffsets(width) => self.put_end(width, span(array, i)),
-            Part::Strings => put_string(&mut self.out, array, i),
-            Part::FixedBytes(width) => put_fixed(&mut self.out, width, array, i),
+            BufferKind::Validity => self.pending.push(&mut self.out, !array.is_null(i)),
+            BufferKind::Truths => self.pending.push(&mut self.out, truth(array, i)),
+            BufferKind::Numbers(form) => put_number(&mut self.out, form.width(), array, i),
+            BufferKind::StringOffsets(width) => self.put_end(width, string(array, i).len()),
+            BufferKind::ListOffsets(width) => self.put_end(width, span(array, i)),
+            BufferKind::Strings => put_string(&mut self.out, array, i),
+            BufferKind::FixedBytes(width) => put_fixed(&mut self.out, width, array, i),
         }
     }
 
-    // Adds what a null is in the buffer.
-    pub(crate) fn put_null(&mut self, part: Part) -> Result<(), AllocError>
+    /// Adds the contents of the buffer for a null.
+    pub(crate) fn put_null(&mut self, part: BufferKind) -> Result<(), AllocError>
         ensures { OnOk result (Puts part (null_value ∷ []) self.old self.new) }
     {
         match part {
-            Part::Validity | Part::Truths => self.pending.push(&mut self.out, false),
-            Part::Numbers(form) => put_int(&mut self.out, form.width(), 0),
-            Part::StringOffsets(width) | Part::ListOffsets(width) => self.put_end(width, 0),
-            Part::Strings => Ok(()),
-            Part::FixedBytes(width) => put_zeros(&mut self.out, width),
+            BufferKind::Validity | BufferKind::Truths => self.pending.push(&mut self.out, false),
+            BufferKind::Numbers(form) => put_int(&mut self.out, form.width(), 0),
+            BufferKind::StringOffsets(width) | BufferKind::ListOffsets(width) => self.put_end(
+                width, 0,
+            ),
+            BufferKind::Strings => Ok(()),
+            BufferKind::FixedBytes(width) => put_zeros(&mut self.out, width),
         }
     }
 
-    // Ends the buffer: of bits the last byte is appended.
-    pub(crate) fn finish(&mut self, part: Part) -> Result<(), AllocError>
+    /// Ends the buffer: the last byte of a buffer of bits is appended.
+    pub(crate) fn finish(&mut self, part: BufferKind) -> Result<(), AllocError>
         ensures { OnOk result ((before : List ℕ) (vs : List PlainValue)
-            → IsWritten part before vs self.old → IsTold part vs
+            → IsWritten part before vs self.old → IsRepresentable part vs
             → self.new.out.items ≡ before ++ part_bytes part vs) }
     {
         match part {
-            Part::Validity | Part::Truths => self.pending.finish(&mut self.out),
+            BufferKind::Validity | BufferKind::Truths => self.pending.finish(&mut self.out),
             _ => Ok(()),
         }
     }
 
-    // Adds the offsets after slots, each as far on from the one before it as where they lie.
-    fn put_spans(&mut self, spans: Spans<'_>) -> Result<(), AllocError>
+    /// Adds the offsets after slots, with the same differences as in the array.
+    fn put_spans(&mut self, spans: OffsetRun<'_>) -> Result<(), AllocError>
         requires { AreThere spans }
         ensures { OnOk result ((long : PlainValue → ℕ) (raw : List PlainValue)
             → AreSpans spans.entry long raw → (before : List ℕ) (vs : List PlainValue)
@@ -166,20 +175,20 @@ impl Writing {
         Ok(())
     }
 
-    // Adds what slots with these values are in the buffer, all at once.
-    fn put_piece(&mut self, part: Part, piece: Piece<'_>) -> Result<(), AllocError>
+    /// Adds the contents of the buffer for slots with these values, all at once.
+    fn put_piece(&mut self, part: BufferKind, piece: SlotRun<'_>) -> Result<(), AllocError>
         requires { IsThere piece }
         ensures { OnOk result ((values : List PlainValue) → IsPiece part values piece.entry
             → Puts part values self.old self.new) }
     {
         match piece {
-            Piece::Bytes(bytes) => put_bytes(&mut self.out, bytes),
-            Piece::Offsets(spans) => self.put_spans(spans),
+            SlotRun::Bytes(bytes) => put_bytes(&mut self.out, bytes),
+            SlotRun::Offsets(spans) => self.put_spans(spans),
         }
     }
 
-    // Adds what the slots are in the buffer, one by one.
-    fn put_each(&mut self, part: Part, slice: Slice<'_>) -> Result<(), AllocError>
+    /// Adds the contents of the buffer for the slots, one by one.
+    fn put_each(&mut self, part: BufferKind, slice: ColumnSlice<'_>) -> Result<(), AllocError>
         requires slots { IsSlice slice }
         requires room { AllByRecursion (HasRoom part) (values_in slice) }
         ensures { OnOk result (Puts part (values_in slice.entry) self.old self.new) }
@@ -190,9 +199,9 @@ impl Writing {
         Ok(())
     }
 
-    // Adds what the slots are in the buffer, of which none is null: they are copied where they lie
-    // as they are to be written.
-    fn put_full(&mut self, part: Part, slice: Slice<'_>) -> Result<(), AllocError>
+    /// Adds the contents of the buffer for the slots, of which none is null: they are copied if the
+    /// array stores them as they are to be written.
+    fn put_full(&mut self, part: BufferKind, slice: ColumnSlice<'_>) -> Result<(), AllocError>
         requires slots { IsSlice slice }
         requires full { IsFull slice }
         requires room { AllByRecursion (HasRoom part) (values_in slice) }
@@ -204,9 +213,9 @@ impl Writing {
         }
     }
 
-    // Adds what the slots up to the first null and that one are in the buffer, and tells where the
-    // next one is.
-    fn put_run(&mut self, part: Part, slice: Slice<'_>) -> Result<usize, AllocError>
+    /// Adds the contents of the buffer for the slots up to the first null, including that one, and
+    /// returns the index of the next one.
+    fn put_run(&mut self, part: BufferKind, slice: ColumnSlice<'_>) -> Result<usize, AllocError>
         requires slots { IsSlice slice }
         requires some { slice.start < slice.stop }
         requires room { AllByRecursion (HasRoom part) (values_in slice) }
@@ -214,9 +223,9 @@ impl Writing {
         ensures written { IfOk result (λ next. Puts part
             (values_from slice.entry.array.now.raw slice.entry.start next) self.old self.new) }
     {
-        let Slice { array, start, stop } = slice;
+        let ColumnSlice { array, start, stop } = slice;
         let end = array.first_null(start, stop);
-        let full = Slice {
+        let full = ColumnSlice {
             array,
             start,
             stop: end,
@@ -230,11 +239,11 @@ impl Writing {
         }
     }
 
-    // Adds what slots of the array are in the buffer of which those are null whose bit is 0: the bits
-    // themselves, or numbers. Tells whether it did; other buffers stay as they are.
+    /// Adds the contents of the buffer for slots of the array, where the slots whose bit is 0 are
+    /// null: the bits themselves, or numbers. Returns whether it did; other buffers are unchanged.
     pub(crate) fn put_masked(
         &mut self,
-        part: Part,
+        part: BufferKind,
         array: &Array,
         bits: BitRange<'_>,
     ) -> Result<bool, AllocError>
@@ -247,13 +256,13 @@ impl Writing {
     {
         let BitRange { bytes, start, stop } = bits;
         match part {
-            Part::Validity => self.pending.push_range(&mut self.out, bits)?,
-            Part::Numbers(form) => {
+            BufferKind::Validity => self.pending.push_range(&mut self.out, bits)?,
+            BufferKind::Numbers(form) => {
                 let width = form.width();
                 let Some(values) = values_of(array, width) else {
                     return Ok(false);
                 };
-                let numbers = Masked {
+                let numbers = NullMasked {
                     width,
                     values,
                     bits: bytes,
@@ -265,37 +274,41 @@ impl Writing {
         Ok(true)
     }
 
-    // Adds what the slots are in the buffer. Where they have a bitmap its bits are copied, and of
-    // numbers all bytes, in which those of nulls are cleared. Offsets and the bytes between them are
-    // copied where nothing lies under a null. All else is added run by run.
-    pub(crate) fn put_slots(&mut self, part: Part, slice: Slice<'_>) -> Result<(), AllocError>
+    /// Adds the contents of the buffer for the slots. If they have a bitmap, its bits are copied,
+    /// and all bytes of numbers are copied, with those of nulls cleared. Offsets and the bytes
+    /// between them are copied if nothing lies under a null. Everything else is added run by run.
+    pub(crate) fn put_slots(
+        &mut self,
+        part: BufferKind,
+        slice: ColumnSlice<'_>,
+    ) -> Result<(), AllocError>
         requires slots { IsSlice slice }
         requires room { AllByRecursion (HasRoom part) (values_in slice) }
         ensures { OnOk result (Puts part (values_in slice.entry) self.old self.new) }
     {
-        let Slice { array, start, stop } = slice;
+        let ColumnSlice { array, start, stop } = slice;
         match part {
-            Part::Validity => {
+            BufferKind::Validity => {
                 if let Some(bytes) = bitmap(array) {
                     let bits = BitRange { bytes, start, stop };
                     return self.pending.push_range(&mut self.out, bits);
                 }
             }
-            Part::Numbers(form) => {
+            BufferKind::Numbers(form) => {
                 if let Some(numbers) = numbers_of(array, form.width()) {
                     return numbers.put(&mut self.out, start, stop);
                 }
             }
-            Part::StringOffsets(_) | Part::ListOffsets(_) | Part::Strings => {
+            BufferKind::StringOffsets(_) | BufferKind::ListOffsets(_) | BufferKind::Strings => {
                 if let Some(piece) = spanned(part, slice) {
                     return self.put_piece(part, piece);
                 }
             }
-            Part::Truths | Part::FixedBytes(_) => {}
+            BufferKind::Truths | BufferKind::FixedBytes(_) => {}
         }
         let mut i = start;
         while i < stop {
-            let rest = Slice {
+            let rest = ColumnSlice {
                 array,
                 start: i,
                 stop,

@@ -4,8 +4,8 @@ use Rattle.std.specs.Prelude.{⊤, is_some, IsUtf8}
 use Rattle.std.specs.List.{AllByRecursion, range_with_len}
 use Rattle.std.proofs.lemmas.Bool.{false≢true, or_parts}
 use Rattle.std.proofs.lemmas.List.{length-map, map-append, take-take}
-use Rattle.arrow_types.specs.DataType.{Tag}
-use Rattle.arrow_types.specs.Field.{Fields, FieldShape, Head, none, more, levels}
+use Rattle.arrow_types.specs.DataType.{TypeId}
+use Rattle.arrow_types.specs.Field.{FieldTree, FieldShape, FieldHeader, none, more, levels}
 use Rattle.arrow_types.specs.Schema.{DictionaryField, dictionary_fields, dictionary_of, field_dictionaries, has_encoding}
 use Rattle.arrow_types.specs.View.{field_view, type_view}
 use Rattle.arrow_types.specs.declared.field.Encoding.{Encoding}
@@ -47,7 +47,7 @@ field_type f = search (rules, the_lemmas)
 pub field_encoding : (f : Field) → f.dictionary ≡ (field_view f).head.encoding
 field_encoding f = search (rules, the_lemmas)
 
--- how many slots of each child the first `len` slots of a node show
+-- how many slots of each child the first `len` slots of a node cover
 abbrev pub Shows : Form → ℕ → ℕ → List (List ℕ) → Type 0
 Shows forms.Nulls n len b = ⊤
 Shows forms.Bits n len b = ⊤
@@ -69,17 +69,17 @@ shows_by (forms.FixedBytes width) n len most b raw counts le long shown = tt
 shows_by (forms.Lists list) n len most b raw counts le long shown = shown 0 ∙ sym (counts len le)
 shows_by forms.Structs n len most b raw counts le long shown = grind (arith, shown 0, length-map, length-take, le, long)
 
--- a node shows these slots of its children
+-- a node covers that many slots of its children
 node_shows : (a : Inside) (len n : ℕ) → IsNode a → len ≤ a.len → ((k : ℕ) → n ≡ length (child_column (field_form (field_view a.field)) k (take len (built_of a).raw)))
     → Shows (field_form (field_view a.field)) n len (buffers_in a.buffers)
 node_shows a len n ok le shown = shows_by (field_form (field_view a.field)) n len a.len (buffers_in a.buffers) (built_of a).raw ok.counted le (length_slots a.len (slot_in a)) shown
 
--- columns that are cut have as many slots
+-- cutting the columns to n slots leaves each with n slots
 counts_cut : (n : ℕ) (bs : List Built) → HaveSlots n bs → counts_in (map (cut_to n) bs) ≡ map (λ (b : Built). n) bs
 counts_cut n [] h = refl
 counts_cut n (b ∷ bs) h = let long : length (take n b.raw) ≡ n = grind (arith, length-take, h.0) in λ i. long i ∷ counts_cut n bs h.1 i
 
--- and are cut once
+-- cutting twice is the same as cutting once
 cut_all : (n : ℕ) (bs : List Built) → map (cut_to n) (map (cut_to n) bs) ≡ map (cut_to n) bs
 cut_all n [] = refl
 cut_all n (b ∷ bs) = λ i. cut_twice n b i ∷ cut_all n bs i
@@ -88,7 +88,7 @@ fields_cut : (n : ℕ) (bs : List Built) → fields_in (map (cut_to n) bs) ≡ f
 fields_cut n [] = refl
 fields_cut n (b ∷ bs) = ap (more b.field.head b.field.children) (fields_cut n bs)
 
--- what the first slots keep where the children have as many slots as these show
+-- what the first slots keep if the children have exactly as many slots as these cover
 all_long : (len n : ℕ) (bs : List Built) → n ≡ len → AllByRecursion (λ count. len ≤ count) (map (λ (b : Built). n) bs)
 all_long len n [] same = tt
 all_long len n (b ∷ bs) same = (omega (arith, same), all_long len n bs same)
@@ -102,7 +102,7 @@ one_count : (list : ListForm) (len n : ℕ) (validity offsets : List ℕ) (bs : 
 one_count list len n validity offsets [] kept one shows = absurd (omega (arith, one))
 one_count list len n validity offsets (c ∷ bs) kept one shows = shown_count list len (length c.raw) n validity offsets kept shows
 
--- there is a child of lists
+-- lists have a child
 abbrev HasChild : Form → List Built → Type 0
 HasChild forms.Nulls bs = ⊤
 HasChild forms.Bits bs = ⊤
@@ -113,7 +113,7 @@ HasChild (forms.FixedBytes width) bs = ⊤
 HasChild (forms.Lists list) bs = (c : Built) × (bs ≡ c ∷ [])
 HasChild forms.Structs bs = ⊤
 
-child_there : (form : Form) (tag : Tag) (e : Option Encoding) (fields : Fields) (bs : List Built) → node_form tag e ≡ form → HasFieldsOf (form_of tag) fields → AreBelow e fields bs → HasChild form bs
+child_there : (form : Form) (tag : TypeId) (e : Option Encoding) (fields : FieldTree) (bs : List Built) → node_form tag e ≡ form → HasFieldsOf (form_of tag) fields → AreBelow e fields bs → HasChild form bs
 child_there forms.Nulls tag e fields bs is own below = tt
 child_there forms.Bits tag e fields bs is own below = tt
 child_there (forms.Numbers number) tag e fields bs is own below = tt
@@ -134,7 +134,7 @@ keeps_shown (forms.FixedBytes width) len n b bs kept shows has = kept
 keeps_shown (forms.Lists list) len n b bs kept shows has = one_count list len n (buffer b 0) (list_offsets list b) bs kept (omega (arith, ap (λ cs. length cs) has.1)) shows
 keeps_shown forms.Structs len n b bs kept shows has = record { bits = kept.bits; longer = all_long len n bs shows }
 
--- the slots of a node are the same where its children are cut to what it shows
+-- the slots of a node are the same if its children are cut to the slots that it covers
 shown_stay : (form : Form) (len n : ℕ) (b : List (List ℕ)) (bs : List Built) → Keeps form len b (counts_in bs) → Shows form n len b → HasChild form bs
     → StaySlots len (value_slot form b (raws_in bs)) (value_slot form b (raws_in (map (cut_to n) bs)))
 shown_stay forms.Nulls len n b bs kept shows has = λ j h. refl
@@ -151,8 +151,8 @@ shown_stay (forms.Lists list) len n b bs kept shows has =
 shown_stay forms.Structs len n b bs kept shows has = λ j h.
     ap (λ row. or_null (buffer b 0) j (struct_value (values_of row))) (row_by_cut len j (map (cut_to n) bs) bs (subst (λ m. map (cut_to m) (map (cut_to n) bs) ≡ map (cut_to m) bs) shows (cut_all n bs)) h)
 
--- the texts of a node that fit it are texts
-texts_by : (form : Form) (fields : Fields) (len : ℕ) (b : List (List ℕ)) (children : List (List PlainValue)) → AllByRecursion (Fits form fields) (slots len (value_slot form b children)) → HoldsTexts form len b
+-- the texts of a node whose values fit it are valid texts
+texts_by : (form : Form) (fields : FieldTree) (len : ℕ) (b : List (List ℕ)) (children : List (List PlainValue)) → AllByRecursion (Fits form fields) (slots len (value_slot form b children)) → HoldsTexts form len b
 texts_by forms.Nulls fields len b children fit = tt
 texts_by forms.Bits fields len b children fit = tt
 texts_by (forms.Numbers number) fields len b children fit = tt
@@ -195,7 +195,7 @@ arrays_listed ds (b ∷ bs) [] are = absurd are
 arrays_listed ds (b ∷ bs) (c ∷ cs) are =
     (λ i. are.0.listed i ++ arrays_listed ds bs cs are.1 i) ∙ sym (map-append (dictionary_by ds) (field_dictionaries b.field) (dictionary_fields (fields_in bs)))
 
--- one array more
+-- one more array
 pub arrays_more : (ds : List (ℤ × ValueList)) (bs : List Built) (cs : List Column) (b : Built) (c : Column) → AreArraysOf ds bs cs → IsArrayOf ds b c → AreArraysOf ds (bs ++ b ∷ []) (cs ++ c ∷ [])
 arrays_more ds [] [] b c are is = (is, tt)
 arrays_more ds [] (x ∷ cs) b c are is = absurd are
@@ -210,12 +210,12 @@ cut_next n (b ∷ bs) (suc i) d h =
     let next : suc i + 1 ≡ suc (i + 1) = omega arith in
     ap (λ m. map (cut_to n) (take m (b ∷ bs))) next ∙ ap (λ cs. cut_to n b ∷ cs) (cut_next n bs i d (omega (arith, h)))
 
--- fields without an encoding on any level say nothing of dictionaries
-head_plain : (head : Head) (children : Fields) (e : Option Encoding) → head.encoding ≡ e → is_some e ≡ false → dictionary_of head children ≡ []
+-- fields without an encoding on any level have no dictionaries
+head_plain : (head : FieldHeader) (children : FieldTree) (e : Option Encoding) → head.encoding ≡ e → is_some e ≡ false → dictionary_of head children ≡ []
 head_plain head children None is h = rw is refl
 head_plain head children (Some e) is h = absurd (false≢true (sym h))
 
-none_listed : (fields : Fields) → has_encoding fields ≡ false → dictionary_fields fields ≡ []
+none_listed : (fields : FieldTree) → has_encoding fields ≡ false → dictionary_fields fields ≡ []
 none_listed none h = refl
 none_listed (more head children rest) h =
     let others = or_parts (is_some head.encoding || has_encoding children) (has_encoding rest) h in
@@ -229,7 +229,7 @@ encoded_says f e is flat = rw (is, none_listed f.children flat) refl
 plain_says : (f : FieldShape) → f.head.encoding ≡ None → field_dictionaries f ≡ dictionary_fields f.children
 plain_says f is = ap (λ ds. ds ++ dictionary_fields f.children) (head_plain f.head f.children None is refl)
 
--- what stands below a field, by its encoding
+-- the fields and columns below a field, by its encoding
 below_plain : (a : Inside) → IsNode a → (field_view a.field).head.encoding ≡ None → fields_in a.children.items ≡ (field_view a.field).children
 below_plain a ok is = subst (λ e. AreBelow e (field_view a.field).children a.children.items) is ok.below
 
@@ -241,7 +241,7 @@ places_each : (list : ListForm) (len : ℕ) (offsets : List ℕ) → item_places
 places_each (lists.Offsets width) len offsets = refl
 places_each (lists.Fixed size) len offsets = refl
 
--- its offsets are those that the lists give
+-- the offsets of a node are those that its lists determine
 offsets_made : (form : Form) (len most : ℕ) (b : List (List ℕ)) (raw : List PlainValue) → CountsItems form most b raw → len ≤ most → length raw ≡ most
     → node_offsets form len b ≡ item_offsets form (take len raw)
 offsets_made forms.Nulls len most b raw counts le long = refl
@@ -264,7 +264,7 @@ raws_shown : (cs : List Column) → map (λ (slots : List PlainValue × List Pla
 raws_shown [] = refl
 raws_shown (c ∷ cs) = ap (λ vs. c.raw ∷ vs) (raws_shown cs)
 
--- children that are cut to what is shown are the columns that the values give
+-- children that are cut to the covered slots are the columns that the values determine
 columns_made : (form : Form) (k n : ℕ) (raw : List PlainValue) (bs : List Built) → ((j : ℕ) → n ≡ length (child_column form j raw)) → AreHeld form k raw bs
     → raws_in (map (cut_to n) bs) ≡ child_columns form (fields_in bs) k raw
 columns_made form k n raw [] long held = refl
@@ -330,7 +330,7 @@ typed_by ds f (Some e) is typed =
     let own = (all_append (IsTyped ds) (dictionary_of f.head f.children) (dictionary_fields f.children)).0 typed in
     (subst (AllByRecursion (IsTyped ds)) (says f.head f.children e is) own.0).0
   where
-    says : (head : Head) (children : Fields) (e : Encoding) → head.encoding ≡ Some e → dictionary_of head children ≡ record { id = e.id; value_type = record { tag = head.tag; children = children } } ∷ []
+    says : (head : FieldHeader) (children : FieldTree) (e : Encoding) → head.encoding ≡ Some e → dictionary_of head children ≡ record { id = e.id; value_type = record { tag = head.tag; children = children } } ∷ []
     says head children e is = rw is refl
 
 pub node_typed : (ds : List (ℤ × ValueList)) (a : Inside) (values : Option ValueList) → AreTyped ds (field_view a.field) → values ≡ dictionary_for ds a.field.dictionary → IsOfType (type_view a.field.data_type) values
@@ -372,14 +372,14 @@ node_indices ds a len values le indexed found =
     subst (λ vs. HasIndices a.field.dictionary len (buffers_in a.buffers) (values_in vs)) (sym found)
     (subst (λ e. HasIndices e len (buffers_in a.buffers) (values_in (dictionary_for ds e))) (sym (field_encoding a.field)) (indices_by ds a len (field_view a.field).head.encoding refl le indexed))
 
--- the dictionaries of a node's children have their types
+-- the dictionaries of a node's children have the types of their fields
 below_typed : (ds : List (ℤ × ValueList)) (bs : List Built) → AllByRecursion (IsTyped ds) (dictionary_fields (fields_in bs)) → AllByRecursion (λ (b : Built). AreTyped ds b.field) bs
 below_typed ds [] h = tt
 below_typed ds (b ∷ bs) h =
     let both = (all_append (IsTyped ds) (field_dictionaries b.field) (dictionary_fields (fields_in bs))).0 h in
     (both.0, below_typed ds bs both.1)
 
-typed_below : (ds : List (ℤ × ValueList)) (fields : Fields) (e : Option Encoding) (bs : List Built) → AreBelow e fields bs → AllByRecursion (IsTyped ds) (dictionary_fields fields) → AllByRecursion (λ (b : Built). AreTyped ds b.field) bs
+typed_below : (ds : List (ℤ × ValueList)) (fields : FieldTree) (e : Option Encoding) (bs : List Built) → AreBelow e fields bs → AllByRecursion (IsTyped ds) (dictionary_fields fields) → AllByRecursion (λ (b : Built). AreTyped ds b.field) bs
 typed_below ds fields None bs below h = below_typed ds bs (subst (λ fs. AllByRecursion (IsTyped ds) (dictionary_fields fs)) (sym below) h)
 typed_below ds fields (Some e) bs below h = subst (AllByRecursion (λ (b : Built). AreTyped ds b.field)) (sym below.1) tt
 
@@ -388,15 +388,15 @@ children_typed ds a ok typed =
     let f = field_view a.field in
     typed_below ds f.children f.head.encoding a.children.items ok.below ((all_append (IsTyped ds) (dictionary_of f.head f.children) (dictionary_fields f.children)).0 typed).1
 
--- children stand below
-below_less : (bs : List Built) (fields : Fields) (e : Option Encoding) → AreBelow e fields bs → levels (fields_in bs) ≤ levels fields
+-- the children of a node are fewer levels deep
+below_less : (bs : List Built) (fields : FieldTree) (e : Option Encoding) → AreBelow e fields bs → levels (fields_in bs) ≤ levels fields
 below_less bs fields None below = omega (arith, ap levels below)
 below_less bs fields (Some e) below = omega (arith, ap (λ cs. levels (fields_in cs)) below.1)
 
 pub children_less : (a : Inside) → IsNode a → levels (fields_in a.children.items) ≤ built_size (built_of a)
 children_less a ok = below_less a.children.items (field_view a.field).children (field_view a.field).head.encoding ok.below
 
--- the listed dictionaries have the listed values
+-- the listed dictionaries have the values that are listed for their ids
 pub agrees : (ds : List (ℤ × ValueList)) (fields : List DictionaryField) → Agree (map (dictionary_by ds) fields) (values_by ds)
 agrees ds [] = tt
 agrees ds (d ∷ fields) = (refl, agrees ds fields)

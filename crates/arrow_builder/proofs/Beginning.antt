@@ -1,14 +1,14 @@
 -- Nodes without slots.
 use Rattle.std.proofs.Common.{◌≡◌, ℕ, zero, suc, ◌+◌, ◌<◌, ◌≤◌, Bool, true, false, List, [], ◌∷◌, length, map, get_or, refl, ap, sym, ◌∙◌, subst, arith, Option, None}
 use Rattle.std.specs.Prelude.{◌||◌, ◌&&◌, is_some}
-use Rattle.arrow_types.specs.Field.{Fields, more, levels}
+use Rattle.arrow_types.specs.Field.{FieldTree, more, levels}
 use Rattle.arrow_types.specs.Schema.{field_is_nested, has_encoding, is_nested}
 use Rattle.arrow_types.specs.View.{field_view, fields_view}
 use Rattle.arrow_types.specs.declared.field.Encoding.{Encoding}
 use Rattle.arrow_types.specs.declared.field.Field.{Field}
 use Rattle.arrow_builder.specs.Built.{Built, AreBelow, fields_in, no_values_of}
 
--- neither of two, and nothing behind them
+-- a disjunction of three that is false has three false parts
 neither : (a b c : Bool) → (a || b || c) ≡ false → (a ≡ false) × (b ≡ false) × (c ≡ false)
 neither false false false h = (refl, refl, refl)
 neither true b c h = absurd (cc)
@@ -35,6 +35,6 @@ fields_begun [] = refl
 fields_begun (f ∷ fields) = ap (more (field_view f).head (field_view f).children) (fields_begun fields)
 
 -- so they are below a field without an encoding
-pub below_begun : (e : Option Encoding) (children : Fields) (fields : List Field) (bs : List Built) → e ≡ None → fields_view fields ≡ children
+pub below_begun : (e : Option Encoding) (children : FieldTree) (fields : List Field) (bs : List Built) → e ≡ None → fields_view fields ≡ children
     → bs ≡ map (λ f. no_values_of (field_view f)) fields → AreBelow e children bs
 below_begun e children fields bs plain same built = subst (λ e. AreBelow e children bs) (sym plain) (ap fields_in built ∙ fields_begun fields ∙ same)

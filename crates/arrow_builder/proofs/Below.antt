@@ -1,8 +1,8 @@
--- What is true of the columns of all nodes.
+-- What holds of the columns of all nodes.
 use Rattle.std.proofs.Common.{◌≡◌, ◌↔◌, ℕ, zero, suc, ◌+◌, ◌*◌, ◌<◌, ◌≤◌, ℤ, Bool, true, false, List, [], ◌∷◌, length, map, take, Option, None, Some, if◌then◌else◌, refl, ap, sym, ◌∙◌, subst, arith, length-take}
 use Rattle.std.specs.List.{AllByRecursion, range_with_len}
-use Rattle.arrow_types.specs.DataType.{Tag}
-use Rattle.arrow_types.specs.Field.{Fields, Head, none, more}
+use Rattle.arrow_types.specs.DataType.{TypeId}
+use Rattle.arrow_types.specs.Field.{FieldTree, FieldHeader, none, more}
 use Rattle.arrow_types.specs.View.{field_view}
 use Rattle.arrow_types.specs.declared.field.Encoding.{Encoding}
 use Rattle.arrow_data.specs.Column.{ValueList}
@@ -28,8 +28,8 @@ use Rattle.arrow_builder.specs.declared.node.Node.TheInside.{Inside}
 use Rattle.arrow_builder.proofs.Growing.{keeps_fewer, take_slots}
 use Rattle.arrow_builder.proofs.Held.{column_of_none, held_take}
 
--- where all columns of children are empty, all is true that is true of empty ones
-empty_below : (P : Head → List PlainValue → Type 0) → ((h : Head) → P h []) → (form : Form) (fields : Fields) (k : ℕ) (raw : List PlainValue) → ((j : ℕ) → child_column form j raw ≡ [])
+-- if all columns of the children are empty, whatever holds of empty columns holds of all of them
+empty_below : (P : FieldHeader → List PlainValue → Type 0) → ((h : FieldHeader) → P h []) → (form : Form) (fields : FieldTree) (k : ℕ) (raw : List PlainValue) → ((j : ℕ) → child_column form j raw ≡ [])
     → AllBelow P form fields k raw
 empty_below P e form none k raw empty = tt
 empty_below P e form (more h c rest) k raw empty = (
@@ -38,8 +38,8 @@ empty_below P e form (more h c rest) k raw empty = (
   empty_below P e form rest (k + 1) raw empty,
 )
 
--- what is true of the children, cut to their columns, is true of the columns
-below_all : (P : Head → List PlainValue → Type 0) (form : Form) (k n : ℕ) (raw : List PlainValue) (bs : List Built) → ((j : ℕ) → n ≡ length (child_column form j raw)) → AreHeld form k raw bs
+-- what holds of the children, cut to their columns, holds of the columns
+below_all : (P : FieldHeader → List PlainValue → Type 0) (form : Form) (k n : ℕ) (raw : List PlainValue) (bs : List Built) → ((j : ℕ) → n ≡ length (child_column form j raw)) → AreHeld form k raw bs
     → AllByRecursion (λ (b : Built). AllNodes P b.field (take n b.raw)) bs ↔ AllBelow P form (fields_in bs) k raw
 below_all P form k n raw [] long held = (λ _. tt, λ _. tt)
 below_all P form k n raw (b ∷ bs) long held =
@@ -49,8 +49,8 @@ below_all P form k n raw (b ∷ bs) long held =
       (λ h. (subst (AllNodes P b.field) (sym own) (h.0, h.1), rest.1 h.2)),
     )
 
--- so of the children of every node
-children_all : (P : Head → List PlainValue → Type 0) → ((h : Head) → P h []) → (tag : Tag) (e : Option Encoding) (fields : Fields) (n : ℕ) (raw : List PlainValue) (bs : List Built)
+-- the same for the children of every node
+children_all : (P : FieldHeader → List PlainValue → Type 0) → ((h : FieldHeader) → P h []) → (tag : TypeId) (e : Option Encoding) (fields : FieldTree) (n : ℕ) (raw : List PlainValue) (bs : List Built)
     → ((j : ℕ) → n ≡ length (child_column (node_form tag e) j raw)) → AreBelow e fields bs → AreHeld (node_form tag e) 0 raw bs
     → AllByRecursion (λ (b : Built). AllNodes P b.field (take n b.raw)) bs ↔ AllBelow P (node_form tag e) fields 0 raw
 children_all P empty tag None fields n raw bs long below held =
@@ -60,11 +60,11 @@ children_all P empty tag (Some e) fields n raw bs long below held = (
   (λ _. subst (AllByRecursion (λ (b : Built). AllNodes P b.field (take n b.raw))) (sym below.1) tt),
 )
 
--- what begins with values is as long
+-- a list that begins with values is at least as long as they are
 begins_long : (p xs : List PlainValue) → Begins p xs → length p ≤ length xs
 begins_long p xs h = omega (arith, length-take (length p) xs, ap (λ vs. length vs) h)
 
--- children that begin with their columns have their slots
+-- children that begin with their columns have the slots of these
 held_long : (form : Form) (k n : ℕ) (raw : List PlainValue) (bs : List Built) → ((j : ℕ) → n ≡ length (child_column form j raw)) → AreHeld form k raw bs → HaveSlots n bs
 held_long form k n raw [] long held = tt
 held_long form k n raw (b ∷ bs) long held = (omega (arith, long k, begins_long (child_column form k raw) b.raw held.0), held_long form (k + 1) n raw bs long held.1)
@@ -81,7 +81,7 @@ entries_none : (ds : List (ℤ × ValueList)) (e : Option Encoding) → HaveEntr
 entries_none ds None = tt
 entries_none ds (Some e) = tt
 
--- the indices of a node and of what it shows of its children
+-- the indices of a node, and of the slots of its children that it covers
 pub node_indexed : (ds : List (ℤ × ValueList)) (a : Inside) (len n : ℕ) → IsNode a → ((k : ℕ) → n ≡ length (child_column (field_form (field_view a.field)) k (take len (built_of a).raw)))
     → AllByRecursion (λ (b : Built). AreIndexed ds (cut_to n b)) a.children.items ↔ AllBelow (IsIndexed ds) (field_form (field_view a.field)) (field_view a.field).children 0 (take len (built_of a).raw)
 node_indexed ds a len n ok long =
@@ -94,7 +94,7 @@ pub lists_kept : (a : Inside) (list : ListForm) (len : ℕ) → field_form (fiel
 lists_kept a list len form le ok =
     subst (λ f. Keeps f len (buffers_in a.buffers) (counts_in a.children.items)) form (keeps_fewer (field_form (field_view a.field)) len a.len (buffers_in a.buffers) (counts_in a.children.items) le ok.kept)
 
--- the first lists show as many items as lie before the place after them
+-- the first lists cover as many items as lie before the offset after them
 pub lists_shown : (a : Inside) (list : ListForm) (len : ℕ) → field_form (field_view a.field) ≡ forms.Lists list → len ≤ a.len → IsNode a
     → (k : ℕ) → item_place list (list_offsets list (buffers_in a.buffers)) len ≡ length (child_column (field_form (field_view a.field)) k (take len (built_of a).raw))
 lists_shown a list len form le ok k =

@@ -1,9 +1,9 @@
--- Values counted one after another, in a column and in those below it.
+-- Values counted one after another, in a column and in the columns below it.
 use Rattle.std.proofs.Common.{◌≡◌, ℕ, zero, suc, ◌+◌, ◌*◌, ◌<◌, ◌≤◌, Bool, true, false, List, [], ◌∷◌, ◌++◌, length, take, drop, get_or, map, replicate, set, refl, ap, sym, ◌∙◌, subst, arith, length-append, None, Some}
 use denote.Param.Weighed.{most}
 use Rattle.std.proofs.lemmas.Bool.{false≢true}
 use Rattle.std.proofs.lemmas.List.{append-nil, append_assoc, length-replicate, replicate-append-replicate, take-append-drop}
-use Rattle.arrow_types.specs.Field.{Fields, FieldShape, fields_of, none, more}
+use Rattle.arrow_types.specs.Field.{FieldTree, FieldShape, fields_of, none, more}
 use Rattle.arrow_data.specs.Form.{node_form}
 use Rattle.arrow_data.specs.PlainValue.{PlainValue, field_value, null_value}
 use Rattle.arrow_data.specs.Value.{value_view, values_view}
@@ -31,7 +31,7 @@ adds_none t = record {
   past = λ no. absurd (false≢true (sym no));
 }
 
--- some values, and more behind them
+-- some values, and more after them
 pub adds_then : (xs ys : List PlainValue) (a b c : Tally) (within : Bool) → Adds xs a b true → Adds ys b c within → Adds (xs ++ ys) a c within
 adds_then xs ys a b c within ab bc = record {
   depth = omega (arith, ab.depth, bc.depth);
@@ -40,7 +40,7 @@ adds_then xs ys a b c within ab bc = record {
   past = λ no field raw h w. bc.past no field (raw ++ xs) (ab.next refl field raw h) (subst (AllNodes IsShortNode field) (sym (append_assoc raw xs ys)) w);
 }
 
--- where some of them are too many, all are
+-- if some of the values are too many, all of them are
 pub adds_past : (xs ys : List PlainValue) (a b : Tally) → Adds xs a b false → Adds (xs ++ ys) a b false
 adds_past xs ys a b h = record {
   depth = h.depth;
@@ -49,8 +49,8 @@ adds_past xs ys a b h = record {
   past = λ _ field raw c w. h.past refl field raw c (nodes_front field (raw ++ xs) ys (subst (AllNodes IsShortNode field) (sym (append_assoc raw xs ys)) w));
 }
 
--- columns that are counted pass no limit
-below_within : (next : Bool) (form : Form) (fields : Fields) (k : ℕ) (raw : List PlainValue) (ts : List Tally) → AreCounted next form fields k raw ts → AllBelow IsShortNode form fields k raw
+-- columns that are counted exceed no limit
+below_within : (next : Bool) (form : Form) (fields : FieldTree) (k : ℕ) (raw : List PlainValue) (ts : List Tally) → AreCounted next form fields k raw ts → AllBelow IsShortNode form fields k raw
 below_within next form none k raw ts h = tt
 below_within next form (more head children rest) k raw [] h = absurd h
 below_within next form (more head children rest) k raw (t ∷ ts) h = (
@@ -62,28 +62,28 @@ below_within next form (more head children rest) k raw (t ∷ ts) h = (
 pub counted_within : (next : Bool) (field : FieldShape) (raw : List PlainValue) (t : Tally) → IsCounted next field raw t → AllNodes IsShortNode field raw
 counted_within next field raw t h = (h.own.short, below_within next (field_form field) field.children 0 raw (out-Tally t).below.items h.below)
 
--- the first n tallies became others in this way, that of child k first, and the others are as they were
+-- the first n tallies became others in this way, beginning with that of child k, and the others are unchanged
 abbrev pub UpTo : (ℕ → Tally → Tally → Type 0) → ℕ → ℕ → List Tally → List Tally → Type 0
 UpTo R zero k os ns = ns ≡ os
 UpTo R (suc n) k [] ns = ns ≡ []
 UpTo R (suc n) k (o ∷ os) [] = ⊥
 UpTo R (suc n) k (o ∷ os) (t ∷ ns) = R k o t × UpTo R n (k + 1) os ns
 
--- they are as many
+-- there are as many tallies as before
 pub up_to_length : (R : ℕ → Tally → Tally → Type 0) (n k : ℕ) (os ns : List Tally) → UpTo R n k os ns → length ns ≡ length os
 up_to_length R zero k os ns h = ap (λ ts. length ts) h
 up_to_length R (suc n) k [] ns h = ap (λ ts. length ts) h
 up_to_length R (suc n) k (o ∷ os) [] h = absurd h
 up_to_length R (suc n) k (o ∷ os) (t ∷ ns) h = ap suc (up_to_length R n (k + 1) os ns h.1)
 
--- the next one is as it was
+-- the next tally is unchanged
 pub up_to_next : (R : ℕ → Tally → Tally → Type 0) (n k : ℕ) (os ns : List Tally) (d : Tally) → UpTo R n k os ns → get_or ns n d ≡ get_or os n d
 up_to_next R zero k os ns d h = ap (λ ts. get_or ts 0 d) h
 up_to_next R (suc n) k [] ns d h = ap (λ ts. get_or ts (suc n) d) h
 up_to_next R (suc n) k (o ∷ os) [] d h = absurd h
 up_to_next R (suc n) k (o ∷ os) (t ∷ ns) d h = up_to_next R n (k + 1) os ns d h.1
 
--- then it becomes another one too
+-- after it one more tally has changed
 pub up_to_more : (R : ℕ → Tally → Tally → Type 0) (n k : ℕ) (os ns : List Tally) (d x : Tally) → UpTo R n k os ns → n < length os → R (k + n) (get_or os n d) x
     → UpTo R (suc n) k os (set ns n x)
 up_to_more R zero k [] ns d x h less r = absurd (omega (arith, less))
@@ -95,12 +95,12 @@ up_to_more R (suc n) k (o ∷ os) (t ∷ ns) d x h less r =
     let there : k + suc n ≡ k + 1 + n = omega arith in
     (h.0, up_to_more R n (k + 1) os ns d x h.1 (omega (arith, less)) (subst (λ j. R j (get_or os n d) x) there r))
 
--- what values of the parent give to child k was counted
+-- the values of child k that come from values of the parent were counted
 abbrev pub Gives : Form → List PlainValue → Bool → ℕ → Tally → Tally → Type 0
 Gives form values within k old new = Adds (child_column form k values) old new within
 
--- where the first n were counted, and the next one is another, what is held stays
-pub held_so_far : (form : Form) (values : List PlainValue) (n k : ℕ) (os ns : List Tally) (f : Form) (fields : Fields) (j : ℕ) (raw : List PlainValue) → UpTo (Gives form values true) n k os ns
+-- if the first n children were counted, and the next tally is another one, the held totals are unchanged
+pub held_so_far : (form : Form) (values : List PlainValue) (n k : ℕ) (os ns : List Tally) (f : Form) (fields : FieldTree) (j : ℕ) (raw : List PlainValue) → UpTo (Gives form values true) n k os ns
     → AreCounted false f fields j raw os → AreCounted false f fields j raw ns
 held_so_far form values zero k os ns f fields j raw h c = subst (AreCounted false f fields j raw) (sym h) c
 held_so_far form values (suc n) k [] ns f fields j raw h c = subst (AreCounted false f fields j raw) (sym h) c
@@ -110,8 +110,8 @@ held_so_far form values (suc n) k (o ∷ os) (t ∷ ns) f (more head children re
     let own = h.0.held (record { head = head; children = children }) (child_column f j raw) (record { form = c.0; own = c.1; below = c.2 }) in
     (own.form, own.own, own.below, held_so_far form values n (k + 1) os ns f rest (j + 1) raw h.1 c.3)
 
--- also where the next one was counted, whether or not to the end
-pub held_broken : (form : Form) (values : List PlainValue) (n k : ℕ) (os ns : List Tally) (d x : Tally) (f : Form) (fields : Fields) (j : ℕ) (raw : List PlainValue) → UpTo (Gives form values true) n k os ns
+-- they are also unchanged if the next child was counted, whether or not to the end
+pub held_broken : (form : Form) (values : List PlainValue) (n k : ℕ) (os ns : List Tally) (d x : Tally) (f : Form) (fields : FieldTree) (j : ℕ) (raw : List PlainValue) → UpTo (Gives form values true) n k os ns
     → n < length os → Gives form values false (k + n) (get_or os n d) x → AreCounted false f fields j raw os → AreCounted false f fields j raw (set ns n x)
 held_broken form values zero k [] ns d x f fields j raw h less r c = absurd (omega (arith, less))
 held_broken form values zero k (o ∷ os) [] d x f fields j raw h less r c = absurd (cc)
@@ -127,8 +127,8 @@ held_broken form values (suc n) k (o ∷ os) (t ∷ ns) d x f (more head childre
     let own = h.0.held (record { head = head; children = children }) (child_column f j raw) (record { form = c.0; own = c.1; below = c.2 }) in
     (own.form, own.own, own.below, held_broken form values n (k + 1) os ns d x f rest (j + 1) raw h.1 (omega (arith, less)) (subst (λ m. Gives form values false m (get_or os n d) x) there r) c.3)
 
--- where all were counted, they are those of more values of the parent
-pub next_below : (form : Form) (values : List PlainValue) (n k : ℕ) (os ns : List Tally) (fields : Fields) (raw : List PlainValue) → UpTo (Gives form values true) n k os ns → length os ≤ n
+-- if all children were counted, their tallies are those of more values of the parent
+pub next_below : (form : Form) (values : List PlainValue) (n k : ℕ) (os ns : List Tally) (fields : FieldTree) (raw : List PlainValue) → UpTo (Gives form values true) n k os ns → length os ≤ n
     → AreCounted true form fields k raw os → AreCounted true form fields k (raw ++ values) ns
 next_below form values zero k [] [] none raw h less c = tt
 next_below form values zero k [] [] (more head children rest) raw h less c = absurd c
@@ -144,8 +144,8 @@ next_below form values (suc n) k (o ∷ os) (t ∷ ns) (more head children rest)
     let own = subst (λ xs. IsCounted true field xs t) (sym (column_append form k raw values)) (h.0.next refl field (child_column form k raw) (record { form = c.0; own = c.1; below = c.2 })) in
     (own.form, own.own, own.below, next_below form values n (k + 1) os ns rest raw h.1 (omega (arith, less)) c.3)
 
--- where one was not counted to the end, the parent's values are too many
-pub past_below : (form : Form) (values : List PlainValue) (n k : ℕ) (os : List Tally) (d x : Tally) (fields : Fields) (raw : List PlainValue) → n < length os
+-- if one child was not counted to the end, the parent's values are too many
+pub past_below : (form : Form) (values : List PlainValue) (n k : ℕ) (os : List Tally) (d x : Tally) (fields : FieldTree) (raw : List PlainValue) → n < length os
     → Gives form values false (k + n) (get_or os n d) x → AreCounted true form fields k raw os → AllBelow IsShortNode form fields k (raw ++ values) → ⊥
 past_below form values n k [] d x fields raw less r c w = omega (arith, less)
 past_below form values n k (o ∷ os) d x none raw less r c w = c
@@ -177,11 +177,11 @@ depth_broken form values (suc n) k (o ∷ os) (t ∷ ns) d x h less r =
     let there : k + suc n ≡ k + 1 + n = omega arith in
     omega (arith, h.0.depth, depth_broken form values n (k + 1) os ns d x h.1 (omega (arith, less)) (subst (λ m. Gives form values false m (get_or os n d) x) there r))
 
--- how deep a tally is by those below it
+-- the depth of a tally is one more than that of the deepest tally below it
 pub tally_depth : (t : Tally) → size-Tally t ≡ most size-Tally (out-Tally t).below.items + 1
 tally_depth t = omega (arith, size_is-Tally t)
 
--- the children are counted where all of them are
+-- the children are counted if each of them is
 pub all_given : (form : Form) (values : List PlainValue) (n : ℕ) (os ns : List Tally) → UpTo (Gives form values true) n 0 os ns → length os ≤ n → AddsBelow form values os ns true
 all_given form values n os ns h less = record {
   depth = depth_so_far form values n 0 os ns h;
@@ -190,7 +190,7 @@ all_given form values n os ns h less = record {
   past = λ no. absurd (false≢true (sym no));
 }
 
--- and not where one is not
+-- they are not if one of them is not
 pub one_past : (form : Form) (values : List PlainValue) (n : ℕ) (os ns : List Tally) (d x : Tally) → UpTo (Gives form values true) n 0 os ns → n < length os → Gives form values false n (get_or os n d) x
     → AddsBelow form values os (set ns n x) false
 one_past form values n os ns d x h less r =
@@ -202,8 +202,8 @@ one_past form values n os ns d x h less r =
       past = λ _ fields raw c w. past_below form values n 0 os d x fields raw less given c w;
     }
 
--- all totals of some tallies are settled where those of each are
-pub all_settled : (next : Bool) (n k : ℕ) (os ns : List Tally) (form : Form) (fields : Fields) (j : ℕ) (raw : List PlainValue) → UpTo (λ _. Settles next) n k os ns → length os ≤ n
+-- the totals of some tallies are all settled if those of each are
+pub all_settled : (next : Bool) (n k : ℕ) (os ns : List Tally) (form : Form) (fields : FieldTree) (j : ℕ) (raw : List PlainValue) → UpTo (λ _. Settles next) n k os ns → length os ≤ n
     → AreCounted next form fields j raw os → AreCounted false form fields j raw ns × AreCounted true form fields j raw ns
 all_settled next zero k [] [] form none j raw h less c = (tt, tt)
 all_settled next zero k [] [] form (more head children rest) j raw h less c = absurd c
@@ -219,7 +219,7 @@ all_settled next (suc n) k (o ∷ os) (t ∷ ns) form (more head children rest) 
     let others = all_settled next n (k + 1) os ns form rest (j + 1) raw h.1 (omega (arith, less)) c.3 in
     ((own.0.form, own.0.own, own.0.below, others.0), (own.1.form, own.1.own, own.1.below, others.1))
 
--- the tally of one more field without values
+-- one more tally, of a field without values
 pub nothing_more : (form : Form) (fields : List FieldShape) (field : FieldShape) (k : ℕ) (ts : List Tally) (t : Tally) → AreCounted false form (fields_of fields) k [] ts
     → IsCounted false field [] t → AreCounted false form (fields_of (fields ++ field ∷ [])) k [] (ts ++ t ∷ [])
 nothing_more form [] field k [] t c h =
@@ -229,7 +229,7 @@ nothing_more form [] field k (o ∷ os) t c h = absurd c
 nothing_more form (f ∷ fields) field k [] t c h = absurd c
 nothing_more form (f ∷ fields) field k (o ∷ os) t c h = (c.0, c.1, c.2, nothing_more form fields field (k + 1) os t c.3 h)
 
--- values were counted in a column, and what they give to those below it
+-- values were counted in a column, and what they contribute to the columns below it
 pub adds_value : (t new : Tally) (values : List PlainValue) (total : Total) (news : List Tally) (within : Bool) → Grows (out-Tally t).form values (out-Tally t).next (Some total)
     → AddsBelow (out-Tally t).form values (out-Tally t).below.items news within
     → (out-Tally new).form ≡ (out-Tally t).form → (out-Tally new).held ≡ (out-Tally t).held → (out-Tally new).next ≡ total → (out-Tally new).below.items ≡ news
@@ -281,7 +281,7 @@ adds_stopped xs i d a b c h some one =
     (adds_past (take i (values_view xs) ++ value_view (get_or xs i d) ∷ []) (drop (suc i) (values_view xs)) a c
     (adds_then (take i (values_view xs)) (value_view (get_or xs i d) ∷ []) a b c false some one))
 
--- what nulls of lists give to the child where offsets are stored
+-- what nulls of lists contribute to the child if offsets are stored
 pub offsets_of_nulls : (width : OffsetWidth) (count : ℕ) → all_items (lists.Offsets width) (replicate count null_value) ≡ []
 offsets_of_nulls width zero = refl
 offsets_of_nulls width (suc count) = offsets_of_nulls width count

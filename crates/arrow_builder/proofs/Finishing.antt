@@ -1,4 +1,4 @@
--- What buffers that are kept hold.
+-- What the kept buffers hold.
 use Rattle.std.proofs.Common.{ℕ, List}
 use Rattle.arrow_bits.proofs.Rising.{offsets_from_numbers}
 use Rattle.arrow_data.specs.Form.{offset_bytes}
@@ -20,7 +20,7 @@ has_lists : (list : ListForm) (len top : ℕ) (validity offsets : List ℕ) → 
 has_lists (lists.Offsets width) len top validity offsets kept = record { bits = λ _. kept.ranges.bits; rising = has_offsets width len top validity offsets kept }
 has_lists (lists.Fixed size) len top validity offsets kept = record { bits = λ _. kept.bits; rising = kept.inside }
 
--- what buffers keep they hold
+-- buffers hold what they keep
 pub keeps_holds : (form : Form) (len : ℕ) (b : List (List ℕ)) (counts : List ℕ) → Keeps form len b counts → HoldsSlots form len b counts
 keeps_holds forms.Nulls len b counts kept = tt
 keeps_holds forms.Bits len b counts kept = record { bits = λ _. kept.bits; long = kept.long }

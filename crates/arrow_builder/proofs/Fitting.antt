@@ -7,7 +7,7 @@ use Rattle.arrow_data.specs.PlainValue.{list_of_values, values_of}
 use Rattle.arrow_data.specs.Value.{values_view}
 use Rattle.arrow_data.specs.declared.value.Value.{Value}
 
--- a list has as many items as it has values
+-- a list has as many items as there are values in it
 pub items_long : (items : List Value) → length (list_of_values (values_of (values_view items))) ≡ length items
 items_long [] = refl
 items_long (item ∷ items) = ap suc (items_long items)

@@ -14,7 +14,7 @@ use Rattle.arrow_builder.specs.Kept.{Keeps, KeepsLists, KeepsParts, KeepsRanges}
 use Rattle.arrow_builder.specs.Puts.{PutsSlot, StaySlots}
 use Rattle.arrow_builder.proofs.Ranging.{place_below}
 
--- the first of the values from a place on
+-- the first of the values from an index on
 take_from : (f : ℕ → PlainValue) (a n at : ℕ) → at ≤ n → take at (map f (range_with_len a n)) ≡ map f (range_with_len a at)
 take_from f a n zero h = refl
 take_from f a zero (suc at) h = absurd (omega (arith, h))
@@ -24,30 +24,30 @@ take_from f a (suc n) (suc at) h = ap (λ vs. f a ∷ vs) (take_from f (a + 1) n
 pub take_slots : (f : ℕ → PlainValue) (n at : ℕ) → at ≤ n → take at (slots n f) ≡ slots at f
 take_slots f n at h = take_from f 0 n at h
 
--- the same values from a place on
+-- the same values from an index on
 pub same_from : {A : Type 0} (f g : ℕ → A) (a n : ℕ) → ((j : ℕ) → j < a + n → f j ≡ g j) → map f (range_with_len a n) ≡ map g (range_with_len a n)
 same_from f g a zero same = refl
 same_from f g a (suc n) same = (λ i. same a (omega arith) i ∷ same_from f g (a + 1) n (λ j h. same j (omega (arith, h))) i)
 
--- the values stay where the slots do
+-- the values are unchanged if the slots are
 pub slots_stay : (n : ℕ) (old new : ℕ → PlainValue) → StaySlots n old new → slots n new ≡ slots n old
 slots_stay n old new stay = same_from new old 0 n (λ j h. stay j (omega (arith, h)))
 
--- one more value from a place on
+-- one more value from an index on
 one_more_from : (f : ℕ → PlainValue) (a n : ℕ) → map f (range_with_len a (suc n)) ≡ map f (range_with_len a n) ++ f (a + n) ∷ []
 one_more_from f a zero = let here : a + 0 ≡ a = omega arith in ap (λ j. f j ∷ []) (sym here)
 one_more_from f a (suc n) =
     let there : a + 1 + n ≡ a + suc n = omega arith in
     ap (λ vs. f a ∷ vs) (one_more_from f (a + 1) n ∙ ap (λ j. map f (range_with_len (a + 1) n) ++ f j ∷ []) there)
 
--- a value is put behind the others where it is put into the slot behind theirs
+-- putting a value into the slot after the first n appends it to their values
 pub slots_put : (n : ℕ) (value : PlainValue) (old new : ℕ → PlainValue) → PutsSlot n value old new → slots (n + 1) new ≡ slots n old ++ value ∷ []
 slots_put n value old new puts =
     let next : n + 1 ≡ suc n = omega arith in
     let here : 0 + n ≡ n = omega arith in
     ap (λ m. slots m new) next ∙ one_more_from new 0 n ∙ (λ i. slots_stay n old new puts.same i ++ new (here i) ∷ []) ∙ ap (λ v. slots n old ++ v ∷ []) puts.put
 
--- what all have, the first have
+-- what holds of all values holds of the first ones
 pub all_take : {A : Type 0} (P : A → Type 0) (n : ℕ) (xs : List A) → AllByRecursion P xs → AllByRecursion P (take n xs)
 all_take P zero xs h = tt
 all_take P (suc n) [] h = tt
@@ -58,7 +58,7 @@ pub all_push : {A : Type 0} (P : A → Type 0) (xs : List A) (x : A) → AllByRe
 all_push P [] x h last = (last, tt)
 all_push P (y ∷ xs) x h last = (h.0, all_push P xs x h.1 last)
 
--- each count is at least a smaller number
+-- a lower bound of each count is still one when it is smaller
 at_least_fewer : (at len : ℕ) (counts : List ℕ) → at ≤ len → AllByRecursion (λ count. len ≤ count) counts → AllByRecursion (λ count. at ≤ count) counts
 at_least_fewer at len [] le h = tt
 at_least_fewer at len (count ∷ counts) le h = (omega (arith, le, h.0), at_least_fewer at len counts le h.1)

@@ -32,7 +32,7 @@ column_append (forms.FixedBytes width) k xs ys = refl
 column_append (forms.Lists list) k xs ys = all_items_append list xs ys
 column_append forms.Structs k xs ys = map-append (field_value k) xs ys
 
--- by none
+-- the column of a child by no values
 pub column_of_none : (form : Form) (k : ℕ) → child_column form k [] ≡ []
 column_of_none forms.Nulls k = refl
 column_of_none forms.Bits k = refl
@@ -43,7 +43,7 @@ column_of_none (forms.FixedBytes width) k = refl
 column_of_none (forms.Lists list) k = refl
 column_of_none forms.Structs k = refl
 
--- of a node without children
+-- the column of a child of a node without children
 pub leaf_column : (form : Form) (k : ℕ) (raw : List PlainValue) → IsLeaf form → child_column form k raw ≡ []
 leaf_column forms.Nulls k raw leaf = refl
 leaf_column forms.Bits k raw leaf = refl
@@ -58,7 +58,7 @@ leaf_column forms.Structs k raw leaf = absurd leaf
 pub begins_self : (xs : List PlainValue) → Begins xs xs
 begins_self xs = take_all (length xs) xs (omega arith)
 
--- and with the first of those that they begin with
+-- and with each prefix of what they begin with
 pub begins_front : (p q xs : List PlainValue) → Begins (p ++ q) xs → Begins p xs
 begins_front p q xs h =
     let long = length-append p q in
@@ -69,11 +69,11 @@ nothing_held : (form : Form) (k : ℕ) (raw : List PlainValue) (bs : List Built)
 nothing_held form k raw [] none = tt
 nothing_held form k raw (b ∷ bs) none = (subst (λ p. Begins p b.raw) (sym (none k)) refl, nothing_held form (k + 1) raw bs none)
 
--- so do those of no values
+-- so do the children of no values
 pub held_none : (form : Form) (bs : List Built) → AreHeld form 0 [] bs
 held_none form bs = nothing_held form 0 [] bs (λ j. column_of_none form j)
 
--- and those of a node that has none
+-- so do the children of a node that has none
 pub held_leaf : (form : Form) (raw : List PlainValue) (bs : List Built) → IsLeaf form → AreHeld form 0 raw bs
 held_leaf form raw bs leaf = nothing_held form 0 raw bs (λ j. leaf_column form j raw leaf)
 
@@ -86,7 +86,7 @@ held_front form k xs ys (b ∷ bs) h =
 pub held_take : (form : Form) (at : ℕ) (raw : List PlainValue) (bs : List Built) → AreHeld form 0 raw bs → AreHeld form 0 (take at raw) bs
 held_take form at raw bs h = held_front form 0 (take at raw) (drop at raw) bs (subst (λ vs. AreHeld form 0 vs bs) (sym (take-append-drop at raw)) h)
 
--- values that are the same up to a place behind what they begin with
+-- values that are the same up to an index at or past the end of what they begin with
 begins_cut : (at : ℕ) (p xs ys : List PlainValue) → length p ≤ at → take at xs ≡ take at ys → Begins p ys → Begins p xs
 begins_cut at p xs ys short same h = sym (take-take (length p) at xs short) ∙ ap (take (length p)) same ∙ take-take (length p) at ys short ∙ h
 
@@ -99,7 +99,7 @@ abbrev others_of : List Built → List Built
 others_of [] = []
 others_of (b ∷ bs) = bs
 
--- children that are the same up to a place behind their columns
+-- children that are the same up to an index at or past the end of their columns
 pub held_cut : (form : Form) (k at : ℕ) (raw : List PlainValue) (new old : List Built) → ((j : ℕ) → length (child_column form j raw) ≤ at)
     → map (cut_to at) new ≡ map (cut_to at) old → AreHeld form k raw old → AreHeld form k raw new
 held_cut form k at raw [] old short same h = tt
@@ -109,7 +109,7 @@ held_cut form k at raw (n ∷ new) (o ∷ old) short same h = (
   held_cut form (k + 1) at raw new old short (ap others_of same) h.1,
 )
 
--- a struct more
+-- one more struct
 pub held_struct : (k at : ℕ) (raw : List PlainValue) (bs : List Built) (v : PlainValue) → length raw ≡ at → AreHeld forms.Structs k raw bs
     → AreHeld forms.Structs k (raw ++ v ∷ []) (with_parts k at bs v)
 held_struct k at raw [] v long h = tt
@@ -119,7 +119,7 @@ held_struct k at raw (b ∷ bs) v long h =
     ap (λ vs. vs ++ field_value k v ∷ []) (ap (λ n. take n b.raw) count ∙ h.0) ∙ sym (map-append (field_value k) raw (v ∷ [])) in
     (subst (Begins (map (field_value k) (raw ++ v ∷ []))) (sym own) (begins_self (map (field_value k) (raw ++ v ∷ []))), held_struct (k + 1) at raw bs v long h.1)
 
--- the items with those of one list more
+-- the items with those of one more list
 pub items_grown : (list : ListForm) (start : ℕ) (raw child values : List PlainValue) (v : PlainValue) → start ≡ length (all_items list raw) → Begins (all_items list raw) child
     → values ≡ given_items list v → take start child ++ values ≡ all_items list (raw ++ v ∷ [])
 items_grown list start raw child values v count held items =
@@ -137,7 +137,7 @@ counted_take (forms.FixedBytes width) at len b raw le h = tt
 counted_take (forms.Lists list) at len b raw le h = λ j inside. h j (omega (arith, le, inside)) ∙ ap (λ vs. length (all_items list vs)) (sym (take-take j at raw inside))
 counted_take forms.Structs at len b raw le h = tt
 
--- of a node without children nothing is said
+-- nothing is stated of a node without children
 pub counted_leaf : (form : Form) (len : ℕ) (b : List (List ℕ)) (raw : List PlainValue) → IsLeaf form → CountsItems form len b raw
 counted_leaf forms.Nulls len b raw leaf = tt
 counted_leaf forms.Bits len b raw leaf = tt
@@ -148,7 +148,7 @@ counted_leaf (forms.FixedBytes width) len b raw leaf = tt
 counted_leaf (forms.Lists list) len b raw leaf = absurd leaf
 counted_leaf forms.Structs len b raw leaf = absurd leaf
 
--- a list more
+-- one more list
 pub counted_grows : (list : ListForm) (at : ℕ) (old new : List ℕ) (raw : List PlainValue) (v : PlainValue) → length raw ≡ at
     → ((j : ℕ) → j ≤ at → item_place list old j ≡ length (all_items list (take j raw))) → ((j : ℕ) → j ≤ at → item_place list new j ≡ item_place list old j)
     → item_place list new (at + 1) ≡ length (all_items list (raw ++ v ∷ [])) → (j : ℕ) → j ≤ at + 1 → item_place list new j ≡ length (all_items list (take j (raw ++ v ∷ [])))

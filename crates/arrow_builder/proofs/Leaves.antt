@@ -46,7 +46,7 @@ text_fits width (utf8_value b) h = refl
 text_fits width (list_value vs) h = absurd h.0
 text_fits width (struct_value vs) h = let e = h.0 in absurd (cc)
 
--- what is seen of a value that is lent is the value
+-- the borrowed content of a value gives the value
 lent : {A B : Type 0} (see : A → B) (value : B → PlainValue) (a : Option A) → value_or_null (λ a. value (see a)) a ≡ value_or_null value (option_map see a)
 lent see value None = refl
 lent see value (Some a) = refl

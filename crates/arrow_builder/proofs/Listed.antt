@@ -4,8 +4,8 @@ use Rattle.std.specs.Prelude.{replicate, slice_range, not}
 use Rattle.std.specs.List.{AllByRecursion}
 use Rattle.std.proofs.lemmas.List.{append_assoc, drop-take, length-replicate, replicate-append-replicate, take-take, take_all}
 use Rattle.std.proofs.Math.Seq.{drop-append_seam}
-use Rattle.arrow_types.specs.Field.{Fields, none, more}
-use Rattle.arrow_types.specs.DataType.{Tag}
+use Rattle.arrow_types.specs.Field.{FieldTree, none, more}
+use Rattle.arrow_types.specs.DataType.{TypeId}
 use Rattle.arrow_types.specs.declared.field.Encoding.{Encoding}
 use Rattle.arrow_data.specs.Fits.{Fits, ItemsFit}
 use Rattle.arrow_data.specs.Form.{HasFieldsOf, form_of, node_form}
@@ -28,28 +28,28 @@ use Rattle.arrow_builder.proofs.Ranging.{place_below}
 use Rattle.arrow_builder.proofs.Nested.{take_front}
 
 -- a node of lists is not dictionary-encoded
-pub plain_list : (tag : Tag) (e : Option Encoding) (list : ListForm) → node_form tag e ≡ forms.Lists list → (e ≡ None) × (form_of tag ≡ forms.Lists list)
+pub plain_list : (tag : TypeId) (e : Option Encoding) (list : ListForm) → node_form tag e ≡ forms.Lists list → (e ≡ None) × (form_of tag ≡ forms.Lists list)
 plain_list tag None list h = (refl, h)
 plain_list tag (Some e) list h = absurd (cc)
 
 -- nor is one of structs
-pub plain_struct : (tag : Tag) (e : Option Encoding) → node_form tag e ≡ forms.Structs → e ≡ None
+pub plain_struct : (tag : TypeId) (e : Option Encoding) → node_form tag e ≡ forms.Structs → e ≡ None
 plain_struct tag None h = refl
 plain_struct tag (Some e) h = absurd (cc)
 
 -- the one column of a list's child field
-pub record IsOnly (bs : List Built) (fields : Fields) : Type 0 where
+pub record IsOnly (bs : List Built) (fields : FieldTree) : Type 0 where
   pub child : Built
   pub only : bs ≡ child ∷ []
   pub field : fields ≡ more child.field.head child.field.children none
 
-only_of : (bs : List Built) (fields : Fields) (list : ListForm) → HasFieldsOf (forms.Lists list) fields → fields_in bs ≡ fields → IsOnly bs fields
+only_of : (bs : List Built) (fields : FieldTree) (list : ListForm) → HasFieldsOf (forms.Lists list) fields → fields_in bs ≡ fields → IsOnly bs fields
 only_of [] none list one h = absurd one
 only_of [] (more head children rest) list one h = absurd (cc)
 only_of (b ∷ []) fields list one h = record { child = b; only = refl; field = sym h }
 only_of (b ∷ c ∷ bs) fields list one h = absurd (subst (HasFieldsOf (forms.Lists list)) (sym h) one)
 
-pub only_child : (tag : Tag) (e : Option Encoding) (fields : Fields) (bs : List Built) (list : ListForm) → node_form tag e ≡ forms.Lists list
+pub only_child : (tag : TypeId) (e : Option Encoding) (fields : FieldTree) (bs : List Built) (list : ListForm) → node_form tag e ≡ forms.Lists list
     → HasFieldsOf (form_of tag) fields → AreBelow e fields bs → IsOnly bs fields
 only_child tag e fields bs list form own below =
     let plain = plain_list tag e list form in
@@ -65,8 +65,8 @@ nulls_fit : (b : Built) (count : ℕ) → AllByRecursion (FitsField b.field) (re
 nulls_fit b zero = tt
 nulls_fit b (suc count) = (tt, nulls_fit b count)
 
--- what a value that fits lists gives to the child
-pub given_fit : (b : Built) (fields : Fields) (list : ListForm) (v : PlainValue) → fields ≡ more b.field.head b.field.children none → Fits (forms.Lists list) fields v
+-- what a value that fits lists contributes to the child
+pub given_fit : (b : Built) (fields : FieldTree) (list : ListForm) (v : PlainValue) → fields ≡ more b.field.head b.field.children none → Fits (forms.Lists list) fields v
     → AllByRecursion (FitsField b.field) (given_items list v)
 given_fit b fields list v field fits = fit_of list v (subst (λ f. Fits (forms.Lists list) f v) field fits)
   where
@@ -86,17 +86,17 @@ given_fit b fields list v field fits = fit_of list v (subst (λ f. Fits (forms.L
     fit_of (lists.Fixed size) (list_value vs) h = items_all b vs h.1
     fit_of (lists.Fixed size) (struct_value vs) h = nulls_fit b size
 
--- where offsets are stored these are the items
+-- if offsets are stored, these are the items
 pub items_given : (width : OffsetWidth) (v : PlainValue) (values : List PlainValue) → values_of values ≡ items_of v → values ≡ given_items (lists.Offsets width) v
 items_given width v values same = sym (list_again values) ∙ ap list_of_values same
 
 -- the items of a value that fits lists
-pub items_fit : (b : Built) (fields : Fields) (width : OffsetWidth) (v : PlainValue) (values : List PlainValue) → fields ≡ more b.field.head b.field.children none
+pub items_fit : (b : Built) (fields : FieldTree) (width : OffsetWidth) (v : PlainValue) (values : List PlainValue) → fields ≡ more b.field.head b.field.children none
     → Fits (forms.Lists (lists.Offsets width)) fields v → values_of values ≡ items_of v → AllByRecursion (FitsField b.field) values
 items_fit b fields width v values field fits same = subst (AllByRecursion (FitsField b.field)) (sym (items_given width v values same)) (given_fit b fields (lists.Offsets width) v field fits)
 
--- a fixed-size list has so many items, and a null as many nulls
-pub sized_long : (size : ℕ) (fields : Fields) (v : PlainValue) → Fits (forms.Lists (lists.Fixed size)) fields v → length (sized_items size v) ≡ size
+-- a fixed-size list has `size` items, and a null has `size` nulls
+pub sized_long : (size : ℕ) (fields : FieldTree) (v : PlainValue) → Fits (forms.Lists (lists.Fixed size)) fields v → length (sized_items size v) ≡ size
 sized_long size fields null_value fit = length-replicate size null_value
 sized_long size fields (bool_value b) fit = length-replicate size null_value
 sized_long size fields (int_value z) fit = length-replicate size null_value
@@ -105,7 +105,7 @@ sized_long size fields (utf8_value b) fit = length-replicate size null_value
 sized_long size fields (list_value items) fit = fit.0
 sized_long size fields (struct_value parts) fit = length-replicate size null_value
 
--- a part of what stands in front
+-- a range within the first n values
 in_front : (xs : List PlainValue) (n start stop : ℕ) → start ≤ stop → stop ≤ n → take (stop - start) (drop start (take n xs)) ≡ take (stop - start) (drop start xs)
 in_front xs n start stop order inside =
     let gap : start + (n - start) ≡ n = omega (arith, order, inside) in
@@ -116,7 +116,7 @@ pub range_front : (new old : List PlainValue) (n start stop : ℕ) → take n ne
 range_front new old n start stop same order inside =
     sym (in_front new n start stop order inside) ∙ ap (λ xs. take (stop - start) (drop start xs)) same ∙ in_front old n start stop order inside
 
--- what was put after the first values
+-- the values that were put after the first ones
 pub range_put : (front values : List PlainValue) (start stop : ℕ) → length front ≡ start → stop ≡ start + length values → slice_range (front ++ values) start stop ≡ values
 range_put front values start stop long end =
     let size : stop - start ≡ length values = omega (arith, end) in
@@ -127,18 +127,18 @@ range_put front values start stop long end =
 abbrev pub StayItems : ListForm → ℕ → List ℕ → List ℕ → Type 0
 StayItems list at old new = (j : ℕ) → j ≤ at → item_place list new j ≡ item_place list old j
 
--- no list ends before it begins, and none after the last one
+-- no list ends before it begins, and none ends after the last one
 pub items_within : (list : ListForm) (at top : ℕ) (validity offsets : List ℕ) → KeepsLists list at top validity offsets → (j : ℕ) → j < at
     → (item_place list offsets j ≤ item_place list offsets (j + 1)) × (item_place list offsets (j + 1) ≤ item_place list offsets at)
 items_within (lists.Offsets width) at top validity offsets kept j h = (kept.ranges.never j h, place_below width at validity offsets kept.ranges (j + 1) (omega (arith, h)))
 items_within (lists.Fixed size) at top validity offsets kept j h = items_inside size j at (size * at) h (omega arith)
 
--- and the last one in the child
+-- and the last one ends within the child
 pub items_end : (list : ListForm) (at top : ℕ) (validity offsets : List ℕ) → KeepsLists list at top validity offsets → item_place list offsets at ≤ top
 items_end (lists.Offsets width) at top validity offsets kept = kept.inside
 items_end (lists.Fixed size) at top validity offsets kept = kept.inside
 
--- the lists of the first slots stay where the child's first values do
+-- the lists of the first slots are unchanged if the child's first values are
 pub lists_stay : (list : ListForm) (at top : ℕ) (validity validity' offsets offsets' : List ℕ) (child child' : List PlainValue) → KeepsLists list at top validity offsets
     → ((j : ℕ) → j < at → is_valid_at validity' j ≡ is_valid_at validity j) → StayItems list at offsets offsets'
     → take (item_place list offsets at) child' ≡ take (item_place list offsets at) child
@@ -150,13 +150,13 @@ lists_stay list at top validity validity' offsets offsets' child child' kept val
     ((λ i. slice_range child' (same j (omega (arith, h)) i) (same (j + 1) (omega (arith, h)) i))
     ∙ range_front child' child (item_place list offsets at) (item_place list offsets j) (item_place list offsets (j + 1)) start order.0 order.1))
 
--- what a list gives are its items
+-- a list contributes its items
 list_given : (list : ListForm) (items : PlainValues) → given_items list (list_value items) ≡ list_of_values items
 list_given (lists.Offsets width) items = refl
 list_given (lists.Fixed size) items = refl
 
 -- the list of a slot
-list_in_slot : (v : PlainValue) (fields : Fields) (list : ListForm) (validity : List ℕ) (at : ℕ) (vs : List PlainValue) → Fits (forms.Lists list) fields v
+list_in_slot : (v : PlainValue) (fields : FieldTree) (list : ListForm) (validity : List ℕ) (at : ℕ) (vs : List PlainValue) → Fits (forms.Lists list) fields v
     → is_valid_at validity at ≡ not (is_null_value v) → vs ≡ given_items list v → or_null validity at (list_value (values_of vs)) ≡ v
 list_in_slot null_value fields list validity at vs fit valid same = rw valid refl
 list_in_slot (bool_value b) fields list validity at vs fit valid same = absurd (cc)
@@ -166,8 +166,8 @@ list_in_slot (utf8_value b) fields list validity at vs fit valid same = absurd f
 list_in_slot (list_value items) fields list validity at vs fit valid same = rw valid (ap list_value (ap values_of (same ∙ list_given list items) ∙ values_again items))
 list_in_slot (struct_value parts) fields list validity at vs fit valid same = let e = fit.0 in absurd (cc)
 
--- a list more
-pub lists_put : (list : ListForm) (at : ℕ) (fields : Fields) (v : PlainValue) (validity validity' offsets offsets' : List ℕ) (child values : List PlainValue)
+-- one more list
+pub lists_put : (list : ListForm) (at : ℕ) (fields : FieldTree) (v : PlainValue) (validity validity' offsets offsets' : List ℕ) (child values : List PlainValue)
     → KeepsLists list at (length child) validity offsets → PutsValid at (not (is_null_value v)) validity validity' → StayItems list at offsets offsets'
     → item_place list offsets' (at + 1) ≡ length (take (item_place list offsets at) child ++ values) → Fits (forms.Lists list) fields v → values ≡ given_items list v
     → PutsSlot at v (λ j. list_slot list validity offsets child j) (λ j. list_slot list validity' offsets' (take (item_place list offsets at) child ++ values) j)
@@ -185,7 +185,7 @@ lists_put list at fields v validity validity' offsets offsets' child values kept
     }
 
 -- the struct of a slot
-pub struct_in_slot : (v : PlainValue) (fields : Fields) (validity : List ℕ) (at : ℕ) (row : PlainValues) → Fits forms.Structs fields v → is_valid_at validity at ≡ not (is_null_value v)
+pub struct_in_slot : (v : PlainValue) (fields : FieldTree) (validity : List ℕ) (at : ℕ) (row : PlainValues) → Fits forms.Structs fields v → is_valid_at validity at ≡ not (is_null_value v)
     → ((ws : PlainValues) → v ≡ struct_value ws → row ≡ ws) → or_null validity at (struct_value row) ≡ v
 struct_in_slot null_value fields validity at row fit valid same = rw valid refl
 struct_in_slot (bool_value b) fields validity at row fit valid same = absurd (cc)

@@ -3,7 +3,7 @@ use Rattle.std.proofs.Common.{◌≡◌, ℕ, ◌+◌, ◌*◌, ◌<◌, ◌≤�
 use Rattle.std.specs.Prelude.{not}
 use Rattle.std.specs.List.{AllByRecursion}
 use Rattle.std.proofs.lemmas.List.{length-map, take_all}
-use Rattle.arrow_types.specs.Field.{Fields}
+use Rattle.arrow_types.specs.Field.{FieldTree}
 use Rattle.arrow_types.specs.View.{field_view}
 use Rattle.arrow_types.specs.declared.field.Encoding.{Encoding}
 use Rattle.arrow_data.specs.Fits.{Fits, PartsFit}
@@ -41,7 +41,7 @@ children_are a form ok =
     subst (λ e. AreBelow e (field_view a.field).children a.children.items) (plain_struct (field_view a.field).head.tag (field_view a.field).head.encoding form) ok.below
 
 -- columns of the same fields are below the same field
-below_same : (e : Option Encoding) (fields : Fields) (old new : List Built) → e ≡ None → AreBelow e fields old → fields_in new ≡ fields_in old → AreBelow e fields new
+below_same : (e : Option Encoding) (fields : FieldTree) (old new : List Built) → e ≡ None → AreBelow e fields old → fields_in new ≡ fields_in old → AreBelow e fields new
 below_same e fields old new plain below same =
     subst (λ e. AreBelow e fields new) (sym plain) (same ∙ subst (λ e. AreBelow e fields old) plain below)
 
@@ -69,10 +69,10 @@ struct_stays a b form ok bits valid cut =
     (subst (λ f. CountsItems f a.len (buffers_in b.buffers) (built_of a).raw) (sym form) tt)
 
 -- the values of a struct that fits
-parts_fit : (fields : Fields) (v : PlainValue) (ws : PlainValues) → Fits forms.Structs fields v → v ≡ struct_value ws → PartsFit fields ws
+parts_fit : (fields : FieldTree) (v : PlainValue) (ws : PlainValues) → Fits forms.Structs fields v → v ≡ struct_value ws → PartsFit fields ws
 parts_fit fields v ws fits is = (subst (Fits forms.Structs fields) is fits).1
 
--- one struct more
+-- one more struct
 pub struct_grows : (a b : Inside) (v : PlainValue) → field_form (field_view a.field) ≡ forms.Structs → a.len < 2147483647 → IsNode a → FitsField (field_view a.field) v
     → PutsBit a.len (not (is_null_value v)) a.buffers.validity.items b.buffers.validity.items → b.children.items ≡ with_parts 0 a.len a.children.items v
     → IsNode (next a (a.len + 1) b) × (built_of (next a (a.len + 1) b) ≡ with_value (built_of a) v)
@@ -117,12 +117,12 @@ kept_lists a list child form only ok =
     subst (λ bs. KeepsLists list a.len (child_count (counts_in bs)) a.buffers.validity.items (offsets_in list a)) only
     (subst (λ f. Keeps f a.len (buffers_in a.buffers) (counts_in a.children.items)) form ok.kept)
 
--- its places count the items
+-- its offsets count the items
 list_counts : (a : Inside) (list : ListForm) → field_form (field_view a.field) ≡ forms.Lists list → IsNode a
     → (j : ℕ) → j ≤ a.len → item_place list (offsets_in list a) j ≡ length (all_items list (take j (built_of a).raw))
 list_counts a list form ok = subst (λ f. CountsItems f a.len (buffers_in a.buffers) (built_of a).raw) form ok.counted
 
--- the last of them counts all
+-- the last of them counts all items
 pub list_count : (a : Inside) (list : ListForm) → field_form (field_view a.field) ≡ forms.Lists list → IsNode a
     → item_place list (offsets_in list a) a.len ≡ length (all_items list (built_of a).raw)
 list_count a list form ok =
@@ -155,7 +155,7 @@ items_stay a b list child child' form only only' ok cut keeps valid same =
     (ap (map (cut_to start)) only' ∙ ap (λ (c : Built). c ∷ []) cut ∙ sym (ap (map (cut_to start)) only)) ok.held)
     (subst (λ f. CountsItems f at (buffers_in b.buffers) (built_of a).raw) (sym form) (λ j h. same j h ∙ list_counts a list form ok j h))
 
--- the same where offsets are stored
+-- the same if offsets are stored
 pub list_stays : (a b : Inside) (width : OffsetWidth) (child child' : Built) → field_form (field_view a.field) ≡ forms.Lists (lists.Offsets width) → a.children.items ≡ child ∷ [] → b.children.items ≡ child' ∷ []
     → IsNode a → cut_to (place_of width a.buffers.values.items a.len) child' ≡ cut_to (place_of width a.buffers.values.items a.len) child
     → KeepsRanges width a.len b.buffers.validity.items b.buffers.values.items
@@ -173,7 +173,7 @@ pub sized_stays : (a b : Inside) (size : ℕ) (child child' : Built) → field_f
 sized_stays a b size child child' form only only' ok cut bits valid long =
     items_stay a b (lists.Fixed size) child child' form only only' ok cut (record { bits = bits; inside = long }) valid (λ j h. refl)
 
--- one list more
+-- one more list
 items_grow : (a b : Inside) (list : ListForm) (child child' : Built) (v : PlainValue) (values : List PlainValue) → field_form (field_view a.field) ≡ forms.Lists list → a.children.items ≡ child ∷ [] → b.children.items ≡ child' ∷ []
     → a.len < 2147483647 → IsNode a → FitsField (field_view a.field) v
     → child' ≡ with_values (cut_to (item_place list (offsets_in list a) a.len) child) values → values ≡ given_items list v
@@ -206,7 +206,7 @@ items_grow a b list child child' v values form only only' few ok fits grown item
     (subst (λ f. CountsItems f (at + 1) (buffers_in b.buffers) ((built_of a).raw ++ v ∷ [])) (sym form)
     (counted_grows list at old new (built_of a).raw v (length_slots at (slot_in a)) (list_counts a list form ok) same (end ∙ ap (λ xs. length xs) whole)))
 
--- where offsets are stored
+-- if offsets are stored
 pub list_grows : (a b : Inside) (width : OffsetWidth) (child child' : Built) (v : PlainValue) (values : List PlainValue) → field_form (field_view a.field) ≡ forms.Lists (lists.Offsets width)
     → a.children.items ≡ child ∷ [] → b.children.items ≡ child' ∷ [] → a.len < 2147483647 → IsNode a → FitsField (field_view a.field) v
     → child' ≡ with_values (cut_to (place_of width a.buffers.values.items a.len) child) values → values_of values ≡ items_of v

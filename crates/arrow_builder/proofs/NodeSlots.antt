@@ -14,7 +14,7 @@ use Rattle.arrow_builder.specs.Fields.{FitsField, field_form}
 use Rattle.arrow_builder.specs.Kept.{CountsItems, Keeps}
 use Rattle.arrow_builder.specs.Nodes.{IsNode, built_of, slot_in}
 use Rattle.arrow_builder.specs.Puts.{PutsSlot, StaySlots}
-use Rattle.arrow_builder.specs.declared.slots.Buffers.{Buffers}
+use Rattle.arrow_builder.specs.declared.slots.SlotBuffers.{SlotBuffers}
 use Rattle.arrow_builder.specs.declared.node.Node.TheInside.{Inside}
 use Rattle.arrow_builder.proofs.Growing.{all_push, all_take, keeps_fewer, slots_put, slots_stay, take_slots}
 use Rattle.arrow_builder.proofs.Held.{counted_leaf, counted_take, held_leaf, held_take}
@@ -95,7 +95,7 @@ leaf_keeps (forms.Lists list) len b counts others leaf kept = absurd leaf
 leaf_keeps forms.Structs len b counts others leaf kept = absurd leaf
 
 -- the same slots of a node without children
-pub leaf_stays : (a : Inside) (b : Buffers) (form : Form) → form ≡ field_form (field_view a.field) → IsLeaf form → IsNode a → Keeps form a.len (buffers_in b) []
+pub leaf_stays : (a : Inside) (b : SlotBuffers) (form : Form) → form ≡ field_form (field_view a.field) → IsLeaf form → IsNode a → Keeps form a.len (buffers_in b) []
     → ((children : List (List PlainValue)) → StaySlots a.len (value_slot form (buffers_in a.buffers) children) (value_slot form (buffers_in b) children))
     → IsNode (record a { buffers = b }) × (built_of (record a { buffers = b }) ≡ built_of a)
 leaf_stays a b form is leaf ok kept stay =
@@ -106,7 +106,7 @@ leaf_stays a b form is leaf ok kept stay =
     (counted_leaf (field_form (field_view a.field)) a.len (buffers_in b) (built_of a).raw (subst IsLeaf is leaf))
 
 -- one more slot of a node without children
-pub leaf_grows : (a : Inside) (b : Buffers) (form : Form) (value : PlainValue) → form ≡ field_form (field_view a.field) → IsLeaf form → a.len < 2147483647 → IsNode a
+pub leaf_grows : (a : Inside) (b : SlotBuffers) (form : Form) (value : PlainValue) → form ≡ field_form (field_view a.field) → IsLeaf form → a.len < 2147483647 → IsNode a
     → FitsField (field_view a.field) value → Keeps form (a.len + 1) (buffers_in b) []
     → ((children : List (List PlainValue)) → PutsSlot a.len value (value_slot form (buffers_in a.buffers) children) (value_slot form (buffers_in b) children))
     → IsNode (record a { len = a.len + 1; buffers = b }) × (built_of (record a { len = a.len + 1; buffers = b }) ≡ with_value (built_of a) value)

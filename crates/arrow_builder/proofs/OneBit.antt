@@ -1,4 +1,4 @@
--- One bit put behind others.
+-- One bit put after others.
 use Rattle.std.proofs.Common.{◌≡◌, ◌≢◌, ℕ, ◌*◌, ◌/◌, ◌%◌, ◌^◌, ◌<◌, ◌≤◌, Bool, true, false, cond, List, [], ◌∷◌, ◌++◌, length, get_or, set, refl, sym, subst, arith, w8, inl, inr, bit_or, bit_and, length-set, length-append}
 use Rattle.std.specs.Prelude.{◌==◌}
 use Rattle.std.specs.Int.{bit_at, bit_not}
@@ -14,7 +14,7 @@ flag_first : (bit : Bool) → (bit_at (cond bit 1 0) 0 == 1) ≡ bit
 flag_first true = refl
 flag_first false = refl
 
--- a byte more
+-- one more byte
 pub puts_byte : (at : ℕ) (bit : Bool) (bytes : List ℕ) → at ≤ 8 * length bytes → at / 8 ≡ length bytes
     → PutsBit at bit bytes (bytes ++ cond bit 1 0 ∷ [])
 unfolding bit_of
@@ -29,7 +29,7 @@ puts_byte at bit bytes inside end =
       long = omega (arith, inside, end, length-append bytes (byte ∷ []));
     }
 
--- the byte that has the bit is another one, in which the bits before it are the same
+-- the byte with the bit is another one, and the bits before it are unchanged
 puts_in : (at : ℕ) (bit : Bool) (bytes : List ℕ) (changed : ℕ) → at ≤ 8 * length bytes → at / 8 ≢ length bytes
     → (bit_at changed (at % 8) == 1) ≡ bit
     → ((k : ℕ) → k < 8 → k ≢ at % 8 → bit_at changed k ≡ bit_at (get_or bytes (at / 8) 0) k)

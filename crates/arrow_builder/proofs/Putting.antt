@@ -1,4 +1,4 @@
--- One slot put behind others.
+-- One slot put after others.
 use Rattle.std.proofs.Common.{rules, ◌≡◌, ℕ, Ok, Err, OnOk, OnErr, Result, ◌+◌, ◌*◌, ◌<◌, ◌≤◌, Bool, true, false, List, [], ◌∷◌, ◌++◌, length, take, refl, ap, sym, ◌∙◌, subst, arith, Option, None, Some, ℤ, length-append, length-take}
 use Rattle.std.specs.Prelude.{is_some, IfSome, slice_range}
 use Rattle.std.proofs.lemmas.Grind.{common_steps}
@@ -19,7 +19,7 @@ pub after_err : {A E P : Type 0} (r : Result A E) → P → OnErr r P
 after_err (Ok a) held = search rules
 after_err (Err e) held = held
 
--- what follows from what holds after success, and after an error
+-- what follows from what holds after success
 pub ok_gives : {A E P Q : Type 0} (r : Result A E) → (P → Q) → OnOk r P → OnOk r Q
 ok_gives (Ok a) step held = step held
 ok_gives (Err e) step held = held
@@ -28,27 +28,27 @@ pub err_gives : {A E P Q : Type 0} (r : Result A E) → (P → Q) → OnErr r P 
 err_gives (Ok a) step held = held
 err_gives (Err e) step held = step held
 
--- where there is a bitmap, a slot is valid where its bit is set
+-- if there is a bitmap, a slot is valid exactly if its bit is set
 valid_by_bit : (validity : List ℕ) (j : ℕ) → 0 < length validity → is_valid_at validity j ≡ bit_of validity j
 valid_by_bit [] j h = absurd (omega (arith, h))
 valid_by_bit (byte ∷ validity) j h = rw (eqb-suc-zero (length validity)) refl
 
--- the first slots are valid as they were
+-- the validity of the first slots is unchanged
 pub valid_stays : (at : ℕ) (bit : Bool) (old new : List ℕ) → at ≤ 8 * length old → PutsBit at bit old new → (j : ℕ) → j < at
     → is_valid_at new j ≡ is_valid_at old j
 valid_stays at bit old new le puts j h =
     valid_by_bit new j (omega (arith, puts.long)) ∙ puts.same j h ∙ sym (valid_by_bit old j (omega (arith, le, h)))
 
--- the one behind them by its bit
+-- the bit after them is the validity of the slot after them
 pub valid_put : (at : ℕ) (bit : Bool) (old new : List ℕ) → PutsBit at bit old new → is_valid_at new at ≡ bit
 valid_put at bit old new puts = valid_by_bit new at (omega (arith, puts.long)) ∙ puts.put
 
--- a slot is the same where its bit and what it would hold are
+-- a slot is the same if its validity bit and the value that it would hold are
 pub or_null_same : (old new : List ℕ) (j : ℕ) (x y : PlainValue) → is_valid_at new j ≡ is_valid_at old j → y ≡ x
     → or_null new j y ≡ or_null old j x
 or_null_same old new j x y valid same = rw (valid, same) refl
 
--- a slot is null where there is no value, and else has it
+-- a slot is null if there is no value, and else holds the value
 pub or_null_put : {A : Type 0} (value : A → PlainValue) (a : Option A) (validity : List ℕ) (at : ℕ) (x : PlainValue)
     → is_valid_at validity at ≡ is_some a → IfSome a (λ a. x ≡ value a) → or_null validity at x ≡ value_or_null value a
 or_null_put value None validity at x valid same = rw valid refl
@@ -65,7 +65,7 @@ number_by_start old new n place width start inside =
     ∙ number_in_part old 0 n place width inside
     ∙ ap (λ p. number_at old p width) none_before
 
--- a slot of fixed width lies before the ones behind it
+-- a slot of fixed width lies before the slots after it
 pub place_inside : (width j at : ℕ) → j < at → width * j + width ≤ width * at
 place_inside width j at h =
     let whole : width * (j + 1) ≤ width * at = mul-le-mul_left width (omega (arith, h)) in
@@ -79,7 +79,7 @@ unfolding signed_at
 int_by_start old new n place width true start inside = rw (number_by_start old new n place width start inside) refl
 int_by_start old new n place width false start inside = rw (number_by_start old new n place width start inside) refl
 
--- what is appended to the first bytes leaves them
+-- appending to the first bytes leaves them unchanged
 pub start_stays : (old more : List ℕ) (n : ℕ) → n ≤ length old → take n (take n old ++ more) ≡ take n old
 start_stays old more n le =
     let long : length (take n old) ≡ n = grind (arith, length-take) in
@@ -102,7 +102,7 @@ bools_put at truth bit validity values validity' values' kept puts valid same = 
       (bool_in_slot truth bit values' at puts.put same);
 }
 
--- the first truth values, where no bit was put
+-- the first truth values stay if their bits do
 pub bools_stay : (at : ℕ) (bit : Bool) (validity values values' : List ℕ) → PutsBit at bit values values'
     → StaySlots at (bool_slot validity values) (bool_slot validity values')
 bools_stay at bit validity values values' puts = λ j h. or_null_same validity validity j (bool_value (bit_of values j)) (bool_value (bit_of values' j)) refl (ap bool_value (puts.same j h))
@@ -154,13 +154,13 @@ fixed_stay at width validity validity' values values' valid start = λ j h.
 take-all_of : (n : ℕ) (xs : List ℕ) → length xs ≡ n → take n xs ≡ xs
 take-all_of n xs e = grind (arith, common_steps)
 
--- nothing lies from a place up to itself
+-- the range from an offset to itself is empty
 empty_range : (xs : List ℕ) (n : ℕ) → slice_range xs n n ≡ []
 empty_range xs n = grind (arith, common_steps)
 
--- what was appended stands behind the first bytes
-pub range_behind : (front bytes : List ℕ) (n width : ℕ) → length front ≡ n → length bytes ≡ width → slice_range (front ++ bytes) n (n + width) ≡ bytes
-range_behind front bytes n width at long =
+-- the appended bytes follow the first bytes
+pub range_after : (front bytes : List ℕ) (n width : ℕ) → length front ≡ n → length bytes ≡ width → slice_range (front ++ bytes) n (n + width) ≡ bytes
+range_after front bytes n width at long =
     let all : length (front ++ bytes) ≡ n + width = omega (arith, at, long, length-append front bytes) in
     slice_range_grown front (front ++ bytes) bytes n n (n + width) (omega arith) (omega (arith, at))
     (take-all_of (n + width) (front ++ bytes) all ∙ ap (λ xs. xs ++ bytes) (sym (take-all_of n front at)))
@@ -172,7 +172,7 @@ pub fixed_in_slot : {A : Type 0} (view : A → List ℕ) (bytes : Option A) (fro
     → IfSome bytes (λ b. binary_value (slice_range values n (n + width)) ≡ binary_value (view b))
 fixed_in_slot view None front values n width at same long = same
 fixed_in_slot view (Some b) front values n width at same long =
-    ap binary_value (ap (λ xs. slice_range xs n (n + width)) same ∙ range_behind front (view b) n width at long)
+    ap binary_value (ap (λ xs. slice_range xs n (n + width)) same ∙ range_after front (view b) n width at long)
 
 -- a byte string of a fixed width
 pub fixed_put : {A : Type 0} (view : A → List ℕ) (at width : ℕ) (bytes : Option A) (validity validity' values values' : List ℕ)
@@ -185,7 +185,7 @@ fixed_put view at width bytes validity validity' values values' kept valid start
       (valid_put at (is_some bytes) validity validity' valid) has;
 }
 
--- the first bytes stay where more were appended to them
+-- the first bytes stay if more were appended to them
 pub kept_start : (old cut new : List ℕ) (n : ℕ) → n ≤ length old → cut ≡ take n old → take (length cut) new ≡ cut → take n new ≡ take n old
 kept_start old cut new n inside is_cut start =
     let long : length cut ≡ n = ap (λ xs. length xs) is_cut ∙ grind (arith, length-take) in

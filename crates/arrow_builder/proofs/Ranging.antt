@@ -1,4 +1,4 @@
--- Ranges put behind others.
+-- Ranges put after others.
 use Rattle.std.proofs.Common.{◌≡◌, ℕ, zero, suc, pos, negsuc, ℤ, ◌+◌, ◌*◌, ◌/◌, ◌^◌, ◌-◌, ◌<◌, ◌≤◌, ◌++◌, Bool, false, List, length, take, refl, ap, sym, ◌∙◌, subst, arith, length-append, Option, None, Some}
 use Rattle.std.specs.Prelude.{IfSome, is_some, slice_range}
 use Rattle.std.proofs.lemmas.Bool.{cases_lt}
@@ -14,24 +14,24 @@ use Rattle.arrow_data.specs.declared.form.OffsetWidth.{OffsetWidth}
 use Rattle.arrow_data.specs.declared.form.OffsetWidth.TheVariants.{Small, Large}
 use Rattle.arrow_builder.specs.Kept.{KeepsRanges, offset_bound}
 use Rattle.arrow_builder.specs.Puts.{PutsSlot, PutsValid, StayPlaces, StaySlots, part_slot, value_or_null}
-use Rattle.arrow_builder.proofs.Putting.{number_by_start, or_null_put, or_null_same, place_inside, range_behind, range_by_start}
+use Rattle.arrow_builder.proofs.Putting.{number_by_start, or_null_put, or_null_same, place_inside, range_after, range_by_start}
 
 -- the offsets of the same first bytes are the same
 pub places_stay : (width : OffsetWidth) (at : ℕ) (old new : List ℕ) → take (offset_bytes width * (at + 1)) new ≡ take (offset_bytes width * (at + 1)) old → StayPlaces width at old new
 places_stay width at old new start = λ j h.
     number_by_start old new (offset_bytes width * (at + 1)) (offset_bytes width * j) (offset_bytes width) start (place_inside (offset_bytes width) j (at + 1) (omega (arith, h)))
 
--- an offset is a number without a sign
+-- an offset is an unsigned number
 pub offset_fits : (width : OffsetWidth) (place : ℕ) → place < offset_bound width → FitsInt (offset_bytes width) false (pos place)
 offset_fits Small place low = (omega (arith, ints), omega (arith, ints, low))
 offset_fits Large place low = (omega (arith, ints), omega (arith, ints, low))
 
--- the number that is read without a sign
+-- the number that is read as unsigned
 pub plain_place : (width : OffsetWidth) (offsets : List ℕ) (at place end : ℕ) → place ≡ offset_bytes width * at → int_of offsets place (offset_bytes width) false ≡ pos end
     → place_of width offsets at ≡ end
 plain_place width offsets at place end here reads = sym (ap (λ p. number_at offsets p (offset_bytes width)) here) ∙ omega (arith, ints, reads)
 
--- fewer validity bits, or others, as long as there are enough, and offsets that are the same
+-- fewer or other validity bits, as long as there are enough, and the same offsets
 pub ranges_stay : (width : OffsetWidth) (at : ℕ) (validity validity' old new : List ℕ) → KeepsRanges width at validity old → at ≤ 8 * length validity'
     → offset_bytes width * (at + 1) ≤ length new → StayPlaces width at old new → KeepsRanges width at validity' new
 ranges_stay width at validity validity' old new kept bits there same = record {
@@ -69,7 +69,7 @@ offset_appended width at end w cut new z wide whole low long reads =
     let fits : FitsInt w false z = subst (λ v. FitsInt v false z) (sym wide) (subst (FitsInt (offset_bytes width) false) (sym whole) (offset_fits width end low)) in
     plain_place width new (at + 1) (length cut) end long (ap (λ v. int_of new (length cut) v false) (sym wide) ∙ reads false fits ∙ whole)
 
--- the bytes of a number are as many as its width
+-- a number has as many bytes as its width
 length_number : (width n : ℕ) → length (number_bytes width n) ≡ width
 length_number zero n = refl
 length_number (suc width) n = ap suc (length_number width (n / 256))
@@ -86,7 +86,7 @@ one_more_there width at cut new w z wide long same =
     let steps : offset_bytes width * (at + 1 + 1) ≡ offset_bytes width * (at + 1) + offset_bytes width = grind arith in
     omega (arith, grown, long, wide, length_int w z, steps)
 
--- offsets do not fall, also not to one further on
+-- offsets do not decrease, also from one to any later one
 climbs : (width : OffsetWidth) (len : ℕ) (validity offsets : List ℕ) → KeepsRanges width len validity offsets → (j k : ℕ) → j + k ≤ len → place_of width offsets j ≤ place_of width offsets (j + k)
 climbs width len validity offsets kept j zero h =
     let here : j + 0 ≡ j = omega arith in
@@ -95,7 +95,7 @@ climbs width len validity offsets kept j (suc k) h =
     let next : j + k + 1 ≡ j + suc k = omega arith in
     subst (λ m. place_of width offsets j ≤ place_of width offsets m) next (omega (arith, climbs width len validity offsets kept j k (omega (arith, h)), kept.never (j + k) (omega (arith, h))))
 
--- no range ends behind the last offset
+-- no range ends past the last offset
 pub place_below : (width : OffsetWidth) (len : ℕ) (validity offsets : List ℕ) → KeepsRanges width len validity offsets → (j : ℕ) → j ≤ len → place_of width offsets j ≤ place_of width offsets len
 place_below width len validity offsets kept j h =
     let gap : j + (len - j) ≡ len = omega (arith, h) in
@@ -125,9 +125,9 @@ part_in_slot view value width at None front bytes offsets start stop same = same
 part_in_slot view value width at (Some b) front bytes offsets start stop same =
     let end : place_of width offsets (at + 1) ≡ place_of width offsets at + length (view b) = omega (arith, start, stop, ap (λ xs. length xs) same, length-append front (view b)) in
     ap value (ap (slice_range bytes (place_of width offsets at)) end ∙ ap (λ xs. slice_range xs (place_of width offsets at) (place_of width offsets at + length (view b))) same
-    ∙ range_behind front (view b) (place_of width offsets at) (length (view b)) start refl)
+    ∙ range_after front (view b) (place_of width offsets at) (length (view b)) start refl)
 
--- a part of the bytes
+-- one more part of the bytes
 pub parts_put : {A : Type 0} (view : A → List ℕ) (value : List ℕ → PlainValue) (width : OffsetWidth) (at : ℕ) (part : Option A) (validity validity' offsets offsets' bytes front bytes' : List ℕ)
     → KeepsRanges width at validity offsets → PutsValid at (is_some part) validity validity' → StayPlaces width at offsets offsets'
     → take (place_of width offsets at) bytes' ≡ take (place_of width offsets at) bytes → length front ≡ place_of width offsets at

@@ -1,7 +1,7 @@
--- Columns that pass no limit.
+-- Columns that exceed no limit.
 use Rattle.std.proofs.Common.{◌≡◌, ℕ, zero, suc, ◌+◌, ◌*◌, ◌≤◌, List, [], ◌∷◌, ◌++◌, length, replicate, subst, arith, length-append}
 use Rattle.std.proofs.lemmas.List.{length-replicate}
-use Rattle.arrow_types.specs.Field.{Fields, FieldShape, none, more}
+use Rattle.arrow_types.specs.Field.{FieldTree, FieldShape, none, more}
 use Rattle.arrow_data.specs.Form.{node_form}
 use Rattle.arrow_data.specs.PlainValue.{PlainValue, null_value}
 use Rattle.arrow_data.specs.declared.form.Form.{Form}
@@ -19,7 +19,7 @@ pub data_append : (form : Form) (xs ys : List PlainValue) → data_bytes form (x
 data_append form [] ys = omega arith
 data_append form (x ∷ xs) ys = omega (arith, data_append form xs ys)
 
--- the first values pass no limit where all of them pass none
+-- the first values exceed no limit if all of them exceed none
 short_front : (form : Form) (xs ys : List PlainValue) → IsShort form (xs ++ ys) → IsShort form xs
 short_front form xs ys h = record {
   few = omega (arith, h.few, length-append xs ys);
@@ -27,7 +27,7 @@ short_front form xs ys h = record {
 }
 
 -- nor do they in the columns below
-below_front : (form : Form) (fields : Fields) (k : ℕ) (xs ys : List PlainValue) → AllBelow IsShortNode form fields k (xs ++ ys) → AllBelow IsShortNode form fields k xs
+below_front : (form : Form) (fields : FieldTree) (k : ℕ) (xs ys : List PlainValue) → AllBelow IsShortNode form fields k (xs ++ ys) → AllBelow IsShortNode form fields k xs
 below_front form none k xs ys h = tt
 below_front form (more head children rest) k xs ys h =
     let is = column_append form k xs ys in
@@ -37,11 +37,11 @@ below_front form (more head children rest) k xs ys h =
       below_front form rest (k + 1) xs ys h.2,
     )
 
--- nor in any
+-- nor do they in the column or any below it
 pub nodes_front : (field : FieldShape) (xs ys : List PlainValue) → AllNodes IsShortNode field (xs ++ ys) → AllNodes IsShortNode field xs
 nodes_front field xs ys h = (short_front (field_form field) xs ys h.0, below_front (field_form field) field.children 0 xs ys h.1)
 
--- no values pass none
+-- no values exceed no limit
 pub short_none : (form : Form) → IsShort form []
 short_none form = record { few = omega arith; near = omega arith }
 
@@ -54,7 +54,7 @@ total_more form raw value total bytes h is short =
     let heavy : bytes ≡ data_bytes form (raw ++ value ∷ []) = omega (arith, h.bytes, is, data_append form raw (value ∷ [])) in
     (slots, heavy, record { few = omega (arith, slots, short.0); near = omega (arith, heavy, short.1) })
 
--- where these are too many slots or bytes, a limit is passed
+-- if these are too many slots or bytes, a limit is exceeded
 pub total_past : (form : Form) (raw : List PlainValue) (value : PlainValue) (total : Total) → IsTotal form raw total
     → ((total.slots + 1 ≤ 2147483647) × (total.bytes + slot_bytes form value ≤ most_bytes form) → ⊥) → IsShort form (raw ++ value ∷ []) → ⊥
 total_past form raw value total h long short = long (
@@ -62,7 +62,7 @@ total_past form raw value total h long short = long (
   omega (arith, h.bytes, short.near, data_append form raw (value ∷ [])),
 )
 
--- no column has more bytes of data
+-- no column has more bytes of data than this
 pub most_low : (form : Form) → most_bytes form ≤ 1099511627776
 most_low forms.Nulls = omega arith
 most_low forms.Bits = omega arith

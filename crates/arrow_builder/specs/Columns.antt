@@ -1,8 +1,8 @@
--- The columns of all nodes of a field, by the raw values of its own: what each child has in its slots (Columnar Format,
--- "Variable-size List Layout", "Fixed-Size List Layout" and "Struct Layout").
+-- The columns of all nodes of a field, determined by the field's raw values: what each child has in its slots
+-- (Columnar Format, "Variable-size List Layout", "Fixed-Size List Layout" and "Struct Layout").
 use Rattle.std.specs.Prelude.{◌+◌, ℕ, List, [], ◌∷◌, ◌++◌, length, map, take, ⊤}
 use Rattle.std.specs.List.{range_with_len}
-use Rattle.arrow_types.specs.Field.{Fields, FieldShape, Head, none, more}
+use Rattle.arrow_types.specs.Field.{FieldTree, FieldShape, FieldHeader, none, more}
 use Rattle.arrow_data.specs.Form.{node_form}
 use Rattle.arrow_data.specs.PlainValue.{PlainValue, field_value}
 use Rattle.arrow_data.specs.Same.{Begins}
@@ -17,8 +17,8 @@ abbrev pub all_items : ListForm → List PlainValue → List PlainValue
 all_items list [] = []
 all_items list (value ∷ values) = given_items list value ++ all_items list values
 
--- The column of child k of a node of the form: of lists all their items, of structs the values of field k, with a null for a
--- struct that is null. Other forms have no children.
+-- The column of child k of a node of the form. For lists it is all their items, for structs the values of field k,
+-- with a null for a struct that is null. Other forms have no children.
 abbrev pub child_column : Form → ℕ → List PlainValue → List PlainValue
 child_column forms.Nulls k raw = []
 child_column forms.Bits k raw = []
@@ -42,18 +42,18 @@ item_offsets (forms.Lists list) raw = map (λ j. length (all_items list (take j 
 item_offsets forms.Structs raw = []
 
 -- the columns of the children with these fields, the first of them child k
-abbrev pub child_columns : Form → Fields → ℕ → List PlainValue → List (List PlainValue)
+abbrev pub child_columns : Form → FieldTree → ℕ → List PlainValue → List (List PlainValue)
 child_columns form none k raw = []
 child_columns form (more head children rest) k raw = child_column form k raw ∷ child_columns form rest (k + 1) raw
 
--- the statement is true of the columns of these children, the first of them child k, and of all below them
-abbrev pub AllBelow : (Head → List PlainValue → Type 0) → Form → Fields → ℕ → List PlainValue → Type 0
+-- the statement holds of the columns of these children, the first of them child k, and of all below them
+abbrev pub AllBelow : (FieldHeader → List PlainValue → Type 0) → Form → FieldTree → ℕ → List PlainValue → Type 0
 AllBelow P form none k raw = ⊤
 AllBelow P form (more head children rest) k raw =
     P head (child_column form k raw) × AllBelow P (node_form head.tag head.encoding) children 0 (child_column form k raw) × AllBelow P form rest (k + 1) raw
 
--- the statement is true of the column of a field, and of all below it
-abbrev pub AllNodes : (Head → List PlainValue → Type 0) → FieldShape → List PlainValue → Type 0
+-- the statement holds of the column of a field, and of all below it
+abbrev pub AllNodes : (FieldHeader → List PlainValue → Type 0) → FieldShape → List PlainValue → Type 0
 AllNodes P field raw = P field.head raw × AllBelow P (field_form field) field.children 0 raw
 
 -- the children, the first of them child k, begin with their columns

@@ -1,4 +1,4 @@
--- Why a value is not pushed, and why a column is no array.
+-- Why a value is not pushed, and why no array can be made of a column.
 use Rattle.std.specs.Prelude.{ℕ, ℤ, List, codes}
 use Rattle.arrow_data.specs.Column.{ValueList}
 use Rattle.arrow_data.specs.PlainValue.{PlainValue}
@@ -11,18 +11,20 @@ use Rattle.arrow_builder.specs.declared.faults.ArrayFault.TheVariants as array
 use Rattle.arrow_builder.specs.declared.faults.PushFault.{PushFault}
 use Rattle.arrow_builder.specs.declared.faults.PushFault.TheVariants as push
 
--- the fault is the least that applies to the column and the listed dictionaries; allocation fails only where none does
+-- the fault is the least that applies to the column and the listed dictionaries; it is a failed allocation only if no
+-- other applies
 abbrev pub ExplainsArray : ArrayFault → List (ℤ × ValueList) → Built → Type 0
 ExplainsArray array.DictionaryType ds b = AreTyped ds b.field → ⊥
 ExplainsArray array.IndexRange ds b = AreTyped ds b.field × (AreIndexed ds b → ⊥)
 ExplainsArray array.Memory ds b = AreTyped ds b.field × AreIndexed ds b
 
--- the column may have the value behind its others: it fits, and no column passes a limit by it, the field's or one below it
+-- the column can take the value after its others: the value fits, and with it no column exceeds a limit, neither the
+-- field's nor one below it
 abbrev pub TakesValue : Built → PlainValue → Type 0
 TakesValue b value = FitsField b.field value × IsWithin (with_value b value)
 
--- The fault is the least that applies: the value does not fit, or it does and some column would pass a limit by it, or neither
--- and there is no memory for it.
+-- The fault is the least that applies: the value does not fit; or it fits and some column would exceed a limit with
+-- it; or neither, and there is no memory for it.
 abbrev pub ExplainsPush : PushFault → Built → PlainValue → Type 0
 ExplainsPush push.DoesNotFit b value = FitsField b.field value → ⊥
 ExplainsPush push.TooLong b value = FitsField b.field value × (IsWithin (with_value b value) → ⊥)
@@ -34,7 +36,7 @@ array_number array.DictionaryType = 1
 array_number array.IndexRange = 2
 array_number array.Memory = 3
 
--- its words
+-- its text
 abbrev pub array_words : ArrayFault → List ℕ
 array_words array.DictionaryType = codes "a dictionary of another type than the field's values"
 array_words array.IndexRange = codes "an index without a value"
@@ -46,7 +48,7 @@ push_number push.DoesNotFit = 1
 push_number push.TooLong = 2
 push_number push.Memory = 3
 
--- its words
+-- its text
 abbrev pub push_words : PushFault → List ℕ
 push_words push.DoesNotFit = codes "a value that does not fit the field"
 push_words push.TooLong = codes "more slots or bytes than a column can have"

@@ -1,4 +1,4 @@
--- What a value has to be to stand in the column of a field (Columnar Format, "Physical Memory Layout").
+-- Which values a slot in the column of a field can hold (Columnar Format, "Physical Memory Layout").
 use Rattle.arrow_types.specs.Field.{FieldShape}
 use Rattle.arrow_data.specs.Fits.{Fits}
 use Rattle.arrow_data.specs.Form.{node_form}

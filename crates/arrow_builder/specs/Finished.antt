@@ -1,8 +1,8 @@
--- The array of a column that was built: its raw values, with the dictionaries that are listed for its ids (Columnar Format,
--- "Dictionary-encoded Layout").
+-- The array made of a built column: its raw values, with the dictionaries that are listed for its ids (Columnar
+-- Format, "Dictionary-encoded Layout").
 use Rattle.std.specs.Prelude.{◌≡◌, ℕ, ℤ, List, [], ◌∷◌, length, map, ⊤, Option, None, Some}
 use Rattle.std.specs.List.{AllByRecursion}
-use Rattle.arrow_types.specs.Field.{Fields, FieldShape, Head, none}
+use Rattle.arrow_types.specs.Field.{FieldTree, FieldShape, FieldHeader, none}
 use Rattle.arrow_types.specs.Schema.{DictionaryField, field_dictionaries}
 use Rattle.arrow_types.specs.declared.field.Encoding.{Encoding}
 use Rattle.arrow_data.specs.Column.{Column, ValueList}
@@ -18,11 +18,11 @@ use Rattle.arrow_builder.specs.Fields.{field_form}
 abbrev pub IsTyped : List (ℤ × ValueList) → DictionaryField → Type 0
 IsTyped ds d = IsOfType d.value_type (listed ds d.id)
 
--- so of the field and of all fields below it
+-- the same for the field and all fields below it
 abbrev pub AreTyped : List (ℤ × ValueList) → FieldShape → Type 0
 AreTyped ds field = AllByRecursion (IsTyped ds) (field_dictionaries field)
 
--- an index refers to one of `count` values; any other value refers to none
+-- an index refers to one of `count` values; nothing is required of any other value
 abbrev pub RefersTo : ℕ → PlainValue → Type 0
 RefersTo count null_value = ⊤
 RefersTo count (bool_value b) = ⊤
@@ -37,11 +37,11 @@ abbrev pub HaveEntries : List (ℤ × ValueList) → Option Encoding → List Pl
 HaveEntries ds None raw = ⊤
 HaveEntries ds (Some e) raw = AllByRecursion (RefersTo (length (values_by ds e.id))) raw
 
--- those of the column of the field with this head
-abbrev pub IsIndexed : List (ℤ × ValueList) → Head → List PlainValue → Type 0
+-- the same for the column of the field with this head
+abbrev pub IsIndexed : List (ℤ × ValueList) → FieldHeader → List PlainValue → Type 0
 IsIndexed ds head raw = HaveEntries ds head.encoding raw
 
--- so of the column and of all columns below it
+-- the same for the column and all columns below it
 abbrev pub AreIndexed : List (ℤ × ValueList) → Built → Type 0
 AreIndexed ds b = AllNodes (IsIndexed ds) b.field b.raw
 
@@ -49,18 +49,18 @@ AreIndexed ds b = AllNodes (IsIndexed ds) b.field b.raw
 abbrev pub dictionary_by : List (ℤ × ValueList) → DictionaryField → ℤ × ValueList
 dictionary_by ds d = (d.id, record { data_type = d.value_type; values = values_by ds d.id })
 
--- the fields of the nodes that stand below one: none below a dictionary-encoded one
-abbrev pub fields_below : Option Encoding → Fields → Fields
+-- the fields of the nodes below one: none below a dictionary-encoded one
+abbrev pub fields_below : Option Encoding → FieldTree → FieldTree
 fields_below None fields = fields
 fields_below (Some e) fields = none
 
--- the raw values of all slots of each child, also of those that no slot of the column shows
+-- the raw values of all slots of each child, also of those that no slot of the column covers
 abbrev pub child_raws : Column → List (List PlainValue)
 child_raws c = map (λ (slots : List PlainValue × List PlainValue). slots.0) c.below
 
--- The array has the type, the encoding and the raw values, and for each dictionary-encoded field, in pre-order, its dictionary.
--- Its offsets begin at 0 and leave nothing between lists, and its children have the items, or the values of their fields, and
--- no slot beside these.
+-- The array has the type, the encoding and the raw values, and for each dictionary-encoded field, in pre-order, its
+-- dictionary. Its offsets begin at 0 and leave no gaps between lists, and its children have the items, or the values
+-- of their fields, and no other slots.
 pub record IsArrayOf (ds : List (ℤ × ValueList)) (b : Built) (c : Column) : Type 0 where
   pub typed : c.data_type ≡ type_of b.field
   pub encoded : c.encoding ≡ b.field.head.encoding

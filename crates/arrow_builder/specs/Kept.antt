@@ -1,5 +1,5 @@
--- What the buffers of a node that grows have for its first `len` slots: what its form asks for, and always a validity bitmap
--- (Columnar Format, "Physical Memory Layout").
+-- What the buffers of a growing node hold for its first `len` slots: what its form needs, and always a validity
+-- bitmap (Columnar Format, "Physical Memory Layout").
 use Rattle.std.specs.Prelude.{◌≡◌, ◌≤◌, ◌<◌, ◌+◌, ◌-◌, ◌*◌, ◌^◌, ℕ, List, length, take, ⊤}
 use Rattle.std.specs.List.{AllByRecursion}
 use Rattle.arrow_data.specs.Form.{number_width, offset_bytes}
@@ -23,12 +23,12 @@ pub record KeepsFixed (len width : ℕ) (validity values : List ℕ) : Type 0 wh
   pub bits : len ≤ 8 * length validity
   pub long : width * len ≤ length values
 
--- the least number that a signed offset is too narrow for
+-- the least number that does not fit a signed offset
 abbrev pub offset_bound : OffsetWidth → ℕ
 offset_bound width = 2 ^ (8 * offset_bytes width - 1)
 
--- there is a validity bit for each slot, and one offset more than there are slots: these begin at 0, none falls, and none
--- is negative as a signed number (Columnar Format, "Variable-size Binary Layout")
+-- there is a validity bit for each slot, and one offset more than there are slots: the offsets begin at 0, do not
+-- decrease, and none is negative as a signed number (Columnar Format, "Variable-size Binary Layout")
 pub record KeepsRanges (width : OffsetWidth) (len : ℕ) (validity offsets : List ℕ) : Type 0 where
   pub bits : len ≤ 8 * length validity
   pub there : offset_bytes width * (len + 1) ≤ length offsets
@@ -36,28 +36,28 @@ pub record KeepsRanges (width : OffsetWidth) (len : ℕ) (validity offsets : Lis
   pub never : (j : ℕ) → j < len → place_of width offsets j ≤ place_of width offsets (j + 1)
   pub low : place_of width offsets len < offset_bound width
 
--- the ranges are of `top` bytes, or of that many slots of a child
+-- the ranges lie within `top` bytes, or within that many slots of a child
 pub record KeepsParts (width : OffsetWidth) (len top : ℕ) (validity offsets : List ℕ) : Type 0 where
   pub ranges : KeepsRanges width len validity offsets
   pub inside : place_of width offsets len ≤ top
 
--- there is a validity bit for each slot, and of `top` slots of a child so many for each list (Columnar Format, "Fixed-Size
--- List Layout")
+-- there is a validity bit for each slot, and the child has `size` of its `top` slots for each list (Columnar Format,
+-- "Fixed-Size List Layout")
 pub record KeepsSized (size len top : ℕ) (validity : List ℕ) : Type 0 where
   pub bits : len ≤ 8 * length validity
   pub inside : size * len ≤ top
 
--- lists have their ranges of the child's `top` slots
+-- lists have their ranges within the child's `top` slots
 abbrev pub KeepsLists : ListForm → ℕ → ℕ → List ℕ → List ℕ → Type 0
 KeepsLists (lists.Offsets width) len top validity offsets = KeepsParts width len top validity offsets
 KeepsLists (lists.Fixed size) len top validity offsets = KeepsSized size len top validity
 
--- there is a validity bit for each slot, and each child has the slot
+-- there is a validity bit for each slot, and each child has each slot
 pub record KeepsStructs (len : ℕ) (validity counts : List ℕ) : Type 0 where
   pub bits : len ≤ 8 * length validity
   pub longer : AllByRecursion (λ count. len ≤ count) counts
 
--- the buffers of a node of the form, and its children by their numbers of slots
+-- the buffers of a node of the form, and its children given by their numbers of slots
 abbrev pub Keeps : Form → ℕ → List (List ℕ) → List ℕ → Type 0
 Keeps forms.Nulls len b counts = ⊤
 Keeps forms.Bits len b counts = KeepsBools len (buffer b 0) (buffer b 1)
@@ -68,8 +68,8 @@ Keeps (forms.FixedBytes width) len b counts = KeepsFixed len width (buffer b 0) 
 Keeps (forms.Lists list) len b counts = KeepsLists list len (child_count counts) (buffer b 0) (list_offsets list b)
 Keeps forms.Structs len b counts = KeepsStructs len (buffer b 0) counts
 
--- the items of slot j begin after those of the first j lists (Columnar Format, "Variable-size List Layout", "Fixed-Size List
--- Layout"); of other forms nothing
+-- the items of slot j begin after those of the first j lists (Columnar Format, "Variable-size List Layout",
+-- "Fixed-Size List Layout"); nothing is stated of other forms
 abbrev pub CountsItems : Form → ℕ → List (List ℕ) → List PlainValue → Type 0
 CountsItems forms.Nulls len b raw = ⊤
 CountsItems forms.Bits len b raw = ⊤

@@ -1,4 +1,4 @@
--- What a node of the builder stands for, and what is known of every one.
+-- What a node of the builder represents, and the invariant of every node.
 use Rattle.std.specs.Prelude.{◌≤◌, ℕ}
 use Rattle.std.specs.List.{AllByRecursion}
 use Rattle.arrow_types.specs.View.{field_view}
@@ -21,8 +21,8 @@ slot_in a j = value_slot (field_form (field_view a.field)) (buffers_in a.buffers
 abbrev pub built_of : Inside → Built
 built_of a = record { field = field_view a.field; raw = slots a.len (slot_in a) }
 
--- The values fit the field, the buffers and the children hold them, and the children are those of the field. Each child
--- begins with the column that the values give it.
+-- The values fit the field, the buffers and the children hold them, and the children are those of the field. Each
+-- child begins with the column that the values determine for it.
 pub record IsNode (a : Inside) : Type 0 where
   pub few : a.len ≤ 2147483647
   pub kept : Keeps (field_form (field_view a.field)) a.len (buffers_in a.buffers) (counts_in a.children.items)

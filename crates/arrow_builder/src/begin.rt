@@ -8,7 +8,7 @@ ghost use Rattle.arrow_types.specs.Schema.{field_is_nested, is_nested};
 ghost use Rattle.arrow_types.specs.View.{field_view, fields_view};
 
 use crate::node::Node;
-use crate::slots::Buffers;
+use crate::slots::SlotBuffers;
 use arrow_data::form::{Form, ListForm, OffsetWidth, has_own_fields, node_form};
 use arrow_types::Field;
 use std::alloc::{AllocError, Global};
@@ -21,7 +21,7 @@ pub(crate) fn begin(alloc: Global, field: &Field) -> Result<Node, AllocError>
     ensures { IfOk result (λ b. b ≡ no_values_of (field_view field.now)) }
 {
     let children = begin_below(alloc, field)?;
-    // Called for what it says of every type.
+    // Called for what its contract says of every type.
     has_own_fields(&field.data_type);
     let form = node_form(&field.data_type, field.dictionary);
     Ok(Node {
@@ -32,7 +32,7 @@ pub(crate) fn begin(alloc: Global, field: &Field) -> Result<Node, AllocError>
     })
 }
 
-// The nodes below that of a field: those of its child fields, none where it is dictionary-encoded.
+/// The nodes below that of a field: those of its child fields, none if it is dictionary-encoded.
 #[cycle(begin)]
 fn begin_below(alloc: Global, field: &Field) -> Result<Vec<Node>, AllocError>
     requires { field_is_nested (field_view field.now) ≡ false }
@@ -45,7 +45,7 @@ fn begin_below(alloc: Global, field: &Field) -> Result<Vec<Node>, AllocError>
     }
 }
 
-// The nodes of the fields without values.
+/// The nodes of the fields without values.
 #[cycle(begin)]
 fn begin_all(alloc: Global, fields: &[Field]) -> Result<Vec<Node>, AllocError>
     requires { is_nested (fields_view fields.now) ≡ false }
@@ -58,11 +58,11 @@ fn begin_all(alloc: Global, fields: &[Field]) -> Result<Vec<Node>, AllocError>
     Ok(nodes)
 }
 
-// The buffers of no slots: offsets begin with a 0.
-fn no_slots(alloc: Global, form: Form) -> Result<Buffers, AllocError>
+/// The buffers of no slots: offsets begin with a 0.
+fn no_slots(alloc: Global, form: Form) -> Result<SlotBuffers, AllocError>
     ensures { IfOk result (λ b. (counts : List ℕ) → Keeps form 0 (buffers_in b) counts) }
 {
-    Ok(Buffers {
+    Ok(SlotBuffers {
         validity: Vec::new(alloc),
         values: match form {
             Form::Bytes(width) | Form::Texts(width) | Form::Lists(ListForm::Offsets(width)) =>
@@ -73,7 +73,7 @@ fn no_slots(alloc: Global, form: Form) -> Result<Buffers, AllocError>
     })
 }
 
-// The offset of no slots.
+/// The offset of no slots.
 fn first_offset(alloc: Global, width: OffsetWidth) -> Result<Vec<u8>, AllocError>
     ensures { IfOk result (λ v. (validity : List ℕ) → KeepsRanges width 0 validity v.items) }
 {

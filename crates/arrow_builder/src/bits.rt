@@ -1,13 +1,13 @@
-//! Bits behind others.
+//! Puts a bit after others.
 
 ghost use Rattle.std.specs.Prelude.{◌≡◌, ◌*◌, ◌≤◌, OnErr, OnOk, length};
 ghost use Rattle.arrow_builder.specs.Puts.{PutsBit};
 
 use std::alloc::AllocError;
 
-/// Puts a bit behind the first `at` ones, over what stands there.
+/// Puts a bit after the first `at` bits, overwriting a bit that is already there.
 ///
-/// The only error is `AllocError`, and the bytes are then as they were.
+/// The only error is `AllocError`, and the bytes are then unchanged.
 pub(crate) fn put_bit(bytes: &mut Vec<u8>, at: usize, bit: bool) -> Result<(), AllocError>
     requires { at ≤ 8 * length bytes.old.items }
     ensures ok { OnOk result (PutsBit at bit bytes.old.items bytes.new.items) }

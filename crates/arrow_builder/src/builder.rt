@@ -17,16 +17,17 @@ use crate::indexed::are_indexed;
 use crate::node::{Node, push_value};
 use crate::tally::{Tally, add, nothing, settle};
 use crate::typed::are_typed;
-use arrow_data::{Array, Dictionary, Listed, Value};
+use arrow_data::{Array, Dictionary, DictionaryMap, Value};
 use arrow_types::Field;
 use std::alloc::{AllocError, Global};
 use std::marker::Model;
 
 /// A column that is built value by value (Columnar Format, "Physical Memory Layout").
 ///
-/// Values are laid into buffers as they come, and no value is kept by itself. At a
-/// dictionary-encoded field a value is an index, and the dictionaries come at the end: arrays can
-/// be made of the same values again and again, with other dictionaries and after more values.
+/// Values are written into buffers as they come, and no value is kept by itself. For a
+/// dictionary-encoded field a value is an index, and the dictionaries are supplied at the end:
+/// arrays can be made of the same values again and again, with other dictionaries and after more
+/// values.
 #[derive(Drop)]
 pub struct ArrayBuilder {
     node: Node,
@@ -49,8 +50,8 @@ impl Model for ArrayBuilder {
 }
 
 impl ArrayBuilder {
-    /// A builder of the field's column, without values, or `AllocError` where a growth was refused.
-    /// In the field no encoding stands below another.
+    /// Returns a builder of the field's column, without values, or `AllocError` if an allocation
+    /// failed. No dictionary-encoded field of the given field may be below another one.
     pub fn new(alloc: Global, field: &Field) -> Result<ArrayBuilder, AllocError>
         requires { field_is_nested (field_view field.now) ≡ false }
         ensures { IfOk result (λ b. b ≡ no_values_of (field_view field.now)) }
@@ -68,13 +69,13 @@ impl ArrayBuilder {
         self.node.len()
     }
 
-    /// Puts a value behind the others, or tells the fault with the least number of those that apply:
-    /// that the value does not fit; that a column, the field's or one below it, would be too long
-    /// with it; and else that there is no memory for it. After every fault the builder is as it was.
+    /// Appends a value, or returns the fault with the least number of those that apply: that the
+    /// value does not fit; that a column, the field's or one below it, would be too long with it;
+    /// and else that there is no memory for it. After every fault the builder is unchanged.
     ///
-    /// A column has at most 2,147,483,647 slots. One of `Binary` or `Utf8` has at most as many bytes
-    /// of data, one of `LargeBinary`, `LargeUtf8` or `FixedSizeBinary` at most 2^40. A null of
-    /// `FixedSizeList` takes as many slots below it as a list ("Fixed-Size List Layout").
+    /// A column has at most 2,147,483,647 slots. One of `Binary` or `Utf8` has at most as many
+    /// bytes of data, one of `LargeBinary`, `LargeUtf8` or `FixedSizeBinary` at most 2^40. A null
+    /// of `FixedSizeList` takes as many slots below it as a list ("Fixed-Size List Layout").
     pub fn push(&mut self, value: &Value) -> Result<(), PushFault>
         ensures ok { OnOk result (self.new ≡ with_value self.old (value_view value.now)) }
         ensures err { OnErr result (self.new ≡ self.old) }
@@ -95,11 +96,11 @@ impl ArrayBuilder {
         Ok(())
     }
 
-    /// The array of the values, or the fault with the least number of those that apply. The builder
-    /// stays as it is.
+    /// Returns the array of the values, or the fault with the least number of those that apply. The
+    /// builder is unchanged.
     ///
     /// A dictionary-encoded field refers to the first dictionary that is listed for its id, or to
-    /// the empty one where none is.
+    /// the empty one if none is listed.
     pub fn finish(
         &self,
         alloc: Global,
@@ -111,7 +112,7 @@ impl ArrayBuilder {
             (λ fault. ExplainsArray fault dictionaries.now self.now) }
     {
         let len = self.node.len();
-        let listed = Listed::new(dictionaries);
+        let listed = DictionaryMap::new(dictionaries);
         if !are_typed(&self.node.field, listed) {
             return Err(ArrayFault::DictionaryType);
         }
@@ -121,7 +122,7 @@ impl ArrayBuilder {
         let Ok(array) = finish(alloc, &self.node, len, listed) else {
             return Err(ArrayFault::Memory);
         };
-        // Called for what it says of every array.
+        // Called for what its contract says of every array.
         array.len();
         Ok(array)
     }

@@ -1,4 +1,4 @@
-//! Why a value is not pushed, and why a column is no array.
+//! Why a value is not pushed, and why no array can be made of a column.
 
 ghost use Rattle.std.specs.Prelude.{◌≡◌};
 ghost use Rattle.arrow_builder.specs.Faults.{array_number, push_number};
@@ -10,13 +10,13 @@ use std::fmt;
 /// Why a value is not pushed, in the order of the faults' numbers.
 #[derive(Clone, Copy, Debug, PartialEq, Eq)]
 pub enum PushFault {
-    /// The value is none of the field: it is of another type, or a number, a byte string, an item
-    /// or a part of it does not fit.
+    /// The value does not belong to the field: it is of another type, or a number, a byte string,
+    /// an item or a part of it does not fit.
     DoesNotFit,
     /// A column, the field's own or one below it, would have more slots or more bytes of data than a
     /// column can have. The value fits.
     TooLong,
-    /// A growth was refused. None of the faults before it applies.
+    /// An allocation failed. None of the faults before it applies.
     Memory,
 }
 
@@ -61,7 +61,7 @@ impl From<AllocError> for PushFault {
     }
 }
 
-/// Why a column is no array, in the order of the faults' numbers.
+/// Why no array can be made of a column, in the order of the faults' numbers.
 #[derive(Clone, Copy, Debug, PartialEq, Eq)]
 pub enum ArrayFault {
     /// The dictionary that is listed for the id of a field has another type than the field's
@@ -69,7 +69,7 @@ pub enum ArrayFault {
     DictionaryType,
     /// An index has no value in its dictionary.
     IndexRange,
-    /// A growth was refused. None of the faults before it applies.
+    /// An allocation failed. None of the faults before it applies.
     Memory,
 }
 

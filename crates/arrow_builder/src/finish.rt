@@ -14,20 +14,21 @@ ghost use Rattle.arrow_builder.specs.Kept.{Keeps};
 ghost use Rattle.arrow_types.specs.View.{type_view};
 
 use crate::node::Node;
-use crate::slots::Buffers;
-use arrow_data::{Array, ByteRange, ChildData, Listed, NodeBuffers, SharedBody};
+use crate::slots::SlotBuffers;
+use arrow_data::{Array, ByteRange, ChildData, DictionaryMap, NodeBuffers, SharedBody};
 use arrow_types::Field;
 use bytes::Bytes;
 use std::alloc::{AllocError, Global};
 
 /// The array of the first `len` slots of a column, with the dictionaries that are listed for its
-/// fields. Each has the type of the field's values and a value for each index, as the caller knows.
+/// fields. The caller ensures that each dictionary has the type of the field's values and a value
+/// for each index.
 #[cycle(finish)]
 pub(crate) fn finish(
     alloc: Global,
     node: &Node,
     len: usize,
-    dictionaries: Listed<'_>,
+    dictionaries: DictionaryMap<'_>,
 ) -> Result<Array, AllocError>
     requires inside { len ≤ length node.now.raw }
     requires typed { AreTyped dictionaries.entries.now node.now.field }
@@ -47,13 +48,13 @@ pub(crate) fn finish(
     array_of(alloc, &node.field, slots, below)
 }
 
-// The arrays of the first `len` slots of the columns.
+/// The arrays of the first `len` slots of the columns.
 #[cycle(finish)]
 fn finish_all(
     alloc: Global,
     nodes: &[Node],
     len: usize,
-    dictionaries: Listed<'_>,
+    dictionaries: DictionaryMap<'_>,
 ) -> Result<Vec<Array>, AllocError>
     requires inside { HaveSlots len nodes.now }
     requires typed { AllByRecursion (λ b. AreTyped dictionaries.entries.now b.field) nodes.now }
@@ -68,15 +69,15 @@ fn finish_all(
     Ok(arrays)
 }
 
-// The first slots of a node, of which its buffers may hold more.
+/// The first slots of a node; its buffers may hold more.
 #[derive(Clone, Copy)]
 struct FirstSlots<'a> {
     len: usize,
-    buffers: &'a Buffers,
+    buffers: &'a SlotBuffers,
 }
 
-// The array of the first slots of a node, out of copies of its buffers, the arrays of its children
-// and, where it is dictionary-encoded, the dictionary.
+/// The array of the first slots of a node, made of copies of its buffers, the arrays of its children
+/// and, if it is dictionary-encoded, the dictionary.
 fn array_of(
     alloc: Global,
     field: &Field,
@@ -106,8 +107,8 @@ fn array_of(
     Array::from_parts(alloc, field, buffers, below)
 }
 
-// The bytes of the buffers behind each other, and where each lies.
-fn body_of(alloc: Global, buffers: &Buffers) -> Result<(SharedBody, [ByteRange; 3]), AllocError>
+/// The bytes of the buffers one after another, and the range of each.
+fn body_of(alloc: Global, buffers: &SlotBuffers) -> Result<(SharedBody, [ByteRange; 3]), AllocError>
     ensures inside { IfOk result (λ r. AllByRecursion (IsInside r.0) r.1) }
     ensures same { IfOk result (λ r. map (bytes_of r.0) r.1 ≡ buffers_in buffers.now) }
 {
@@ -120,7 +121,7 @@ fn body_of(alloc: Global, buffers: &Buffers) -> Result<(SharedBody, [ByteRange; 
     Ok((shared(alloc, body)?, [validity, values, bytes]))
 }
 
-// The range from a place up to another one.
+/// The range from one offset up to another.
 fn range(start: usize, end: usize) -> ByteRange
     ensures start { result.start ≡ start }
     ensures end { result.end ≡ end }
@@ -128,7 +129,7 @@ fn range(start: usize, end: usize) -> ByteRange
     ByteRange { start, end }
 }
 
-// The bytes as a body that arrays can share.
+/// The bytes as a body that arrays can share.
 fn shared(alloc: Global, body: Vec<u8>) -> Result<SharedBody, AllocError>
     ensures { IfOk result (λ b. b ≡ body.items) }
 {

@@ -14,9 +14,9 @@ use arrow_data::Value;
 use arrow_data::form::{Form, ListForm, NumberForm, node_form};
 use arrow_types::{BitWidth, Field};
 
-/// Whether the value may stand in a slot of the field's column.
+/// Whether a slot of the field's column can hold the value.
 ///
-/// Null fits every field. At a dictionary-encoded field any other value is an index.
+/// Null fits every field. For a dictionary-encoded field any other value must be an index.
 #[cycle(fits)]
 pub(crate) fn fits(value: &Value, field: &Field) -> bool
     ensures { IsTrue result ↔ FitsField (field_view field.now) (value_view value.now) }
@@ -35,7 +35,7 @@ pub(crate) fn fits(value: &Value, field: &Field) -> bool
     }
 }
 
-// Whether each of the items fits the one field that stands there.
+/// Whether each of the items fits the first field; if there is no field, whether there are no items.
 #[cycle(fits)]
 fn items_fit(items: &[Value], fields: &[Field]) -> bool
     ensures { IsTrue result
@@ -49,7 +49,7 @@ fn items_fit(items: &[Value], fields: &[Field]) -> bool
     true
 }
 
-// Whether there is one value of each field, and each fits its own.
+/// Whether there is one value for each field, and each fits its field.
 #[cycle(fits)]
 fn parts_fit(parts: &[Value], fields: &[Field]) -> bool
     ensures { IsTrue result
@@ -66,7 +66,7 @@ fn parts_fit(parts: &[Value], fields: &[Field]) -> bool
     true
 }
 
-// Whether slots of the form hold lists, and may hold one of so many items.
+/// Whether slots of the form hold lists, and can hold one of this many items.
 fn holds_list(form: Form, items: &[Value]) -> bool
     ensures { IsTrue result ↔ HoldsList form
         (length (list_of_values (values_of (values_view items.now)))) }
@@ -78,19 +78,19 @@ fn holds_list(form: Form, items: &[Value]) -> bool
     }
 }
 
-// Whether slots of the form hold the number.
+/// Whether slots of the form hold the number.
 fn holds_int(form: Form, number: i128) -> bool
     ensures { IsTrue result ↔ HoldsInt form number }
 {
     match form {
         Form::Numbers(NumberForm::Int { bits, signed }) => is_in_range(bits, signed, number),
-        // every number of the program
+        // every number that a value can have
         Form::Numbers(NumberForm::Int128) => true,
         _ => false,
     }
 }
 
-// Whether the number lies in the range of the width and the sign.
+/// Whether the number lies in the range of the width and the sign.
 fn is_in_range(bits: BitWidth, signed: bool, number: i128) -> bool
     ensures { IsTrue result ↔ FitsInt (int_width bits) signed number }
 {
@@ -106,7 +106,7 @@ fn is_in_range(bits: BitWidth, signed: bool, number: i128) -> bool
     }
 }
 
-// Whether slots of the form hold the byte string.
+/// Whether slots of the form hold the byte string.
 fn holds_binary(form: Form, bytes: &[u8]) -> bool
     ensures { IsTrue result ↔ HoldsBinary form bytes.now }
 {
@@ -117,7 +117,7 @@ fn holds_binary(form: Form, bytes: &[u8]) -> bool
     }
 }
 
-// Whether slots of the form hold the text.
+/// Whether slots of the form hold the text.
 fn holds_text(form: Form, text: &String) -> bool
     ensures { IsTrue result ↔ HoldsUtf8 form (string_bytes text.now) }
 {

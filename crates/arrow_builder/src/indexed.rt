@@ -9,13 +9,13 @@ ghost use Rattle.arrow_builder.specs.Finished.{AreIndexed, IsIndexed};
 use crate::node::Node;
 use arrow_data::form::int_width;
 use arrow_data::layout::are_indices;
-use arrow_data::{Listed, NumberBuffers};
+use arrow_data::{DictionaryMap, NumberBuffers};
 use arrow_types::Encoding;
 
-/// Whether each index in the first `len` slots, and in what these show of the columns below, has
-/// its value in the dictionary that is listed for its id. Takes no memory.
+/// Whether each index in the first `len` slots, and in what these cover of the columns below, has
+/// its value in the dictionary that is listed for its id. Allocates nothing.
 #[cycle(indexed)]
-pub(crate) fn are_indexed(node: &Node, len: usize, dictionaries: Listed<'_>) -> bool
+pub(crate) fn are_indexed(node: &Node, len: usize, dictionaries: DictionaryMap<'_>) -> bool
     requires { len ≤ length node.now.raw }
     ensures { IsTrue result ↔ AreIndexed dictionaries.entry.entries.now (cut_to len node.now) }
 {
@@ -23,9 +23,9 @@ pub(crate) fn are_indexed(node: &Node, len: usize, dictionaries: Listed<'_>) -> 
         && all_indexed(&node.children, node.shown(len), dictionaries)
 }
 
-// The same of some columns.
+/// The same for some columns.
 #[cycle(indexed)]
-fn all_indexed(nodes: &[Node], len: usize, dictionaries: Listed<'_>) -> bool
+fn all_indexed(nodes: &[Node], len: usize, dictionaries: DictionaryMap<'_>) -> bool
     requires { HaveSlots len nodes.now }
     ensures { IsTrue result
         ↔ AllByRecursion (λ b. AreIndexed dictionaries.entry.entries.now (cut_to len b)) nodes.now }
@@ -38,8 +38,8 @@ fn all_indexed(nodes: &[Node], len: usize, dictionaries: Listed<'_>) -> bool
     true
 }
 
-// The same of the column alone.
-fn is_indexed(node: &Node, len: usize, dictionaries: Listed<'_>) -> bool
+/// The same for only the column itself.
+fn is_indexed(node: &Node, len: usize, dictionaries: DictionaryMap<'_>) -> bool
     requires { len ≤ length node.now.raw }
     ensures { IsTrue result
         ↔ IsIndexed dictionaries.entry.entries.now node.now.field.head (take len node.now.raw) }
@@ -59,8 +59,8 @@ fn is_indexed(node: &Node, len: usize, dictionaries: Listed<'_>) -> bool
     )
 }
 
-// How many values are listed for a field with this encoding.
-fn count_for(encoding: Encoding, dictionaries: Listed<'_>) -> usize
+/// How many values are listed for a field with this encoding.
+fn count_for(encoding: Encoding, dictionaries: DictionaryMap<'_>) -> usize
     ensures { result ≡ length (values_by dictionaries.entry.entries.now encoding.id) }
 {
     match dictionaries.find(encoding.id) {

@@ -1,4 +1,4 @@
-//! Slots put behind the first ones of a node of any form without children.
+//! Slots put after the first ones of a node of any form without children.
 
 ghost use Rattle.std.specs.Prelude.{◌≡◌, ◌+◌, OnErr, OnOk, List, [], option_map};
 ghost use Rattle.arrow_data.specs.Fits.{Fits};
@@ -10,12 +10,12 @@ ghost use Rattle.arrow_builder.specs.Kept.{Keeps};
 ghost use Rattle.arrow_builder.specs.Puts.{PutsSlot, StaySlots};
 ghost use Rattle.arrow_types.specs.Field.{none};
 
-use crate::slots::{Buffers, put_bool, put_bytes, put_fixed, put_number};
+use crate::slots::{SlotBuffers, put_bool, put_bytes, put_fixed, put_number};
 use arrow_data::Value;
 use arrow_data::form::Form;
 use std::alloc::AllocError;
 
-// The truth value, if it is one.
+/// The truth value, if it is one.
 fn truth_in(value: &Value) -> Option<bool>
     ensures { result ≡ bool_in (value_view value.now) }
 {
@@ -25,7 +25,7 @@ fn truth_in(value: &Value) -> Option<bool>
     }
 }
 
-// The number, if it is one.
+/// The number, if it is one.
 fn number_in(value: &Value) -> Option<i128>
     ensures { result ≡ int_in (value_view value.now) }
 {
@@ -35,7 +35,7 @@ fn number_in(value: &Value) -> Option<i128>
     }
 }
 
-// The byte string, if it is one.
+/// The byte string, if it is one.
 fn binary_in(value: &Value) -> Option<&[u8]>
     ensures { option_map (λ b. b.now) result ≡ binary_in (value_view value.now) }
 {
@@ -45,7 +45,7 @@ fn binary_in(value: &Value) -> Option<&[u8]>
     }
 }
 
-// The bytes of the text, if it is one.
+/// The bytes of the text, if it is one.
 fn text_in(value: &Value) -> Option<&[u8]>
     ensures { option_map (λ b. b.now) result ≡ utf8_in (value_view value.now) }
 {
@@ -57,7 +57,7 @@ fn text_in(value: &Value) -> Option<&[u8]>
 
 /// Puts a value that fits into slot `at`.
 pub(crate) fn put_leaf(
-    buffers: &mut Buffers,
+    buffers: &mut SlotBuffers,
     form: Form,
     at: usize,
     value: &Value,
@@ -76,7 +76,7 @@ pub(crate) fn put_leaf(
         (value_slot form (buffers_in buffers.new) children)) }
 {
     match form {
-        // Nulls have no buffers, and lists and structs are no leaves.
+        // Nulls have no buffers, and lists and structs have children.
         Form::Nulls | Form::Lists(_) | Form::Structs => Ok(()),
         Form::Bits => put_bool(buffers, at, truth_in(value)),
         Form::Numbers(form) => put_number(buffers, form.width(), at, number_in(value)),

@@ -1,27 +1,27 @@
 //! Columns built value by value.
 //!
 //! An `ArrayBuilder` takes values of one field one after another, and makes arrays of them with the
-//! dictionaries that are listed for the ids of its fields. To contracts it is its field and its raw
-//! values (`specs/Built.antt`). What fits a field is `Fits` of `arrow_data`; what the columns
-//! below have by the values of the field's own is said in `specs/Columns.antt`, which array a
-//! column is in `specs/Finished.antt`, how long columns may be in `specs/Within.antt`, and which
-//! fault applies in `specs/Faults.antt`.
+//! dictionaries that are listed for the ids of its fields. In contracts it is its field and its raw
+//! values (`specs/Built.antt`). Whether a value fits a field is `Fits` of `arrow_data`; the columns
+//! below, by the field's values, are defined in `specs/Columns.antt`, the array of a column in
+//! `specs/Finished.antt`, how long columns may be in `specs/Within.antt`, and which fault applies
+//! in `specs/Faults.antt`.
 //!
-//! `fits` says whether a value may stand in a slot of a field. `tally` counts on every level,
-//! without memory, what the value adds, and tells whether a column would be too long with it.
+//! `fits` decides whether a slot of a field can hold a value. `tally` counts on every level,
+//! without allocating, what the value adds, and reports whether a column would be too long with it.
 //!
 //! `begin` makes the nodes of a field: its own and those of its children, each with buffers that
-//! grow. `node` puts a value that fits behind the others, in every node that it reaches: its slot,
-//! its items and its parts. Where no memory is left the values are as they were: what was put of
-//! the value lies behind the slots that the node above shows, and is cut off before the next value
-//! is put there, so that nothing has to be taken back.
+//! grow. `node` puts a value that fits after the others, in every node that it reaches: its slot,
+//! its items and its parts. If an allocation fails, the values are unchanged: what was already put
+//! of the value lies after the slots that the parent node covers, and is cut off before the next
+//! value is put there, so that nothing has to be undone.
 //!
-//! `leaf` and `slots` put one slot into the buffers of a node, over what stands behind the first
-//! ones. What is put where is said by `specs/Puts.antt`, and what the buffers hold of the first
-//! slots by `specs/Kept.antt`. A node's buffers and children hold its raw values by the slots of
-//! `arrow_data` (`specs/Nodes.antt`, `specs/Slots.antt` there).
+//! `leaf` and `slots` put one slot into the buffers of a node, overwriting what follows the first
+//! ones. `specs/Puts.antt` defines what is put at which index, and `specs/Kept.antt` what the
+//! buffers hold of the first slots. A node's buffers and children hold its raw values by the slots
+//! of `arrow_data` (`specs/Nodes.antt`, `specs/Slots.antt` there).
 //!
-//! `typed` and `indexed` look at dictionaries and indices, on every level and without memory,
+//! `typed` and `indexed` check dictionaries and indices, on every level and without allocating,
 //! before `finish` copies the buffers into the bodies of arrays.
 //!
 //! | Notion | Definition |
@@ -34,9 +34,9 @@
 //! | which fault applies | `specs/Faults.antt`: `TakesValue`, `ExplainsPush`, `ExplainsArray` |
 //! | what nodes and buffers keep | `specs/Nodes.antt`, `specs/Kept.antt`, `specs/Puts.antt`, `specs/Buffers.antt` |
 //!
-//! Of the proofs, `Held` and `Below` are of the columns of all nodes, `Counting` and `Within` of
-//! the limits, `Nested` and `NodeSlots` of one value more, and `Arrays` shows that the array of a
-//! node is that of its values.
+//! Of the proofs, `Held` and `Below` are about the columns of all nodes, `Counting` and `Within`
+//! about the limits, `Nested` and `NodeSlots` about one more value, and `Arrays` shows that the
+//! array of a node is that of its values.
 #![tactic(auto)]
 
 pub(crate) mod begin;

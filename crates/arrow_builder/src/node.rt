@@ -1,4 +1,5 @@
-//! The tree of the columns that are built: a node for each field that is not below an encoding.
+//! The tree of the columns being built: a node for each field that is not below a
+//! dictionary-encoded one.
 
 ghost use Rattle.std.specs.Prelude.{◌≡◌, ◌≤◌, ◌<◌, ℕ, length, map, replicate, take, OnErr, OnOk};
 ghost use Rattle.std.specs.List.{AllByRecursion};
@@ -15,22 +16,22 @@ ghost use Rattle.arrow_builder.specs.Fields.{FitsField, field_form};
 
 use crate::bits::put_bit;
 use crate::leaf::put_leaf;
-use crate::slots::{Buffers, SlotEnd, place_at, put_range, sized_place};
+use crate::slots::{SlotBuffers, SlotEnd, place_at, put_range, sized_place};
 use arrow_data::Value;
 use arrow_data::form::{Form, ListForm, OffsetWidth, node_form};
 use arrow_types::Field;
 use std::alloc::AllocError;
 use std::marker::Model;
 
-/// A column that grows, with the columns of its children.
+/// A growing column, with the columns of its children.
 ///
-/// A child may hold more slots than its parent shows: what a failure left is cut off before the
-/// next value is put.
+/// A child may hold more slots than its parent covers: what a failed push left there is cut off
+/// before the next value is put.
 #[derive(Drop)]
 pub(crate) struct Node {
     pub(crate) field: Field,
     pub(crate) len: usize,
-    pub(crate) buffers: Buffers,
+    pub(crate) buffers: SlotBuffers,
     pub(crate) children: Vec<Node>,
 }
 
@@ -68,14 +69,14 @@ impl Node {
         self.len
     }
 
-    // How the slots are laid.
+    /// The form of the slots.
     fn form(&self) -> Form
         ensures { result ≡ field_form self.now.field }
     {
         node_form(&self.field.data_type, self.field.dictionary)
     }
 
-    /// Leaves the first `at` slots alone.
+    /// Keeps only the first `at` slots.
     pub(crate) fn cut(&mut self, at: usize)
         requires { at ≤ length self.old.raw }
         ensures { self.new ≡ cut_to at self.old }
@@ -83,8 +84,8 @@ impl Node {
         self.len = at;
     }
 
-    /// How many slots of each child the first `len` slots show: the items of so many lists, or as
-    /// many as there are structs.
+    /// How many slots of each child the first `len` slots cover: the items of that many lists, or
+    /// as many slots as there are structs.
     pub(crate) fn shown(&self, len: usize) -> usize
         requires { len ≤ length self.now.raw }
         ensures { (k : ℕ) → result
@@ -98,7 +99,7 @@ impl Node {
         }
     }
 
-    // Puts a value that fits behind the others of a node without children.
+    /// Puts a value that fits after the others of a node without children.
     fn push_leaf(&mut self, form: Form, value: &Value) -> Result<(), AllocError>
         requires few { length self.old.raw < 2147483647 }
         requires form { form ≡ field_form self.old.field }
@@ -116,8 +117,8 @@ impl Node {
 /// The most slots that a node has.
 pub(crate) const MOST_SLOTS: usize = 2_147_483_647;
 
-/// Puts a value that fits behind the others. After an error, where no memory is left or a node
-/// would have too many slots or bytes, the values are as they were.
+/// Puts a value that fits after the others. After an error, which means that an allocation failed
+/// or a node would have too many slots or bytes, the values are unchanged.
 #[cycle(push)]
 pub(crate) fn push_value(node: &mut Node, value: &Value) -> Result<(), AllocError>
     requires { FitsField node.old.field (value_view value.now) }
@@ -135,7 +136,7 @@ pub(crate) fn push_value(node: &mut Node, value: &Value) -> Result<(), AllocErro
     }
 }
 
-// Puts a list, or null: its items behind those of the other lists, which end in the last offset.
+/// Puts a list, or null: its items after those of the other lists, which end at the last offset.
 #[cycle(push)]
 fn push_list(node: &mut Node, width: OffsetWidth, value: &Value) -> Result<(), AllocError>
     requires few { length node.old.raw < 2147483647 }
@@ -157,7 +158,7 @@ fn push_list(node: &mut Node, width: OffsetWidth, value: &Value) -> Result<(), A
     Ok(())
 }
 
-// Puts the values behind the first `start` ones.
+/// Puts the values after the first `start` ones.
 #[cycle(push)]
 fn push_items(node: &mut Node, start: usize, items: &[Value]) -> Result<(), AllocError>
     requires inside { start ≤ length node.old.raw }
@@ -174,7 +175,7 @@ fn push_items(node: &mut Node, start: usize, items: &[Value]) -> Result<(), Allo
     Ok(())
 }
 
-// Puts a list of so many items, or null.
+/// Puts a list of `size` items, or null.
 #[cycle(push)]
 fn push_sized(node: &mut Node, size: u32, value: &Value) -> Result<(), AllocError>
     requires few { length node.old.raw < 2147483647 }
@@ -187,8 +188,8 @@ fn push_sized(node: &mut Node, size: u32, value: &Value) -> Result<(), AllocErro
     push_run(node, size, value, &null)
 }
 
-// Puts a list of so many items, or null: the items, or as many nulls, after those of the other
-// lists (Columnar Format, "Fixed-Size List Layout").
+/// Puts a list of `size` items, or null: the items, or `size` nulls, after those of the other lists
+/// (Columnar Format, "Fixed-Size List Layout").
 #[cycle(push)]
 fn push_run(node: &mut Node, size: u32, value: &Value, null: &Value) -> Result<(), AllocError>
     requires few { length node.old.raw < 2147483647 }
@@ -206,7 +207,7 @@ fn push_run(node: &mut Node, size: u32, value: &Value, null: &Value) -> Result<(
     Ok(())
 }
 
-// Puts the items of a list, or so many nulls, after the first `start` values.
+/// Puts the items of a list, or `size` nulls, after the first `start` values.
 #[cycle(push)]
 fn push_slots(
     node: &mut Node,
@@ -230,7 +231,7 @@ fn push_slots(
     }
 }
 
-// Puts so many nulls after the first `start` values.
+/// Puts `count` nulls after the first `start` values.
 #[cycle(push)]
 fn push_nulls(node: &mut Node, start: usize, count: u32, null: &Value) -> Result<(), AllocError>
     requires inside { start ≤ length node.old.raw }
@@ -247,7 +248,7 @@ fn push_nulls(node: &mut Node, start: usize, count: u32, null: &Value) -> Result
     Ok(())
 }
 
-// Puts a struct, or null.
+/// Puts a struct, or null.
 #[cycle(push)]
 fn push_struct(node: &mut Node, value: &Value) -> Result<(), AllocError>
     requires few { length node.old.raw < 2147483647 }
@@ -260,7 +261,7 @@ fn push_struct(node: &mut Node, value: &Value) -> Result<(), AllocError>
     push_row(node, value, &null)
 }
 
-// Puts a struct, or null: its parts, or nulls, into the slot of the same number of each child.
+/// Puts a struct, or null: its parts, or nulls, into the slot of the same index of each child.
 #[cycle(push)]
 fn push_row(node: &mut Node, value: &Value, null: &Value) -> Result<(), AllocError>
     requires few { length node.old.raw < 2147483647 }
@@ -277,7 +278,7 @@ fn push_row(node: &mut Node, value: &Value, null: &Value) -> Result<(), AllocErr
     Ok(())
 }
 
-// Puts into slot `at` of each node its part of the struct, or null.
+/// Puts into slot `at` of each node its part of the struct, or null.
 #[cycle(push)]
 fn push_parts(nodes: &mut [Node], at: usize, value: &Value, null: &Value) -> Result<(), AllocError>
     requires there { HaveSlots at nodes.old }
@@ -293,7 +294,7 @@ fn push_parts(nodes: &mut [Node], at: usize, value: &Value, null: &Value) -> Res
     Ok(())
 }
 
-// Puts a value behind the first `at` ones.
+/// Puts a value after the first `at` ones.
 #[cycle(push)]
 fn push_at(node: &mut Node, at: usize, value: &Value) -> Result<(), AllocError>
     requires inside { at ≤ length node.old.raw }
@@ -305,21 +306,21 @@ fn push_at(node: &mut Node, at: usize, value: &Value) -> Result<(), AllocError>
     push_value(node, value)
 }
 
-/// No value.
+/// The null value.
 pub(crate) fn null() -> Value
     ensures { value_view result ≡ null_value }
 {
     Value::Null
 }
 
-// Whether there is no value.
+/// Whether the value is null.
 fn is_null(value: &Value) -> bool
     ensures { result ≡ is_null_value (value_view value.now) }
 {
     matches!(value, Value::Null)
 }
 
-/// The items of a list, none where it is null.
+/// The items of a list, none if it is null.
 pub(crate) fn items_in(value: &Value) -> &[Value]
     ensures { values_of (values_view result.now) ≡ items_of (value_view value.now) }
 {
@@ -329,7 +330,7 @@ pub(crate) fn items_in(value: &Value) -> &[Value]
     }
 }
 
-/// The value of field `k`, null where the struct is null.
+/// The value of field `k`, null if the struct is null.
 pub(crate) fn part_of<'a>(value: &'a Value, null: &'a Value, k: usize) -> &'a Value
     requires { value_view null.now ≡ null_value }
     ensures { value_view result.now ≡ field_value k (value_view value.now) }
@@ -340,7 +341,7 @@ pub(crate) fn part_of<'a>(value: &'a Value, null: &'a Value, k: usize) -> &'a Va
     }
 }
 
-// Part `k`, or null where there are fewer.
+/// Part `k`, or null if there are fewer.
 fn part_or<'a>(parts: &'a [Value], null: &'a Value, k: usize) -> &'a Value
     requires { value_view null.now ≡ null_value }
     ensures { value_view result.now ≡ nth_value k (values_of (values_view parts.now)) }

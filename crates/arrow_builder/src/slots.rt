@@ -1,7 +1,7 @@
-//! Slots put behind the first ones of a node without children.
+//! Slots put after the first ones of a node without children.
 //!
-//! The buffers may hold more than the first slots; what stands behind these is written over. Where
-//! no memory is left, the first slots are as they were.
+//! The buffers may hold more than the first slots; what follows these is overwritten. If an
+//! allocation fails, the first slots are unchanged.
 
 ghost use Rattle.std.specs.Prelude.{◌≡◌, ◌+◌, ◌++◌, IfSome, OnErr, OnOk, Bool, length, take};
 ghost use Rattle.arrow_data.specs.PlainValue.{binary_value, bool_value, int_value};
@@ -23,9 +23,9 @@ use std::alloc::AllocError;
 
 /// The buffers of a node, in the order of the format (Columnar Format, "Buffer Listing for Each
 /// Layout"): the validity bitmap; the numbers, the truth values, the byte strings of a fixed width,
-/// or the offsets; and what offsets of byte strings lead into.
+/// or the offsets; and the data that offsets of byte strings refer to.
 #[derive(Drop)]
-pub(crate) struct Buffers {
+pub(crate) struct SlotBuffers {
     pub(crate) validity: Vec<u8>,
     pub(crate) values: Vec<u8>,
     pub(crate) bytes: Vec<u8>,
@@ -33,7 +33,7 @@ pub(crate) struct Buffers {
 
 /// Puts a truth value, or null, into slot `at`.
 pub(crate) fn put_bool(
-    buffers: &mut Buffers,
+    buffers: &mut SlotBuffers,
     at: usize,
     truth: Option<bool>,
 ) -> Result<(), AllocError>
@@ -55,7 +55,7 @@ pub(crate) fn put_bool(
 
 /// Puts a number of this width, or null, into slot `at`.
 pub(crate) fn put_number(
-    buffers: &mut Buffers,
+    buffers: &mut SlotBuffers,
     width: usize,
     at: usize,
     number: Option<i128>,
@@ -80,7 +80,7 @@ pub(crate) fn put_number(
     put_bit(&mut buffers.validity, at, number.is_some())
 }
 
-// The number that is stored in the slot of a number or of null.
+/// The number that is stored in the slot of a number or of null.
 fn stored_number(width: usize, number: Option<i128>) -> i128
     requires width { IsAnyWidth width }
     requires fits { IfSome number (FitsWidth width) }
@@ -95,7 +95,7 @@ fn stored_number(width: usize, number: Option<i128>) -> i128
 
 /// Puts a byte string of this width, or null, into slot `at`.
 pub(crate) fn put_fixed(
-    buffers: &mut Buffers,
+    buffers: &mut SlotBuffers,
     width: usize,
     at: usize,
     bytes: Option<&[u8]>,
@@ -118,7 +118,7 @@ pub(crate) fn put_fixed(
     put_bit(&mut buffers.validity, at, bytes.is_some())
 }
 
-// Appends the bytes of a slot, zeros for null.
+/// Appends the bytes of a slot, zeros for null.
 fn append_fixed(values: &mut Vec<u8>, width: usize, bytes: Option<&[u8]>) -> Result<(), AllocError>
     requires { IfSome bytes (λ b. length b.now ≡ width) }
     ensures start { take (length values.old.items) values.new.items ≡ values.old.items }
@@ -132,7 +132,7 @@ fn append_fixed(values: &mut Vec<u8>, width: usize, bytes: Option<&[u8]>) -> Res
     }
 }
 
-// Appends so many zeros.
+/// Appends `count` zeros.
 fn append_zeros(values: &mut Vec<u8>, count: usize) -> Result<(), AllocError>
     ensures start { take (length values.old.items) values.new.items ≡ values.old.items }
     ensures long { OnOk result (length values.new.items ≡ length values.old.items + count) }
@@ -141,7 +141,7 @@ fn append_zeros(values: &mut Vec<u8>, count: usize) -> Result<(), AllocError>
     values.resize(end, 0)
 }
 
-/// The offset in which the first `at` slots end.
+/// The offset at which the first `at` slots end.
 pub(crate) fn place_at(width: OffsetWidth, offsets: &[u8], at: usize) -> usize
     requires there { offset_bytes width * (at + 1) ≤ length offsets.now }
     requires low { place_of width offsets.now at < offset_bound width }
@@ -150,7 +150,7 @@ pub(crate) fn place_at(width: OffsetWidth, offsets: &[u8], at: usize) -> usize
     int_at(offsets, width.bytes(), false, at) as usize
 }
 
-/// The slot of the child in which the items of `at` fixed-size lists end (Columnar Format,
+/// The slot of the child at which the items of `at` fixed-size lists end (Columnar Format,
 /// "Fixed-Size List Layout").
 pub(crate) fn sized_place(size: u32, at: usize) -> usize
     requires { at ≤ 2147483647 }
@@ -159,7 +159,7 @@ pub(crate) fn sized_place(size: u32, at: usize) -> usize
     size as usize * at
 }
 
-// Whether the number is one of a signed offset.
+/// Whether the number fits a signed offset.
 fn is_offset(width: OffsetWidth, place: usize) -> bool
     ensures { IsTrue result ↔ (place < offset_bound width) }
 {
@@ -169,17 +169,17 @@ fn is_offset(width: OffsetWidth, place: usize) -> bool
     }
 }
 
-/// Where the range of a slot ends, and whether the slot is valid. The range begins where that of the
-/// slot before ends.
+/// Where the range of a slot ends, and whether the slot is valid. The range begins where that of
+/// the previous slot ends.
 #[derive(Clone, Copy)]
 pub(crate) struct SlotEnd {
     pub(crate) end: usize,
     pub(crate) valid: bool,
 }
 
-/// Puts a range into slot `at`. The bytes that ranges lead into stay.
+/// Puts a range into slot `at`. The bytes that ranges refer to are unchanged.
 pub(crate) fn put_range(
-    buffers: &mut Buffers,
+    buffers: &mut SlotBuffers,
     width: OffsetWidth,
     at: usize,
     slot: SlotEnd,
@@ -208,7 +208,7 @@ pub(crate) fn put_range(
 
 /// Puts a byte string, or null, into slot `at`.
 pub(crate) fn put_bytes(
-    buffers: &mut Buffers,
+    buffers: &mut SlotBuffers,
     width: OffsetWidth,
     at: usize,
     part: Option<&[u8]>,
@@ -241,7 +241,7 @@ pub(crate) fn put_bytes(
     put_range(buffers, width, at, slot)
 }
 
-// Appends the bytes, nothing for null.
+/// Appends the bytes, nothing for null.
 fn append_part(bytes: &mut Vec<u8>, part: Option<&[u8]>) -> Result<(), AllocError>
     ensures start { take (length bytes.old.items) bytes.new.items ≡ bytes.old.items }
     ensures long { length bytes.old.items ≤ length bytes.new.items }

@@ -1,7 +1,7 @@
 //! How many slots and bytes of data the columns of a field have, and would have with one more
 //! value.
 //!
-//! What a value adds is counted on every level before it is put anywhere, without memory.
+//! What a value adds is counted on every level before it is put anywhere, without allocating.
 
 ghost use Rattle.std.specs.Prelude.{◌≡◌, ◌≤◌, ◌*◌, ◌↔◌, ◌∷◌, [], false, ℕ, replicate, IfOk, IsTrue};
 ghost use Rattle.arrow_data.specs.PlainValue.{null_value};
@@ -11,7 +11,7 @@ ghost use Rattle.arrow_builder.specs.Built.{given_items, sized_items};
 ghost use Rattle.arrow_builder.specs.Columns.{all_items, child_column};
 ghost use Rattle.arrow_builder.specs.Tally.{Adds, AddsBelow, AllSettle, AreCounted, Grows};
 ghost use Rattle.arrow_builder.specs.Tally.{IsCounted, Settles};
-ghost use Rattle.arrow_builder.specs.Within.{most_behind, most_bytes, slot_bytes, value_bytes};
+ghost use Rattle.arrow_builder.specs.Within.{most_after, most_bytes, slot_bytes, value_bytes};
 ghost use Rattle.arrow_types.specs.View.{field_view, fields_view};
 
 use crate::node::{MOST_SLOTS, items_in, null, part_of};
@@ -28,7 +28,7 @@ pub(crate) struct Total {
 }
 
 /// The totals of a column and of those below it: what is held, and what will be held with the value
-/// at hand. A field below an encoding has no slots.
+/// at hand. A field below a dictionary-encoded one has no slots.
 #[derive(Drop)]
 pub(crate) struct Tally {
     form: Form,
@@ -37,7 +37,8 @@ pub(crate) struct Tally {
     below: Vec<Tally>,
 }
 
-// A value in a column of the form, and null, which stands for the parts that it does not have.
+/// A value in a column of the form, and null, which is used in place of the parts that the value
+/// does not have.
 #[derive(Clone, Copy)]
 struct Given<'a> {
     form: Form,
@@ -45,7 +46,7 @@ struct Given<'a> {
     null: &'a Value,
 }
 
-// The most bytes of data of a column, where its offsets set no lower limit.
+/// The most bytes of data of a column, unless its offsets set a lower limit.
 const MOST_BYTES: u64 = 1_099_511_627_776;
 
 /// The tally of a field's column without values.
@@ -64,7 +65,7 @@ pub(crate) fn nothing(alloc: Global, field: &Field) -> Result<Tally, AllocError>
     })
 }
 
-// Those of the columns of some fields.
+/// The tallies of the columns of some fields, without values.
 #[cycle(nothing)]
 fn nothing_below(alloc: Global, fields: &[Field]) -> Result<Vec<Tally>, AllocError>
     ensures { IfOk result
@@ -77,7 +78,8 @@ fn nothing_below(alloc: Global, fields: &[Field]) -> Result<Vec<Tally>, AllocErr
     Ok(tallies)
 }
 
-/// Takes what will be held for what is held, or the other way round.
+/// Makes the totals with the value at hand the held ones, if `next`; else makes the held totals
+/// those with the value at hand.
 #[cycle(settle)]
 pub(crate) fn settle(tally: &mut Tally, next: bool)
     ensures { Settles next tally.old tally.new }
@@ -88,7 +90,7 @@ pub(crate) fn settle(tally: &mut Tally, next: bool)
     settle_all(&mut tally.below, next);
 }
 
-// The same of some tallies.
+/// The same for some tallies.
 #[cycle(settle)]
 fn settle_all(tallies: &mut [Tally], next: bool)
     ensures { AllSettle next tallies.old tallies.new }
@@ -98,8 +100,9 @@ fn settle_all(tallies: &mut [Tally], next: bool)
     }
 }
 
-/// Counts a value behind the others, in every column that it reaches. Whether none of them passes a
-/// limit by it; where one does, it is not counted to the end. What is held stays.
+/// Counts a value after the others, in every column that it reaches. Returns whether no column
+/// exceeds a limit with it; if one does, the value is not counted to the end. The held totals are
+/// unchanged.
 #[cycle(add)]
 pub(crate) fn add(tally: &mut Tally, value: &Value) -> bool
     ensures { Adds (value_view value.now ∷ []) tally.old tally.new result }
@@ -117,7 +120,7 @@ pub(crate) fn add(tally: &mut Tally, value: &Value) -> bool
     add_below(&mut tally.below, given)
 }
 
-// Counts what the value gives to each child of its column.
+/// Counts what the value contributes to each child of its column.
 #[cycle(add)]
 fn add_below(tallies: &mut [Tally], given: Given<'_>) -> bool
     requires { value_view given.null.now ≡ null_value }
@@ -132,8 +135,8 @@ fn add_below(tallies: &mut [Tally], given: Given<'_>) -> bool
     true
 }
 
-// Counts what the value gives to child `k`: a list its items, or nulls in place of them, a struct
-// its part.
+/// Counts what the value contributes to child `k`: a list its items, or nulls in place of them, a
+/// struct its part.
 #[cycle(add)]
 fn add_child(tally: &mut Tally, k: usize, given: Given<'_>) -> bool
     requires { value_view given.null.now ≡ null_value }
@@ -147,7 +150,7 @@ fn add_child(tally: &mut Tally, k: usize, given: Given<'_>) -> bool
     }
 }
 
-// Counts what the value gives to the child of a column of lists.
+/// Counts what the value contributes to the child of a column of lists.
 #[cycle(add)]
 fn add_items(tally: &mut Tally, list: ListForm, value: &Value) -> bool
     ensures { Adds (given_items list (value_view value.now)) tally.old tally.new result }
@@ -158,7 +161,7 @@ fn add_items(tally: &mut Tally, list: ListForm, value: &Value) -> bool
     }
 }
 
-// Counts the items of a list, or so many nulls.
+/// Counts the items of a list, or `size` nulls.
 #[cycle(add)]
 fn add_sized(tally: &mut Tally, size: u32, value: &Value) -> bool
     ensures { Adds (sized_items size (value_view value.now)) tally.old tally.new result }
@@ -169,7 +172,7 @@ fn add_sized(tally: &mut Tally, size: u32, value: &Value) -> bool
     }
 }
 
-// Counts so many nulls at once, in every column that they reach.
+/// Counts `count` nulls at once, in every column that they reach.
 #[cycle(nulls)]
 fn add_nulls(tally: &mut Tally, count: usize) -> bool
     ensures { Adds (replicate count null_value) tally.old tally.new result }
@@ -181,7 +184,7 @@ fn add_nulls(tally: &mut Tally, count: usize) -> bool
     nulls_below(&mut tally.below, tally.form, count)
 }
 
-// Counts what so many nulls of a column of the form give to each of its children.
+/// Counts what `count` nulls of a column of the form contribute to each of its children.
 #[cycle(nulls)]
 fn nulls_below(tallies: &mut [Tally], form: Form, count: usize) -> bool
     ensures { AddsBelow form (replicate count null_value) tallies.old tallies.new result }
@@ -194,7 +197,7 @@ fn nulls_below(tallies: &mut [Tally], form: Form, count: usize) -> bool
     true
 }
 
-// Counts what they give to one child: of structs as many nulls.
+/// Counts what they contribute to one child: for structs as many nulls.
 #[cycle(nulls)]
 fn nulls_child(tally: &mut Tally, form: Form, count: usize) -> bool
     ensures { (k : ℕ) → Adds (child_column form k (replicate count null_value))
@@ -207,8 +210,8 @@ fn nulls_child(tally: &mut Tally, form: Form, count: usize) -> bool
     }
 }
 
-// Counts what they give to the child of a column of lists: nothing where offsets are stored, and
-// in fixed-size lists as many nulls for each.
+/// Counts what they contribute to the child of a column of lists: nothing if offsets are stored, and
+/// in fixed-size lists `size` nulls for each.
 #[cycle(nulls)]
 fn nulls_items(tally: &mut Tally, list: ListForm, count: usize) -> bool
     ensures { Adds (all_items list (replicate count null_value)) tally.old tally.new result }
@@ -219,7 +222,7 @@ fn nulls_items(tally: &mut Tally, list: ListForm, count: usize) -> bool
     }
 }
 
-// Counts so many times so many nulls.
+/// Counts `count * size` nulls.
 #[cycle(nulls)]
 fn nulls_times(tally: &mut Tally, count: usize, size: u32) -> bool
     ensures { Adds (replicate (count * size) null_value) tally.old tally.new result }
@@ -230,7 +233,7 @@ fn nulls_times(tally: &mut Tally, count: usize, size: u32) -> bool
     }
 }
 
-// Counts the values one after another.
+/// Counts the values one after another.
 #[cycle(add)]
 fn add_all(tally: &mut Tally, values: &[Value]) -> bool
     ensures { Adds (values_view values.now) tally.old tally.new result }
@@ -243,7 +246,7 @@ fn add_all(tally: &mut Tally, values: &[Value]) -> bool
     true
 }
 
-// The total with one slot more, if the column passes no limit by it.
+/// The total with one more slot, if the column exceeds no limit with it.
 fn grown(total: Total, form: Form, value: &Value) -> Option<Total>
     ensures { Grows form (value_view value.now ∷ []) total result }
 {
@@ -256,7 +259,7 @@ fn grown(total: Total, form: Form, value: &Value) -> Option<Total>
     Some(Total { slots, bytes })
 }
 
-// The total with so many nulls more, if the column passes no limit by them.
+/// The total with `count` more nulls, if the column exceeds no limit with them.
 fn grown_by_nulls(total: Total, form: Form, count: usize) -> Option<Total>
     ensures { Grows form (replicate count null_value) total result }
 {
@@ -271,7 +274,8 @@ fn grown_by_nulls(total: Total, form: Form, count: usize) -> Option<Total>
     Some(Total { slots, bytes })
 }
 
-// How many bytes of data null takes in a column of the form, and the most of the column.
+/// How many bytes of data a null takes in a column of the form, and the most that the column can
+/// have.
 fn null_bytes_and_most(form: Form) -> (u64, u64)
     ensures slot { result.0 ≡ slot_bytes form null_value }
     ensures most { result.1 ≡ most_bytes form }
@@ -280,26 +284,27 @@ fn null_bytes_and_most(form: Form) -> (u64, u64)
     bytes_and_most(form, &null)
 }
 
-// Whether a column may have so many slots, and so many bytes of data where it has at most `most`.
+/// Whether a column may have `slots` slots, and `bytes` bytes of data if it can have at most `most`.
 fn is_short(slots: usize, bytes: u64, most: u64) -> bool
     ensures { IsTrue result ↔ (slots ≤ 2147483647) × (bytes ≤ most) }
 {
     slots <= MOST_SLOTS && bytes <= most
 }
 
-// How many bytes of data the value takes in a column of the form, and the most of the column.
+/// How many bytes of data the value takes in a column of the form, and the most that the column can
+/// have.
 fn bytes_and_most(form: Form, value: &Value) -> (u64, u64)
     ensures slot { result.0 ≡ slot_bytes form (value_view value.now) }
     ensures most { result.1 ≡ most_bytes form }
 {
     match form {
-        Form::Bytes(width) | Form::Texts(width) => (value_bytes(value), most_behind(width)),
+        Form::Bytes(width) | Form::Texts(width) => (value_bytes(value), most_after(width)),
         Form::FixedBytes(width) => (u64::from(width), MOST_BYTES),
         _ => (0, 0),
     }
 }
 
-// How many bytes a byte string or a text has.
+/// How many bytes a byte string or a text has, and 0 for any other value.
 fn value_bytes(value: &Value) -> u64
     ensures { result ≡ value_bytes (value_view value.now) }
 {
@@ -310,9 +315,9 @@ fn value_bytes(value: &Value) -> u64
     }
 }
 
-// The most bytes of data that offsets of a width lead into.
-fn most_behind(width: OffsetWidth) -> u64
-    ensures { result ≡ most_behind width }
+/// The most bytes of data that offsets of a width can address.
+fn most_after(width: OffsetWidth) -> u64
+    ensures { result ≡ most_after width }
 {
     match width {
         OffsetWidth::Small => width.greatest(),

@@ -6,21 +6,21 @@ ghost use Rattle.arrow_builder.specs.Finished.{AreTyped, IsTyped};
 ghost use Rattle.arrow_types.specs.Schema.{dictionary_fields, dictionary_of};
 ghost use Rattle.arrow_types.specs.View.{field_view, fields_view};
 
-use arrow_data::Listed;
+use arrow_data::DictionaryMap;
 use arrow_types::Field;
 
 /// Whether the dictionary that is listed for the id of the field, and of each field below it, has
-/// the type of that field's values. Takes no memory.
+/// the type of that field's values. Allocates nothing.
 #[cycle(typed)]
-pub(crate) fn are_typed(field: &Field, dictionaries: Listed<'_>) -> bool
+pub(crate) fn are_typed(field: &Field, dictionaries: DictionaryMap<'_>) -> bool
     ensures { IsTrue result ↔ AreTyped dictionaries.entry.entries.now (field_view field.now) }
 {
     is_typed(field, dictionaries) && all_typed(field.children(), dictionaries)
 }
 
-// The same of some fields.
+/// The same for some fields.
 #[cycle(typed)]
-fn all_typed(fields: &[Field], dictionaries: Listed<'_>) -> bool
+fn all_typed(fields: &[Field], dictionaries: DictionaryMap<'_>) -> bool
     ensures { IsTrue result ↔ AllByRecursion (IsTyped dictionaries.entry.entries.now)
         (dictionary_fields (fields_view fields.now)) }
 {
@@ -32,8 +32,8 @@ fn all_typed(fields: &[Field], dictionaries: Listed<'_>) -> bool
     true
 }
 
-// The same of the field alone.
-fn is_typed(field: &Field, dictionaries: Listed<'_>) -> bool
+/// The same for only the field itself.
+fn is_typed(field: &Field, dictionaries: DictionaryMap<'_>) -> bool
     ensures { IsTrue result ↔ AllByRecursion (IsTyped dictionaries.entry.entries.now)
         (dictionary_of (field_view field.now).head (field_view field.now).children) }
 {

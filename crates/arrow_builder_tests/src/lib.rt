@@ -1,5 +1,5 @@
-//! Tests of `arrow_builder`: columns that are built value by value, against answers that are
-//! written out.
+//! Tests of `arrow_builder`: columns that are built value by value, compared with expected results
+//! that are written out.
 #![tactic(auto)]
 
 #[cfg(test)]

@@ -1,4 +1,4 @@
-//! Columns that are built value by value, against answers that are written out.
+//! Columns that are built value by value, compared with expected results that are written out.
 
 mod arrays;
 mod building;
@@ -8,7 +8,7 @@ mod lengths;
 mod limits;
 mod noted;
 mod pushes;
+mod reported;
 mod sized;
 mod sums;
-mod told;
 mod values;

@@ -1,5 +1,5 @@
-//! A column of decimals of each width on its way: built, written, read and shown. The numbers are 1.25,
-//! none and -0.50, and those of 256 bits 2^255 - 1, none and -2^255.
+//! A column of decimals of each width: built, written, read and shown. The numbers are 1.25, null
+//! and -0.50, and for 256 bits 2^255 - 1, null and -2^255.
 
 use arrowflow::array::{Decimal, decimals};
 use arrowflow::types::{DataType, DecimalWidth, Limits, TypeSet};
@@ -40,7 +40,7 @@ const LEAST: Decimal = Decimal {
     scale: -76,
 };
 
-/// The limits of a caller who takes all types.
+/// The limits of a caller that accepts all types.
 fn limits() -> Limits {
     Limits::standard().with_types(TypeSet::All)
 }
@@ -113,7 +113,7 @@ fn stream(rt: &(impl Abort + AllocGlobal)) -> Vec<u8> {
     writer.into_sink().into_inner()
 }
 
-/// The batch that a stream has after its schema.
+/// The batch of a stream, after its schema.
 fn read(rt: &(impl Abort + AllocGlobal), bytes: &[u8]) -> Batch {
     let mut reader = StreamReader::new(rt.alloc(), limits());
     let (taken, item) = reader.read(bytes).expect(rt, "a schema");
@@ -125,11 +125,11 @@ fn read(rt: &(impl Abort + AllocGlobal), bytes: &[u8]) -> Batch {
     }
 }
 
-/// That a column has these decimals around a null.
+/// Asserts that a column has these decimals around a null.
 fn has_decimals(rt: &impl Abort, column: &Array, first: Decimal, last: Decimal) {
-    for (row, want) in [Some(first), None, Some(last)].into_iter().enumerate() {
+    for (row, expected) in [Some(first), None, Some(last)].into_iter().enumerate() {
         assert!(rt; row < column.len());
-        assert_eq!(rt; column.decimal_at(row), want, "row {row}");
+        assert_eq!(rt; column.decimal_at(row), expected, "row {row}");
     }
 }
 
@@ -148,7 +148,7 @@ fn decimals_are_read(rt: HostRuntime) {
 }
 
 #[test]
-fn decimals_are_told(rt: HostRuntime) {
+fn decimals_are_reported(rt: HostRuntime) {
     let bytes = stream(&rt);
     let text = schema_text(rt.alloc(), &mut bytes.as_slice(), &limits()).expect(&rt, "a schema");
     let lines = "a: decimal32(9, 2)\nb: decimal64(18, 2)\nc: decimal128(38, 2)\n\
@@ -170,7 +170,7 @@ fn decimals_are_told(rt: HostRuntime) {
     assert_eq!(rt; output.into_inner().as_slice(), bytes.as_slice());
 }
 
-/// Who takes the core of the types alone refuses the schema.
+/// A caller that accepts only the core types rejects the schema.
 #[test]
 fn the_core_has_no_decimals(rt: HostRuntime) {
     let bytes = stream(&rt);

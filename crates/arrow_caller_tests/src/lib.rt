@@ -1,6 +1,6 @@
-//! What a caller does who names `arrowflow` alone: the names that the front doors hand out, and a
-//! table that is built, written, read, shown, copied and sent over a connection that breaks; and the
-//! same of decimals.
+//! What a caller does that depends only on `arrowflow`: the names that the front crates export, and
+//! a table that is built, written, read, shown, copied and sent over a connection that breaks; and
+//! the same for decimals.
 #![tactic(auto)]
 
 #[cfg(test)]

@@ -1,10 +1,9 @@
-//! Each name of the surface, under the crate that has it: a name that is not handed out does not
-//! compile.
+//! Each public name, under the crate that has it: a name that is not exported does not compile.
 
 use arrowflow::ArgFault;
 use arrowflow::Plan;
+use arrowflow::RefusedItem;
 use arrowflow::ToolFault;
-use arrowflow::What;
 use arrowflow::array::Array;
 use arrowflow::array::ArrayBuilder;
 use arrowflow::array::ArrayFault;
@@ -27,8 +26,8 @@ use arrowflow::body::BodyFault;
 use arrowflow::body::body_size;
 use arrowflow::body::laws::one_body;
 use arrowflow::body::laws::one_reading;
+use arrowflow::body::laws::stored_is_canonical;
 use arrowflow::body::laws::stored_is_read;
-use arrowflow::body::laws::stored_is_tidy;
 use arrowflow::body::load;
 use arrowflow::body::rest_size;
 use arrowflow::body::store;
@@ -50,12 +49,12 @@ use arrowflow::laws::copies_are_equal;
 use arrowflow::laws::copy_of_front;
 use arrowflow::laws::text_grows;
 use arrowflow::laws::text_of_front;
+use arrowflow::meta::DecodeCost;
 use arrowflow::meta::Header;
 use arrowflow::meta::Message;
 use arrowflow::meta::MessageTree;
 use arrowflow::meta::MetaFault;
 use arrowflow::meta::RecordBatch;
-use arrowflow::meta::Work;
 use arrowflow::meta::decode;
 use arrowflow::meta::decode_counted;
 use arrowflow::meta::encode;

@@ -1,4 +1,4 @@
-//! One table on all its ways: the numbers 1, none and 3, whose stream with an alignment of 8 has
+//! One table in all its uses: the numbers 1, null and 3, whose stream with an alignment of 8 has
 //! 152 bytes of schema, 176 of batch and 8 of end marker.
 
 use arrowflow::session::{Connection, Ending, Report, run};
@@ -87,7 +87,7 @@ fn a_stream_is_read(rt: HostRuntime) {
 }
 
 #[test]
-fn a_stream_is_told_and_copied(rt: HostRuntime) {
+fn a_stream_is_reported_and_copied(rt: HostRuntime) {
     let bytes = stream(&rt);
     let limits = Limits::standard();
     let text = schema_text(rt.alloc(), &mut bytes.as_slice(), &limits).expect(&rt, "a schema");
@@ -113,8 +113,8 @@ fn a_stream_is_told_and_copied(rt: HostRuntime) {
     assert_eq!(rt; output.into_inner().as_slice(), bytes.as_slice());
 }
 
-/// The lengths of the parts, how many batches were handed out, and how it ended.
-fn told(report: &Report) -> ([usize; 3], usize, Ending) {
+/// The lengths of the `parts`, how many batches were returned, and how it ended.
+fn reported(report: &Report) -> ([usize; 3], usize, Ending) {
     let mut parts = [0; 3];
     for (length, part) in parts.iter_mut().zip(&report.parts) {
         *length = part.len();
@@ -152,7 +152,7 @@ fn connections_that_break(rt: HostRuntime) {
         let reports = run(rt.alloc(), &Limits::standard(), &connections).expect(&rt, MEMORY);
         assert!(rt; reports.len() == 1 && reports[0].refused.is_empty());
         assert!(rt;
-            told(&reports[0]) == ([152, 176, 8], handed, ending),
+            reported(&reports[0]) == ([152, 176, 8], handed, ending),
             "{deliver} bytes"
         );
     }

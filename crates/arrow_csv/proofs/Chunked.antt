@@ -1,4 +1,4 @@
--- Bytes of a field seen by lanes, and the text of a field run by run.
+-- Bytes of a field checked by lanes, and the text of a field run by run.
 use Rattle.std.proofs.Common.{◌≡◌, ◌==◌, ◌&&◌, ◌<◌, ◌≤◌, ◌+◌, ◌-◌, ◌*◌, ◌%◌, ◌^◌, ◌∷◌, ◌++◌, [], ℕ, zero, suc, Bool, true, false, not, cond, eqb, List, length, take, drop, get_or, map, replicate, refl, sym, ap, ◌∙◌, arith, append_assoc, w8}
 use Rattle.std.proofs.lemmas.Bool.{OnTrue_from, and_parts, eq-eqb, eqb-true, ne_eqb}
 use Rattle.std.proofs.lemmas.Simd.{bitmask_splat, chunk-drop, leading_from_mask_l, length-chunk, none_from_empty_mask, trailing_mask_l}
@@ -12,21 +12,21 @@ use Rattle.std.specs.Simd.Lanes.{chunk, mask_l, top, zip2}
 use Rattle.csv.specs.Writing.{default_writer, escaped, needs_byte, needs_quotes}
 use Rattle.arrow_csv.specs.Chunks.{AreAllPlain, is_mark}
 
--- whether no lane of n is this byte
+-- whether none of n lanes is this byte
 abbrev has_none : ℕ → List ℕ → ℕ → Bool
 has_none n lanes byte = (mask_l (map (top 7) (zip2 (λ a b. cond (eqb a b) 255 0) lanes (replicate n byte))) % 2 ^ 64) == 0
 
--- so none of the bytes there is
+-- then none of the bytes there is
 none_there : (n : ℕ) (field : List ℕ) (place byte : ℕ) → place + n ≤ length field → n ≤ 64 → has_none n (chunk place n field) byte ≡ true
     → (k : ℕ) → place ≤ k → k < place + n → (get_or field k 0 == byte) ≡ false
 none_there n field place byte room few none =
     none_from_empty_mask (λ x. x == byte) field place n 0 room (sym (bitmask_splat w8 eqb (chunk place n field) n byte (length-chunk place n field room) few) ∙ eqb-true _ 0 none)
 
--- a byte that is none of the four calls for no quotes
+-- a byte that is none of the four needs no quotes
 byte_plain : (b : ℕ) → (b == 44) ≡ false → (b == 34) ≡ false → (b == 13) ≡ false → (b == 10) ≡ false → needs_byte default_writer b ≡ false
 byte_plain b comma mark return feed = rw (comma, mark, return, feed) refl
 
--- the four tests of n lanes, as the code makes them
+-- the four tests of n lanes, in the form of the code
 pub plain_by_lanes : (n : ℕ) (field : List ℕ) (place : ℕ) → place + n ≤ length field → n ≤ 64
     → OnTrue (((has_none n (chunk place n field) 44 && has_none n (chunk place n field) 34) && has_none n (chunk place n field) 13) && has_none n (chunk place n field) 10)
     (AreAllPlain field place (place + n))
@@ -46,12 +46,12 @@ plain_by_lanes n field place room few = OnTrue_from _ (AreAllPlain field place (
         (none_there n field place 13 room few two.1 k from to)
         (none_there n field place 10 room few three.1 k from to)
 
--- where no byte calls for quotes, the field does not
+-- if no byte needs quotes, the field does not
 pub plain_whole : (field : List ℕ) → AreAllPlain field 0 (length field) → needs_quotes default_writer field ≡ false
 plain_whole [] plain = refl
 plain_whole (b ∷ field) plain = rw (plain 0 (omega arith) (omega arith)) (plain_whole field (λ k from to. plain (suc k) (omega arith) (omega (arith, to))))
 
--- bytes that pass to the end leave no bit
+-- if no byte up to the end matches, no bit is set
 no_bit : (b : Bool) (n l m : ℕ) → n ≤ l → cond (not b) (1 + n) 0 ≡ 1 + l → (n ≡ l → m ≡ 0) → cond b 1 0 + 2 * m ≡ 0
 no_bit true n l m le e rest = let no : ⊥ = omega arith in absurd no
 no_bit false n l m le e rest = let none = rest (omega arith) in omega arith
@@ -60,31 +60,31 @@ no_bits : (xs : List ℕ) → position_or_len is_mark xs ≡ length xs → mask_
 no_bits [] e = refl
 no_bits (x ∷ xs) e = no_bit (is_mark x) _ (length xs) _ (prefix_len-le-length (λ b. not (is_mark b)) xs) (omega (arith, e)) (no_bits xs)
 
--- the first double quote from a place on, by those of a chunk
+-- the first double quote from an index on, by those of a chunk
 by_chunk : (field : List ℕ) (i n : ℕ)
     → position_or_len is_mark (drop i field)
     ≡ cond (eqb (position_or_len is_mark (chunk i n field)) (length (chunk i n field))) (length (chunk i n field) + position_or_len is_mark (drop (i + n) field)) (position_or_len is_mark (chunk i n field))
 by_chunk field i n = ap (position_or_len is_mark) (chunk-drop i n field) ∙ prefix_len-append (λ b. not (is_mark b)) (chunk i n field) (drop (i + n) field)
 
--- a chunk without one is passed over
+-- a chunk without one is skipped
 pub chunk_passed : (field : List ℕ) (i n : ℕ) → i + n ≤ length field → mask_l (map is_mark (chunk i n field)) ≡ 0 → position_or_len is_mark (drop i field) ≡ n + position_or_len is_mark (drop (i + n) field)
 chunk_passed field i n room none =
     let part = chunk i n field in
     by_chunk field i n ∙ ap (λ b. cond b (length part + position_or_len is_mark (drop (i + n) field)) (position_or_len is_mark part)) (eq-eqb _ _ (leading_from_mask_l is_mark part none))
     ∙ ap (λ k. k + position_or_len is_mark (drop (i + n) field)) (length-chunk i n field room)
 
--- in another one the lowest bit is the first of them
+-- in any other chunk the lowest bit is the first of them
 pub chunk_marked : (field : List ℕ) (i n : ℕ) → i + n ≤ length field → n ≤ 64 → 0 < mask_l (map is_mark (chunk i n field)) → position_or_len is_mark (drop i field) ≡ count_trailing_zeros 64 (mask_l (map is_mark (chunk i n field)))
 chunk_marked field i n room few some =
     let part = chunk i n field in
     by_chunk field i n ∙ ap (λ b. cond b (length part + position_or_len is_mark (drop (i + n) field)) (position_or_len is_mark part)) (ne_eqb _ _ (λ (e : position_or_len is_mark part ≡ length part). omega (arith, no_bits part e)))
     ∙ sym (trailing_mask_l is_mark 64 part (omega (arith, length-chunk i n field room)) some)
 
--- it lies inside of the field, or is its end
+-- it lies inside the field, or is its end
 pub mark_inside : (field : List ℕ) (i : ℕ) → i ≤ length field → i + position_or_len is_mark (drop i field) ≤ length field
 mark_inside field i inside = omega (arith, prefix_len-le-length (λ b. not (is_mark b)) (drop i field), length-drop i field)
 
--- bytes none of which is a double quote are written as they are
+-- bytes without a double quote are written as they are
 escaped_run : (field : List ℕ) (n : ℕ) → ((k : ℕ) → k < n → (get_or field k 0 == 34) ≡ false) → n ≤ length field → escaped default_writer field ≡ take n field ++ escaped default_writer (drop n field)
 unfolding escaped
 escaped_run field zero plain inside = refl
@@ -113,7 +113,7 @@ run_written field out items whole i end inside is before now =
     ∙ ap (λ t. out ++ t) (sym (append_assoc (take n rest) written (34 ∷ [])))
     ∙ ap (λ t. out ++ (t ++ (34 ∷ []))) (ap (λ t. take n rest ++ escaped default_writer t) (sym left) ∙ sym run) ∙ before
 
--- and the double quote behind them
+-- and the double quote after them
 pub mark_written : (field out items whole : List ℕ) (i end : ℕ) → i ≤ length field → end ≡ i + position_or_len is_mark (drop i field) → end < length field
     → out ++ (escaped default_writer (drop end field) ++ (34 ∷ [])) ≡ whole → items ≡ out ++ (34 ∷ 34 ∷ []) → items ++ (escaped default_writer (drop (end + 1) field) ++ (34 ∷ [])) ≡ whole
 mark_written field out items whole i end inside is less before now =

@@ -1,4 +1,4 @@
--- The texts of decimals: they call for no quotes, and they are those of the whole numbers.
+-- The texts of decimals: they need no quotes, and they are those of the whole numbers.
 use Rattle.std.proofs.Common.{◌≡◌, ◌<◌, ◌+◌, ◌-◌, ◌%◌, ◌^◌, ◌∷◌, ◌++◌, [], ℕ, ℤ, zero, suc, pos, negsuc, Bool, true, false, List, length, take, drop, replicate, codes, unsigned_abs, refl, sym, ap, ◌∙◌, append_assoc, int_lt, ltb-false, of_z, arith}
 use Rattle.std.proofs.lemmas.Bool.{or_parts}
 use Rattle.std.proofs.lemmas.List.{take-append-drop}
@@ -14,7 +14,7 @@ use Rattle.arrow_csv.proofs.Numerals.{both_plain}
 
 -- ---- no quotes
 
--- a digit calls for none
+-- a digit needs none
 digit_plain : (d : ℕ) → needs_quotes default_writer ((48 + d) ∷ []) ≡ false
 digit_plain d = rw (byte_plain (48 + d) (omega arith)) refl
 
@@ -27,18 +27,18 @@ zeros_plain : (k : ℕ) → needs_quotes default_writer (replicate k 48) ≡ fal
 zeros_plain zero = refl
 zeros_plain (suc k) = zeros_plain k
 
--- of a text that calls for none, neither do the two parts
+-- if a text needs none, neither do its two parts
 parts_plain : (front back : List ℕ) → needs_quotes default_writer (front ++ back) ≡ false → (needs_quotes default_writer front ≡ false) × (needs_quotes default_writer back ≡ false)
 parts_plain front back h = or_parts (needs_quotes default_writer front) (needs_quotes default_writer back) (sym (list_any-append (needs_byte default_writer) front back) ∙ h)
 
--- nor do digits with a point among them
+-- nor do digits with a point between them
 point_plain : (places : ℕ) (ds : List ℕ) → needs_quotes default_writer ds ≡ false → needs_quotes default_writer (with_point places ds) ≡ false
 point_plain places ds h =
     let n = length ds - places in
     let both = parts_plain (take n ds) (drop n ds) (ap (needs_quotes default_writer) (take-append-drop n ds) ∙ h) in
     both_plain (take n ds ++ codes ".") (drop n ds) (both_plain (take n ds) (codes ".") both.0 refl) both.1
 
--- nor with a point or an exponent by the scale
+-- nor with a point or an exponent according to the scale
 scaled_plain : (scale : ℤ) (ds : List ℕ) → needs_quotes default_writer ds ≡ false → needs_quotes default_writer (scaled scale ds) ≡ false
 scaled_plain (pos zero) ds h = h
 scaled_plain (pos (suc k)) ds h =
@@ -50,7 +50,7 @@ sign_plain : (negative : Bool) → needs_quotes default_writer (sign_text negati
 sign_plain true = refl
 sign_plain false = refl
 
--- no decimal calls for any
+-- no decimal needs any
 pub decimal_plain : (scale number : ℤ) → needs_quotes default_writer (decimal_text scale number) ≡ false
 decimal_plain scale number =
     let digits = numeral (unsigned_abs number) in
@@ -64,7 +64,7 @@ appends_decimal scale number from negative magnitude old new read sign size is =
     let same : sign_text negative ++ scaled from (numeral magnitude) ≡ decimal_text scale number = λ i. sign_text (sym sign i) ++ scaled (read i) (numeral (sym size i)) in
     (decimal_text scale number, (refl, decimal_plain scale number), is ∙ ap (λ t. old ++ t) same)
 
--- digits, then how many zeros follow them
+-- digits, then the number of zeros that follow them
 pub exponent_text : (scale number : ℤ) (places : ℕ) (old digits one two new : List ℕ) → int_lt (pos 0) scale ≡ false → (of_z w8 scale ≡ 0 → ⊥) → places ≡ unsigned_abs scale → number ≡ pos places → places < 10 ^ 64
     → one ≡ old ++ digits → two ≡ one ++ codes "e" → new ≡ two ++ signed_decimal number → new ≡ old ++ scaled scale digits
 exponent_text (pos zero) number places old digits one two new low some size is fits first second third = absurd (some refl)

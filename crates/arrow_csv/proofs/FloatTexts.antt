@@ -1,7 +1,8 @@
--- Each floating-point number that a format holds has a text that reads back as it (`float_text`). So each pattern of bits has one:
--- its number is held by its format (`bits_fit`), and that of a pattern of 16 bits by the format of 32 bits (`half_fits`).
--- A finite number is m * 2 ^ e. Where e is -k below 0 it is m * 5 ^ k / 10 ^ k, a whole number with an exponent of 10, and else a
--- whole number itself. What is read from its text is the nearest number to this fraction, and that is the number.
+-- Each floating-point number that a format can hold has a text that parses as it (`float_text`). So each bit pattern
+-- has one: its number fits its format (`bits_fit`), and that of a pattern of 16 bits fits the format of 32 bits
+-- (`half_fits`). A finite number is m * 2 ^ e. If e is -k below 0 it is m * 5 ^ k / 10 ^ k, a whole number with an
+-- exponent of 10, and else a whole number itself. Its text parses as the number nearest to this fraction, and that is
+-- the number.
 use Rattle.std.proofs.Common.{◌≡◌, ◌<◌, ◌≤◌, ◌+◌, ◌-◌, ◌*◌, ◌/◌, ◌%◌, ◌^◌, ◌∙◌, refl, sym, ap, subst, arith, T, inl, inr}
 use Rattle.std.proofs.Common.{ℕ, ℤ, zero, suc, pos, negsuc, Bool, true, false, cond, ◌&&◌, eqb, leb, ltb, Some}
 use Rattle.std.proofs.Common.{List, [], ◌∷◌, ◌++◌, length, map, codes, append-nil, le-leb, pow-add}
@@ -43,7 +44,7 @@ digits_are : (digits : List ℕ) → AllBelowBase 10 digits → AllDigits 10 (di
 digits_are [] below = tt
 digits_are (d ∷ digits) below = (rw (digit_value-digit_char d (omega (arith, below.0))) below.0, digits_are digits below.1)
 
--- they read back as the digits that they were made of, whatever number was read before them
+-- they parse as the digits that they were made of, whatever number was read before them
 digits_back : (before : ℕ) (digits : List ℕ) → AllBelowBase 10 digits
     → digits_value_after 10 before (digits_text digits) ≡ number_from_digits_after 10 before digits
 digits_back before [] below = refl
@@ -51,17 +52,17 @@ digits_back before (d ∷ digits) below =
     let value = digit_value-digit_char d (omega (arith, below.0)) in
     ap (λ k. digits_value_after 10 (before * 10 + k) (digits_text digits)) value ∙ digits_back (before * 10 + d) digits below.1
 
--- a numeral has nothing but digits
+-- a numeral consists of digits
 numeral_is : (n : ℕ) → AllDigits 10 (numeral n)
 numeral_is n = (omega arith, digits_are (digits_of 10 n) (all_below_base_digits_of 10 n (omega arith)))
 
--- and reads back as its number
+-- and parses as its number
 numeral_back : (n : ℕ) → digits_value 10 (numeral n) ≡ n
 numeral_back n = digits_back 0 (digits_of 10 n) (all_below_base_digits_of 10 n (omega arith)) ∙ number_digits_of 10 n (omega arith)
 
 -- ---- a number that a format holds is the nearest one to its own value
 
--- the bits of a finite number, by how many times the smallest number it is
+-- the bits of a finite number, by the number as a multiple of the smallest one
 bits_by_value : (f : Format) (x : Float) (s : Bool) (a : ℕ) → HasValue x s a (2 ^ low f)
     → to_bits f x ≡ cond s (top f) 0 + (size a - prec f) * hid f + a / 2 ^ (size a - prec f)
 unfolding to_bits
@@ -71,7 +72,7 @@ bits_by_value f (fin t m e) s a value =
     let count : m * up e * 2 ^ low f / down e ≡ a = ap (λ n. n / down e) value.1 ∙ mul-div_cancel a (down_pos e) in
     λ i. cond (value.0 i) (top f) 0 + (size (count i) - prec f) * hid f + count i / 2 ^ (size (count i) - prec f)
 
--- two numbers that fit and have one value are one number
+-- two numbers that fit and have the same value are equal
 one_of_value : (f : Format) (x y : Float) (s : Bool) (a : ℕ) → T (fits f x) → T (fits f y)
     → HasValue x s a (2 ^ low f) → HasValue y s a (2 ^ low f) → x ≡ y
 one_of_value f x y s a x_fits y_fits x_value y_value =
@@ -85,11 +86,11 @@ record IsMultiple (f : Format) (m : ℕ) (e : ℤ) : Type 0 where
   in_range : m * 2 ^ power < 2 ^ (low f + suc (emax f))
   same : m * up e * 2 ^ low f ≡ m * 2 ^ power * down e
 
--- a power of two that is not greater has an exponent that is not
+-- powers of two that are ordered have exponents in the same order
 exponent_le : (a b : ℕ) → 2 ^ a ≤ 2 ^ b → a ≤ b
 exponent_le a b h = elim (cases_lt b a) [ inl l ↦ absurd (omega (arith, pow-lt l)) | inr l ↦ l ]
 
--- the power, where the exponent is not too low
+-- the power, if the exponent is not too low
 power_of : (m l : ℕ) (e : ℤ) → down e ≤ 2 ^ l → (power : ℕ) × (m * up e * 2 ^ l ≡ m * 2 ^ power * down e)
 power_of m l (pos k) h = (k + l, rw (pow-add 2 k l) (grind arith))
 power_of m l (negsuc k) h =
@@ -115,7 +116,7 @@ multiple_of f s (suc m) e h =
     let most : 2 ^ suc (emax f) * down e * 2 ^ low f ≡ 2 ^ (low f + suc (emax f)) * down e = rw (pow-add 2 (low f) (suc (emax f))) (grind arith) in
     record { power = unit.0; few_digits = few; in_range = lt_of_mul-lt-mul_right (down e) (omega arith); same = unit.1 }
 
--- a fraction of that many times the smallest number is rounded to the number
+-- a fraction with the value of that multiple of the smallest number is rounded to the number
 rounded : (f : Format) (s : Bool) (m : ℕ) (e : ℤ) (num den : ℕ) → T (fits f (fin s m e)) → 0 < den
     → ((power : ℕ) → m * up e * 2 ^ low f ≡ m * 2 ^ power * down e → num * 2 ^ low f ≡ m * 2 ^ power * den) → round f s num den ≡ fin s m e
 rounded f s m e num den h some same =
@@ -128,7 +129,7 @@ rounded f s m e num den h some same =
 
 -- ---- texts
 
--- how many digits m * 2 ^ e has after the point
+-- the number of digits of m * 2 ^ e after the point
 abbrev places : ℤ → ℕ
 places (pos k) = 0
 places (negsuc k) = suc k
@@ -154,7 +155,7 @@ scaled_parts n k = record {
   len = length (numeral n ++ 101 ∷ 45 ∷ numeral k);
 }
 
--- they are read back from their text
+-- they are recovered from their text
 scaled_well_formed : (n k : ℕ) → IsWellFormed (scaled_parts n k)
 scaled_well_formed n k = record {
   whole_digits = numeral_is n;
@@ -165,7 +166,7 @@ scaled_well_formed n k = record {
   len_is = refl;
 }
 
--- each finite number of a format has a text, which begins with a minus where the sign is set, also for -0
+-- each finite number of a format has a text, which begins with a minus if the sign is set, also for -0
 finite_text : (f : Format) (s : Bool) (m : ℕ) (e : ℤ) → T (fits f (fin s m e)) → (text : List ℕ) × (parse_float f text ≡ Some (fin s m e))
 finite_text f s m e h =
     let k = places e in
@@ -177,7 +178,7 @@ finite_text f s m e h =
     let read = parse_float-text_of f s (scaled_parts n k) (scaled_well_formed n k) (omega arith) in
     (sign_text s ++ text_of (scaled_parts n k), read ∙ (λ i. Some (round f s (digits i) (10 ^ exponent i))) ∙ ap Some value)
 
--- each number of a format has a text that reads back as it
+-- each number of a format has a text that parses as it
 pub float_text : (f : Format) (x : Float) → T (fits f x) → (text : List ℕ) × (parse_float f text ≡ Some x)
 unfolding parse_float_on_literals
 float_text f nan h = (codes "NaN", refl)
@@ -191,14 +192,14 @@ float_text f (fin s m e) h = finite_text f s m e h
 pub bits_fit : (f : Format) (b : ℕ) → T (fits f (from_bits f b))
 bits_fit f b = of_bits-fits f b
 
--- a difference stays where both numbers grow alike
+-- a difference is unchanged if both numbers grow by the same amount
 minus_shifted : (a b c : ℕ) → minus a b ≡ minus (a + c) (b + c)
 minus_shifted a b c = elim (cases_lt a b) [
   | inl l ↦ rw (lt-leb b a l, lt-leb (b + c) (a + c) (omega arith)) (ap negsuc (omega arith))
   | inr l ↦ rw (le-leb b a l, le-leb (b + c) (a + c) (omega arith)) (ap pos (omega arith))
 ]
 
--- so does q * 2 ^ k / 2 ^ l
+-- so is q * 2 ^ k / 2 ^ l
 odd_shifted : (d : ℕ) (s : Bool) (q k l c : ℕ) → odd d s q k l ≡ odd d s q (k + c) (l + c)
 unfolding odd
 odd_shifted d s zero k l c = refl
@@ -207,7 +208,7 @@ odd_shifted d s (suc q) k l c =
     let turn : k + t + c ≡ k + c + t = omega arith in
     ap (fin s (suc q / 2 ^ t)) (minus_shifted (k + t) l c ∙ ap (λ i. minus i (l + c)) turn)
 
--- a number of 11 digits in units of 2^-24 up to 2^5 is one of 32 bits, whose smallest one is 2^-149
+-- a number of 11 digits in units of 2^-24 up to 2^5 is one of 32 bits, whose smallest number is 2^-149
 small_fits : (s : Bool) (q k : ℕ) → q < 2 ^ 11 → k ≤ 29 → T (fits binary32 (odd 11 s q k 24))
 small_fits s q k few small =
     let exponent : 11 + (k + 125) ≤ 165 = omega arith in
@@ -215,7 +216,7 @@ small_fits s q k few small =
     let shifted = odd-fits binary32 11 s q (k + 125) few (omega arith) (omega arith) in
     subst (λ x. T (fits binary32 x)) (sym (odd_shifted 11 s q k 24 125)) shifted
 
--- the number of a sign, an exponent's field and digits, of 16 bits together, is one of 32 bits
+-- the number of a sign, an exponent field and digits, of 16 bits together, is one of 32 bits
 fields_fit : (s : Bool) (x t : ℕ) → x < 32 → t < 1024 → T (fits binary32 (half_of_fields s x t))
 fields_fit s zero t few digits = small_fits s t 0 (omega arith) (omega arith)
 fields_fit s (suc x) t few digits =

@@ -10,9 +10,9 @@ use Rattle.arrow_data.specs.PlainValue.{value_at}
 use Rattle.arrow_data.specs.View.{RefersTo}
 use Rattle.arrow_csv.specs.Made.{AreFirst, HasFields, IsEntryField, IsField}
 use Rattle.arrow_csv.specs.Texts.{Appends, IsFieldOf, IsSomeField}
-use Rattle.arrow_csv.specs.declared.column_text.EntryFields.{EntryFields}
+use Rattle.arrow_csv.specs.declared.column_text.DictionaryTexts.{DictionaryTexts}
 
--- a field that stood there still does behind which more was put
+-- a field that was there is still there after more was appended
 kept : (d : ValueList) (bytes places field : List ℕ) (place n : ℕ) → n + 1 < length places → IsField d bytes places n → IsField d (bytes ++ field) (places ++ place ∷ []) n
 kept d bytes places field place n h f =
     let from = get_or_append_left places (place ∷ []) 0 n (omega (arith, h)) in
@@ -26,13 +26,13 @@ kept d bytes places field place n h f =
       same = rw (from, to) (subst (IsEntryField d n) (slice_range_front bytes (bytes ++ field) start end (length bytes) (take-append_seam bytes field) f.inside) f.same);
     }
 
--- what was put behind all of a list is its end
+-- the bytes appended to a list are its end
 seam : (bytes field : List ℕ) → slice_range (bytes ++ field) (length bytes) (length (bytes ++ field)) ≡ field
 seam bytes field =
     let long : length field ≤ length (bytes ++ field) - length bytes = omega (arith, length-append bytes field) in
     ap (take (length (bytes ++ field) - length bytes)) (drop-append_seam bytes field) ∙ take_all (length (bytes ++ field) - length bytes) field long
 
--- one field more
+-- one more field
 pub first_more : (d : ValueList) (bytes places field : List ℕ) (count : ℕ) → AreFirst d bytes places count → IsEntryField d count field
     → AreFirst d (bytes ++ field) (places ++ length (bytes ++ field) ∷ []) (count + 1)
 first_more d bytes places field count h is =
@@ -59,7 +59,7 @@ first_more d bytes places field count h is =
 pub none_yet : (d : ValueList) → AreFirst d [] (0 ∷ []) 0
 none_yet d = record { long = omega arith; last = omega arith; each = λ n h. absurd (omega (arith, h)) }
 
--- a field of the slot where a value stands is one of the value
+-- a field of the slot that holds a value is a field of the value
 pub entry_field : (d : ValueList) (n : ℕ) (values : Column) (place : ℕ) (field : List ℕ) → IsValueList d → IsColumn values → HasValue d n values place
     → IsSomeField values.data_type (value_at values.resolved place) field → IsEntryField d n field
 entry_field d n values place field known column has is =
@@ -68,14 +68,14 @@ entry_field d n values place field known column has is =
     let value : value_at values.resolved place ≡ value_at d.values n = ap (λ vs. value_at vs place) plain ∙ sym has.same in
     subst (λ type. IsSomeField type (value_at d.values n) field) has.typed (subst (λ v. IsSomeField values.data_type v field) value is)
 
--- an element that is there is the same, whatever is given in place of one that is not
+-- an element that is there does not depend on the default
 at_place : (xs : List ℕ) (n a b : ℕ) → n < length xs → get_or xs n a ≡ get_or xs n b
 at_place [] n a b h = absurd (omega arith)
 at_place (x ∷ xs) zero a b h = refl
 at_place (x ∷ xs) (suc n) a b h = at_place xs n a b (omega (arith, h))
 
--- the field that was made of the value to which a slot refers is one of the slot
-pub copied_field : (null : List ℕ) (c : Column) (fields : EntryFields) (i n from to : ℕ) (old bytes new : List ℕ) → HasFields c (Some fields) → RefersTo c i n
+-- the field made of the value to which a slot refers is a field of the slot
+pub copied_field : (null : List ℕ) (c : Column) (fields : DictionaryTexts) (i n from to : ℕ) (old bytes new : List ℕ) → HasFields c (Some fields) → RefersTo c i n
     → from ≡ get_or fields.places.items n from → to ≡ get_or fields.places.items (n + 1) to → bytes ≡ fields.bytes.items → new ≡ old ++ slice_range bytes from to → Appends (IsFieldOf null c.data_type (value_at c.resolved i)) old new
 copied_field null c fields i n from to old bytes new has refers first last same all =
     let d = has.0 in

@@ -3,7 +3,7 @@ use Rattle.std.proofs.Common.{◌≡◌, ◌≤◌, ◌<◌, ◌+◌, ℕ, zero,
 use Rattle.std.proofs.lemmas.Bool.{false≢true}
 use Rattle.std.specs.Borrow.{Bor}
 use Rattle.std.specs.Str.{bytes_eq}
-use Rattle.arrow_types.specs.Field.{Fields, none, more}
+use Rattle.arrow_types.specs.Field.{FieldTree, none, more}
 use Rattle.arrow_types.specs.View.{field_view, fields_view}
 use Rattle.arrow_types.specs.declared.field.Field.{Field}
 use Rattle.arrow_data.specs.Batch.{Table, HaveRows}
@@ -11,7 +11,7 @@ use Rattle.arrow_data.specs.Column.{Column}
 use Rattle.arrow_csv.specs.Named.{Choice, HaveSlots, chosen, column_at, columns_named, field_before, fields_named, lacking, lacking_by, place_named, with_field}
 use Rattle.arrow_csv.specs.Records.{names}
 
--- the column at a place has its slots
+-- the column at an index has its slots
 slots_taken : (n k : ℕ) (cs : List Column) → HaveSlots n cs → HaveSlots n (take 1 (drop k cs))
 slots_taken n zero [] h = tt
 slots_taken n zero (c ∷ cs) h = (h.0, tt)
@@ -26,7 +26,7 @@ slots_joined : (n : ℕ) (cs ds : List Column) → HaveSlots n cs → HaveSlots 
 slots_joined n [] ds h g = g
 slots_joined n (c ∷ cs) ds h g = (h.0, slots_joined n cs ds h.1 g)
 
-slots_named : (n : ℕ) (names : List (List ℕ)) (fields : Fields) (cs : List Column) → HaveSlots n cs → HaveSlots n (columns_named names fields cs)
+slots_named : (n : ℕ) (names : List (List ℕ)) (fields : FieldTree) (cs : List Column) → HaveSlots n cs → HaveSlots n (columns_named names fields cs)
 slots_named n [] fields cs h = tt
 slots_named n (name ∷ names) fields cs h = slots_joined n (column_at (place_named name fields) cs) (columns_named names fields cs) (slots_at n (place_named name fields) cs h) (slots_named n names fields cs h)
 
@@ -57,7 +57,7 @@ found_here name (g ∷ fs) (suc k) f h before is =
     let w = none_by (bytes_eq (field_view g).head.name name) (place_named name (fields_view (take k fs))) before in
     rw w.0 (ap (option_map suc) (found_here name fs k f (omega (arith, h)) w.1 is))
 
--- a field more that is not
+-- one more field that does not have the name
 pub none_more : (name : List ℕ) (fs : List Field) (k : ℕ) (f : Field) → k < length fs → place_named name (fields_view (take k fs)) ≡ None → bytes_eq (name_at fs k f) name ≡ false → place_named name (fields_view (take (suc k) fs)) ≡ None
 none_more name [] k f h before is = absurd (omega arith)
 none_more name (g ∷ fs) zero f h before is = rw is refl
@@ -65,18 +65,18 @@ none_more name (g ∷ fs) (suc k) f h before is =
     let w = none_by (bytes_eq (field_view g).head.name name) (place_named name (fields_view (take k fs))) before in
     rw w.0 (ap (option_map suc) (none_more name fs k f (omega (arith, h)) w.1 is))
 
--- the field at a place has its name
-pub name_before : (fs : List Field) (k : ℕ) (f : Field) (others : Fields) → k < length fs → names (field_before k (fields_view fs) others) ≡ name_at fs k f ∷ names others
+-- the field at an index has its name
+pub name_before : (fs : List Field) (k : ℕ) (f : Field) (others : FieldTree) → k < length fs → names (field_before k (fields_view fs) others) ≡ name_at fs k f ∷ names others
 name_before [] k f others h = absurd (omega arith)
 name_before (g ∷ fs) zero f others h = refl
 name_before (g ∷ fs) (suc k) f others h = name_before fs k f others (omega (arith, h))
 
--- the field at a place, and others behind it
-pub name_then : (place : Option ℕ) (fields others : Fields) → names (with_field place fields none) ++ names others ≡ names (with_field place fields others)
+-- the field at an index, and others after it
+pub name_then : (place : Option ℕ) (fields others : FieldTree) → names (with_field place fields none) ++ names others ≡ names (with_field place fields others)
 name_then None fields others = refl
 name_then (Some place) fields others = by place fields
   where
-    by : (k : ℕ) (fs : Fields) → names (field_before k fs none) ++ names others ≡ names (field_before k fs others)
+    by : (k : ℕ) (fs : FieldTree) → names (field_before k fs none) ++ names others ≡ names (field_before k fs others)
     by k none = refl
     by zero (more head children rest) = refl
     by (suc k) (more head children rest) = by k rest
@@ -99,16 +99,16 @@ pub none_by_test : (p : Option ℕ) → is_some p ≡ false → p ≡ None
 none_by_test None e = refl
 none_by_test (Some k) e = absurd (false≢true (sym e))
 
--- the first name that lacks
-pub lacks_here : (ns : List (Bor (List ℕ))) (fields : Fields) (k : ℕ) (n : Bor (List ℕ)) → k < length ns → lacking (texts (take k ns)) fields ≡ None → place_named (slice_index_or ns k n).now fields ≡ None → lacking (texts ns) fields ≡ Some k
+-- the first name that no field has
+pub lacks_here : (ns : List (Bor (List ℕ))) (fields : FieldTree) (k : ℕ) (n : Bor (List ℕ)) → k < length ns → lacking (texts (take k ns)) fields ≡ None → place_named (slice_index_or ns k n).now fields ≡ None → lacking (texts ns) fields ≡ Some k
 lacks_here [] fields k n h before is = absurd (omega arith)
 lacks_here (m ∷ ns) fields zero n h before is = ap (λ p. lacking_by p (lacking (texts ns) fields)) is
 lacks_here (m ∷ ns) fields (suc k) n h before is =
     let w = none_of (place_named m.now fields) (lacking (texts (take k ns)) fields) before in
     ap (λ q. lacking_by (place_named m.now fields) q) (lacks_here ns fields k n (omega (arith, h)) w.1 is) ∙ ap (λ p. lacking_by p (Some k)) w.0.1
 
--- a name more that does not
-pub lacks_none : (ns : List (Bor (List ℕ))) (fields : Fields) (k : ℕ) (n : Bor (List ℕ)) (j : ℕ) → k < length ns → lacking (texts (take k ns)) fields ≡ None → place_named (slice_index_or ns k n).now fields ≡ Some j
+-- one more name that a field has
+pub lacks_none : (ns : List (Bor (List ℕ))) (fields : FieldTree) (k : ℕ) (n : Bor (List ℕ)) (j : ℕ) → k < length ns → lacking (texts (take k ns)) fields ≡ None → place_named (slice_index_or ns k n).now fields ≡ Some j
     → lacking (texts (take (suc k) ns)) fields ≡ None
 lacks_none [] fields k n j h before is = absurd (omega arith)
 lacks_none (m ∷ ns) fields zero n j h before is = ap (λ p. lacking_by p None) is
@@ -116,8 +116,8 @@ lacks_none (m ∷ ns) fields (suc k) n j h before is =
     let w = none_of (place_named m.now fields) (lacking (texts (take k ns)) fields) before in
     ap (λ q. lacking_by (place_named m.now fields) q) (lacks_none ns fields k n j (omega (arith, h)) w.1 is) ∙ ap (λ p. lacking_by p None) w.0.1
 
--- the fields of the names from one on are its own and those of the names behind it
-pub names_next : (ns : List (Bor (List ℕ))) (fields : Fields) (i : ℕ) (n : Bor (List ℕ)) → i < length ns
+-- the fields of the names from one on are the field of that name and those of the names after it
+pub names_next : (ns : List (Bor (List ℕ))) (fields : FieldTree) (i : ℕ) (n : Bor (List ℕ)) → i < length ns
     → names (fields_named (texts (drop i ns)) fields) ≡ names (with_field (place_named (slice_index_or ns i n).now fields) fields none) ++ names (fields_named (texts (drop (i + 1) ns)) fields)
 names_next ns fields i n h = subst (λ j. names (fields_named (texts (drop i ns)) fields) ≡ names (with_field (place_named (slice_index_or ns i n).now fields) fields none) ++ names (fields_named (texts (drop j ns)) fields)) one (by ns i h)
   where

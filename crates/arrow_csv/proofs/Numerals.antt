@@ -1,4 +1,4 @@
--- The texts of floating-point numbers call for no quotes.
+-- The texts of floating-point numbers need no quotes.
 use Rattle.std.proofs.Common.{◌≡◌, ◌∷◌, ◌++◌, [], ℕ, List, Bool, true, false, refl, sym, subst, arith, if◌then◌else◌}
 use Rattle.std.proofs.lemmas.List.Folds.{list_any-append}
 use Rattle.std.proofs.lemmas.Str.Parse.{digit_from_value}
@@ -12,11 +12,11 @@ use Rattle.ryu.specs.Plain.{IsPlain, IsPlainNumber, word_of}
 use lib.Ieee.{nan, inf, fin}
 use Rattle.arrow_csv.proofs.Digits.{byte_plain}
 
--- two texts that call for none call for none together
+-- two texts that need none need none together
 pub both_plain : (front back : List ℕ) → needs_quotes default_writer front ≡ false → needs_quotes default_writer back ≡ false → needs_quotes default_writer (front ++ back) ≡ false
 both_plain front back f b = rw (list_any-append (needs_byte default_writer) front back, f, b) refl
 
--- digits call for none
+-- digits need none
 all_plain : (ds : List ℕ) → AllDigits 10 ds → needs_quotes default_writer ds ≡ false
 all_plain [] h = refl
 all_plain (d ∷ ds) h = rw (byte_plain d (omega (arith, digit_from_value d h.0)), all_plain ds h.1) refl
@@ -34,7 +34,7 @@ fraction_plain : (point : Bool) (ds : List ℕ) → AllDigits 10 ds → needs_qu
 fraction_plain true ds h = all_plain ds h
 fraction_plain false ds h = refl
 
--- a numeral calls for none
+-- a numeral needs none
 numeral_plain : (p : Parts) → IsPlain p → needs_quotes default_writer (text_of p) ≡ false
 numeral_plain p h =
     let w = h.well_formed in
@@ -54,7 +54,7 @@ word_plain (inf true) = refl
 word_plain (inf false) = refl
 word_plain (fin s m e) = refl
 
--- no text of a floating-point number calls for any
+-- no text of a floating-point number needs any
 pub float_plain : (x : Float) (text : List ℕ) → (IsTrue (float_is_finite x) → IsPlainNumber text) → (IsFalse (float_is_finite x) → text ≡ word_of x) → needs_quotes default_writer text ≡ false
 float_plain x text finite other = by (float_is_finite x) finite other
   where

@@ -5,11 +5,11 @@ use Rattle.std.specs.Float.Ieee.{fits}
 use Rattle.std.specs.Fmt.{decimal, signed_decimal}
 use Rattle.std.specs.List.{range_with_len}
 use Rattle.std.proofs.lemmas.Grind.{flat_map-append}
-use Rattle.arrow_types.specs.DataType.{Tag}
+use Rattle.arrow_types.specs.DataType.{TypeId}
 use Rattle.arrow_types.specs.DataType as tags
 use Rattle.arrow_types.specs.declared.data_type.Precision.{Precision}
 use Rattle.arrow_types.specs.declared.data_type.Precision.TheVariants.{Half, Single, Double}
-use Rattle.arrow_types.specs.Field.{Fields, none, more, TypeShape}
+use Rattle.arrow_types.specs.Field.{FieldTree, none, more, TypeShape}
 use Rattle.arrow_data.specs.Batch.{Table}
 use Rattle.arrow_data.specs.Column.{Column}
 use Rattle.arrow_data.specs.PlainValue.{PlainValue, PlainValues, null_value, bool_value, int_value, binary_value, utf8_value, list_value, struct_value, no_values, more_values, value_at}
@@ -42,23 +42,23 @@ range_joined a (suc n) m =
 -- records of two ranges of rows, one after the other
 pub rows_join : (form : Form) (number : ℕ) (batch : Table) (start mid end : ℕ) (first second : List ℕ) → start ≤ mid → mid ≤ end → AreBatchRows form number batch start mid first → AreBatchRows form number batch mid end second
     → AreBatchRows form number batch start end (first ++ second)
-rows_join form number batch start mid end first second low high told later =
+rows_join form number batch start mid end first second low high reported later =
     let head = first_field form.numbered (decimal number) in
     let n = mid - start in
     let m = end - mid in
     let count : n + m ≡ end - start = omega (arith, low, high) in
     let place : start + n ≡ mid = omega (arith, low) in
     let R : ℕ → List (List ℕ) → Type 0 = λ i texts. AreColumnTexts form.null i batch.columns texts in
-    let behind = subst (λ k. Each R (range_with_len k m) later.0) (sym place) later.1 in
-    let each = subst (λ ks. Each R ks (told.0 ++ later.0)) (sym (range_joined start n m)) (each_joined R (range_with_len start n) (range_with_len (start + n) m) told.0 later.0 told.1 behind) in
+    let after = subst (λ k. Each R (range_with_len k m) later.0) (sym place) later.1 in
+    let each = subst (λ ks. Each R ks (reported.0 ++ later.0)) (sym (range_joined start n m)) (each_joined R (range_with_len start n) (range_with_len (start + n) m) reported.0 later.0 reported.1 after) in
     let f : List (List ℕ) → List ℕ = λ texts. record_of (head ++ texts) in
-    let text : first ++ second ≡ rows_text head (told.0 ++ later.0) = ap₂ (λ a b. a ++ b) told.2 later.2 ∙ sym (flat_map-append f told.0 later.0) in
-    let all : AreRows head form.null batch.columns start (n + m) (first ++ second) = (told.0 ++ later.0, each, text) in
+    let text : first ++ second ≡ rows_text head (reported.0 ++ later.0) = ap₂ (λ a b. a ++ b) reported.2 later.2 ∙ sym (flat_map-append f reported.0 later.0) in
+    let all : AreRows head form.null batch.columns start (n + m) (first ++ second) = (reported.0 ++ later.0, each, text) in
     subst (λ k. AreRows head form.null batch.columns start k (first ++ second)) count all
 
 -- ---- each value has a text, and each range of rows
 
--- the number of any bits is one of the format in which its texts are read back
+-- the number of any bits is one of the format in which its texts are parsed
 float_fits : (precision : Precision) (bits : ℕ) → T (fits (text_format precision) (number_of precision bits))
 float_fits Half bits = half_fits (bits % 2 ^ 16)
 float_fits Single bits = bits_fit binary32 (bits % 2 ^ 32)
@@ -68,14 +68,14 @@ float_fits Double bits = bits_fit binary64 bits
 some_float : (precision : Precision) (bits : ℕ) → (text : List ℕ) × IsFloatText precision bits text
 some_float precision bits = float_text (text_format precision) (number_of precision bits) (float_fits precision bits)
 
--- each number has
-some_number : (tag : Tag) (z : ℤ) → (text : List ℕ) × IsNumberText tag z text
+-- each number has a text
+some_number : (tag : TypeId) (z : ℤ) → (text : List ℕ) × IsNumberText tag z text
 some_number (tags.floating_point precision) z = some_float precision (bits_in z)
 some_number (tags.decimal _ _ scale) z = (decimal_text scale z, refl)
 some_number (tags.interval _) z = (months_text z, refl)
 some_number _ z = (signed_decimal z, refl)
 
--- each value has: lists and structs by the texts of what is in them
+-- each value has a text: lists and structs by the texts of their items and fields
 mutual
   pub some_text : (empty : List ℕ) (type : TypeShape) (value : PlainValue) → (text : List ℕ) × IsText empty type value text
   some_text empty type null_value = (empty, refl)
@@ -87,7 +87,7 @@ mutual
   some_text empty type (list_value items) = let w = some_items type.children items in (codes "[" ++ joined w.0 ++ codes "]", (w.0, w.1, refl))
   some_text empty type (struct_value parts) = let w = some_parts type.children parts in (codes "{" ++ joined w.0 ++ codes "}", (w.0, w.1, refl))
 
-  some_items : (fields : Fields) (items : PlainValues) → (texts : List (List ℕ)) × AreItemTexts fields items texts
+  some_items : (fields : FieldTree) (items : PlainValues) → (texts : List (List ℕ)) × AreItemTexts fields items texts
   some_items none items = ([], refl)
   some_items (more head children rest) no_values = ([], refl)
   some_items (more head children rest) (more_values item items) =
@@ -95,7 +95,7 @@ mutual
       let others = some_items (more head children rest) items in
       (one.0 ∷ others.0, (one.1, others.1))
 
-  some_parts : (fields : Fields) (parts : PlainValues) → (texts : List (List ℕ)) × ArePartTexts fields parts texts
+  some_parts : (fields : FieldTree) (parts : PlainValues) → (texts : List (List ℕ)) × ArePartTexts fields parts texts
   some_parts none parts = ([], refl)
   some_parts (more head children rest) no_values = ([], refl)
   some_parts (more head children rest) (more_values part parts) =
@@ -103,12 +103,12 @@ mutual
       let others = some_parts rest parts in
       ((head.name ++ codes "=" ++ one.0) ∷ others.0, ((one.0, one.1, refl), others.1))
 
--- where each element has a second one in the relation, each list has a second list
+-- if each element has a partner in the relation, each list has a partner
 some_each : {A B : Type 0} (R : A → B → Type 0) → ((x : A) → (y : B) × R x y) → (xs : List A) → (ys : List B) × Each R xs ys
 some_each R all [] = ([], tt)
 some_each R all (x ∷ xs) = let w = some_each R all xs in ((all x).0 ∷ w.0, ((all x).1, w.1))
 
--- and the rows of these columns have
+-- and the rows of these columns have a text
 pub some_rows : (first : List (List ℕ)) (null : List ℕ) (columns : List Column) (start count : ℕ) → (text : List ℕ) × AreRows first null columns start count text
 some_rows first null columns start count =
     let row : (i : ℕ) → (texts : List (List ℕ)) × AreColumnTexts null i columns texts = λ i. some_each (λ (c : Column) text. IsText null c.data_type (value_at c.resolved i) text) (λ c. some_text null c.data_type (value_at c.resolved i)) columns in

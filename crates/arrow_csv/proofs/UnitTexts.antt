@@ -8,7 +8,7 @@ use Rattle.arrow_csv.specs.Intervals.{bytes_text, counted, interval_text, months
 use Rattle.arrow_csv.specs.Texts.{Appends, IsPlain, IsText}
 use Rattle.arrow_csv.proofs.Numerals.{both_plain}
 
--- just this text was appended, which calls for no quotes
+-- exactly this text was appended, and it needs no quotes
 abbrev pub AppendsJust : List ℕ → List ℕ → List ℕ → Type 0
 AppendsJust text old new = Appends (IsPlain (λ t. t ≡ text)) old new
 
@@ -19,7 +19,7 @@ just_both front back old mid new first second =
     let u = second.0 in
     (t ++ u, (ap₂ (λ x y. x ++ y) first.1.0 second.1.0, both_plain t u first.1.1 second.1.1), second.2 ∙ ap (λ m. m ++ u) first.2 ∙ append_assoc old t u)
 
--- the text of the bytes is one of the value
+-- the text of the bytes is a text of the value
 pub binary_text : (null : List ℕ) (type from : TypeShape) (v : PlainValue) (bytes text : List ℕ) → v ≡ binary_value bytes → from ≡ type → text ≡ bytes_text from.tag bytes → IsText null type v text
 binary_text null type from v bytes text holds same is =
     subst (λ w. IsText null type w text) (sym holds) (subst (λ (x : TypeShape). text ≡ bytes_text x.tag bytes) same is)

@@ -2,7 +2,7 @@
 use Rattle.std.specs.Prelude.{◌++◌, ℕ, ℤ, List, Some, None, codes}
 use Rattle.std.specs.Fmt.{signed_decimal}
 use Rattle.hex.specs.Hex.{encode_lower}
-use Rattle.arrow_types.specs.DataType.{Tag}
+use Rattle.arrow_types.specs.DataType.{TypeId}
 use Rattle.arrow_types.specs.DataType as tags
 use Rattle.arrow_data.specs.Decimals.{decimal_of_bytes, unscaled_of}
 use Rattle.arrow_data.specs.Intervals.{interval_of_bytes}
@@ -14,7 +14,7 @@ use Rattle.arrow_data.specs.declared.intervals.Interval.TheVariants.{YearMonth, 
 abbrev pub counted : ℤ → List ℕ → List ℕ
 counted number unit = signed_decimal number ++ unit
 
--- so many months
+-- the text of a number of months
 abbrev pub months_text : ℤ → List ℕ
 months_text months = counted months (codes "M")
 
@@ -24,8 +24,8 @@ interval_text (YearMonth months) = months_text months
 interval_text (DayTime days milliseconds) = counted days (codes "d") ++ counted milliseconds (codes "ms")
 interval_text (MonthDayNano months days nanoseconds) = months_text months ++ counted days (codes "d") ++ counted nanoseconds (codes "ns")
 
--- the text of bytes by the type of the value: of a decimal and of an interval its own, of all others hexadecimal digits
-abbrev pub bytes_text : Tag → List ℕ → List ℕ
+-- the text of bytes by the type of the value: a decimal and an interval have their own, all others hexadecimal digits
+abbrev pub bytes_text : TypeId → List ℕ → List ℕ
 bytes_text (tags.decimal _ _ scale) bytes = elim (decimal_of_bytes scale bytes) [ None ↦ encode_lower bytes | Some decimal ↦ decimal_text decimal.scale (unscaled_of decimal) ]
 bytes_text (tags.interval unit) bytes = elim (interval_of_bytes unit bytes) [ None ↦ encode_lower bytes | Some interval ↦ interval_text interval ]
 bytes_text _ bytes = encode_lower bytes

@@ -13,7 +13,7 @@ pub record Form : Type 0 where
 abbrev pub form_code : Coded Form
 form_code = code_by (List ℕ × Bool) (coded× (coded_list coded_ℕ) coded_bool) (λ f. (f.null, f.numbered)) (λ p. record { null = p.0; numbered = p.1 }) (λ _. refl)
 
--- a null is the empty text where no other is given
+-- a null is the empty text if no other is given
 abbrev pub null_by : Option (Bor (List ℕ)) → List ℕ
 null_by None = []
 null_by (Some text) = text.now

@@ -5,7 +5,7 @@ use Rattle.std.specs.Coded.{Coded, code_by, coded×, coded_ℕ}
 use Rattle.std.specs.Fmt.{decimal}
 use Rattle.std.specs.List.{flat_map, range_with_len}
 use Rattle.csv.specs.Writing.{default_writer, fields_text, row_body, row_text}
-use Rattle.arrow_types.specs.Field.{Fields, none, more}
+use Rattle.arrow_types.specs.Field.{FieldTree, none, more}
 use Rattle.arrow_types.specs.Notes.{SchemaShape}
 use Rattle.arrow_data.specs.Batch.{Table, table_code}
 use Rattle.arrow_data.specs.Column.{Column}
@@ -18,12 +18,12 @@ abbrev pub record_of : List (List ℕ) → List ℕ
 record_of fields = row_text default_writer fields
 
 -- the names of the columns, in their order
-abbrev pub names : Fields → List (List ℕ)
+abbrev pub names : FieldTree → List (List ℕ)
 names none = []
 names (more head children rest) = head.name ∷ names rest
 
 -- the first record: the word `batch`, if records have numbers, and the names of the columns
-abbrev pub header_record : Form → Fields → List ℕ
+abbrev pub header_record : Form → FieldTree → List ℕ
 header_record form schema = record_of (first_field form.numbered (codes "batch") ++ names schema)
 
 -- texts of the columns' values in slot i, indices looked up; a null has the given text
@@ -34,7 +34,7 @@ AreColumnTexts null i columns texts = Each (λ (c : Column) text. IsText null c.
 abbrev pub rows_text : List (List ℕ) → List (List (List ℕ)) → List ℕ
 rows_text first rows = flat_map (λ texts. record_of (first ++ texts)) rows
 
--- records of so many rows of these columns from `start` on
+-- records of `count` rows of these columns from `start` on
 abbrev pub AreRows : List (List ℕ) → List ℕ → List Column → ℕ → ℕ → List ℕ → Type 0
 AreRows first null columns start count text =
     (rows : List (List (List ℕ))) × Each (λ i texts. AreColumnTexts null i columns texts) (range_with_len start count) rows × (text ≡ rows_text first rows)
@@ -74,18 +74,18 @@ AreFieldsAfter null columns i text = (texts : List (List ℕ)) × AreColumnTexts
 abbrev pub AreFieldsJoined : List ℕ → List Column → ℕ → List ℕ → Type 0
 AreFieldsJoined null columns i text = (texts : List (List ℕ)) × AreColumnTexts null i columns texts × (text ≡ row_body default_writer texts)
 
--- a row of no other fields than those of its values
+-- a row of only the fields of its values
 abbrev pub IsBareRow : List ℕ → List Column → ℕ → List ℕ → Type 0
 IsBareRow null columns i text = (texts : List (List ℕ)) × AreColumnTexts null i columns texts × (text ≡ record_of texts)
 
 -- a row whose first field has this text: texts of the values after it, each after a comma, and a line feed
-abbrev pub IsRowBehind : List ℕ → List ℕ → List Column → ℕ → List ℕ → Type 0
-IsRowBehind head null columns i text = (texts : List (List ℕ)) × AreColumnTexts null i columns texts × (text ≡ head ++ (fields_text default_writer texts ++ codes "\n"))
+abbrev pub IsRowPast : List ℕ → List ℕ → List Column → ℕ → List ℕ → Type 0
+IsRowPast head null columns i text = (texts : List (List ℕ)) × AreColumnTexts null i columns texts × (text ≡ head ++ (fields_text default_writer texts ++ codes "\n"))
 
 -- a row of either kind
 abbrev pub IsRowAfter : Option (Bor (List ℕ)) → List ℕ → List Column → ℕ → List ℕ → Type 0
 IsRowAfter None = IsBareRow
-IsRowAfter (Some head) = IsRowBehind head.now
+IsRowAfter (Some head) = IsRowPast head.now
 
 -- the text of the number that is shown, if one is
 abbrev pub IsHead : Option ℕ → Option (Bor (List ℕ)) → Type 0

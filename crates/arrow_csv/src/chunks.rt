@@ -1,4 +1,4 @@
-//! Bytes of a field that call for quotes, looked for sixteen at a time, sixty-four in long fields.
+//! Search for the bytes of a field that need quotes: sixteen at a time, sixty-four in long fields.
 
 ghost use Rattle.std.specs.Prelude.{◌≡◌, ◌+◌, ◌-◌, ◌≤◌, length, drop, map};
 ghost use Rattle.std.specs.Bool.{OnTrue};
@@ -9,7 +9,7 @@ ghost use Rattle.arrow_csv.specs.Chunks.{AreAllPlain, is_mark};
 
 use std::simd::prelude::*;
 
-/// Whether a byte of the field calls for quotes.
+/// Whether a byte of the field needs quotes.
 pub(crate) fn calls_for_quotes(field: &[u8]) -> bool
     ensures { result ≡ needs_quotes default_writer field.now }
 {
@@ -19,8 +19,8 @@ pub(crate) fn calls_for_quotes(field: &[u8]) -> bool
     has_special(field)
 }
 
-/// Whether chunks of eight or sixteen bytes show that no byte calls for quotes. Of a field of less
-/// than eight bytes they show nothing. The last chunk may begin inside of the one before it.
+/// Whether chunks of eight or sixteen bytes show that no byte needs quotes. For a field of less
+/// than eight bytes they show nothing. The last chunk may begin inside the one before it.
 #[inline(always)]
 fn has_plain_chunks(field: &[u8]) -> bool
     ensures { OnTrue result (AreAllPlain field.now 0 (length field.now)) }
@@ -35,7 +35,7 @@ fn has_plain_chunks(field: &[u8]) -> bool
     }
 }
 
-/// The same of all chunks of sixteen bytes that lie one behind the other, up to the last one.
+/// The same for all consecutive chunks of sixteen bytes, up to the last one.
 #[inline(always)]
 fn has_plain_sixteens(field: &[u8]) -> bool
     requires { 16 ≤ length field.now }
@@ -51,8 +51,7 @@ fn has_plain_sixteens(field: &[u8]) -> bool
     true
 }
 
-/// The end of the blocks of sixty-four bytes, from the first one on, in which no byte calls for
-/// quotes.
+/// The end of the blocks of sixty-four bytes, from the first one on, in which no byte needs quotes.
 #[inline(always)]
 fn end_of_plain_blocks(field: &[u8]) -> usize
     ensures plain { AreAllPlain field.now 0 result }
@@ -65,7 +64,7 @@ fn end_of_plain_blocks(field: &[u8]) -> usize
     place
 }
 
-/// Whether none of the sixty-four bytes at a place calls for quotes.
+/// Whether none of the sixty-four bytes from index `place` on needs quotes.
 #[inline(always)]
 fn are_sixty_four_plain(field: &[u8], place: usize) -> bool
     requires { place + 64 ≤ length field.now }
@@ -77,7 +76,7 @@ fn are_sixty_four_plain(field: &[u8], place: usize) -> bool
         & are_sixteen_plain(field, place + 48)
 }
 
-/// Whether none of the sixteen bytes at a place calls for quotes.
+/// Whether none of the sixteen bytes from index `place` on needs quotes.
 #[inline(always)]
 fn are_sixteen_plain(field: &[u8], place: usize) -> bool
     requires { place + 16 ≤ length field.now }
@@ -91,7 +90,7 @@ fn are_sixteen_plain(field: &[u8], place: usize) -> bool
     (commas == 0) & (quotes == 0) & (returns == 0) & (feeds == 0)
 }
 
-/// Whether none of the eight bytes at a place calls for quotes.
+/// Whether none of the eight bytes from index `place` on needs quotes.
 #[inline(always)]
 fn are_eight_plain(field: &[u8], place: usize) -> bool
     requires { place + 8 ≤ length field.now }
@@ -105,14 +104,14 @@ fn are_eight_plain(field: &[u8], place: usize) -> bool
     (commas == 0) & (quotes == 0) & (returns == 0) & (feeds == 0)
 }
 
-/// Whether a byte calls for quotes around its field.
+/// Whether a byte needs quotes around its field.
 fn is_special(byte: u8) -> bool
     ensures { result ≡ needs_byte default_writer byte }
 {
     byte == b',' || byte == b'"' || byte == b'\r' || byte == b'\n'
 }
 
-/// Whether a byte of the field calls for quotes, one after another.
+/// Whether a byte of the field needs quotes, byte by byte.
 fn has_special(field: &[u8]) -> bool
     ensures { result ≡ needs_quotes default_writer field.now }
 {
@@ -124,7 +123,7 @@ fn has_special(field: &[u8]) -> bool
     false
 }
 
-/// The place of the first double quote from a place on, or the end of the field.
+/// The index of the first double quote from index `from` on, or the end of the field.
 pub(crate) fn quote_place(field: &[u8], from: usize) -> usize
     requires { from ≤ length field.now }
     ensures value { result ≡ from + position_or_len is_mark (drop from field.now) }

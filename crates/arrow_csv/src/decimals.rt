@@ -7,18 +7,18 @@ ghost use Rattle.arrow_csv.specs.Decimals.{decimal_text, numeral, scaled, with_p
 ghost use Rattle.arrow_csv.specs.Texts.{Appends, IsPlain};
 ghost use Rattle.arrow_csv.specs.Wide.{wide_number};
 
-use crate::texts::push_number;
+use crate::digit_texts::push_number;
 use crate::wide::{Wide, first_digit};
 use arrow_data::Decimal;
 use itoa::Buffer;
 use std::alloc::AllocError;
 
-/// Appends the text of a decimal: of a whole number of at most 128 bits that is to be divided by 10
-/// to the power of the scale.
+/// Appends the text of a decimal: a whole number of at most 128 bits divided by 10 to the power of
+/// the scale.
 ///
 /// It has the digits of the number with a point before the last ones, as many as the scale says
-/// (`-0.50`), and none where the scale is 0; where it is below 0, an exponent (`12e3`). It calls for
-/// no quotes in a record. If an allocation fails, the vector may have a beginning of the text.
+/// (`-0.50`), and none if the scale is 0; if it is below 0, an exponent (`12e3`). It needs no
+/// quotes in a record. If an allocation fails, the vector may have a beginning of the text.
 #[inline(never)]
 pub fn push_decimal(out: &mut Vec<u8>, scale: i8, number: i128) -> Result<(), AllocError>
     ensures { OnOk result (Appends (IsPlain (λ text. text ≡ decimal_text scale number))
@@ -96,8 +96,8 @@ fn push_places(out: &mut Vec<u8>, scale: i8, digits: &[u8]) -> Result<(), AllocE
     }
 }
 
-/// Appends digits with a point before the last `places` of them, and zeros in front where they are
-/// too few.
+/// Appends digits with a point before the last `places` of them, and leading zeros if they are too
+/// few.
 fn push_pointed(out: &mut Vec<u8>, places: u8, digits: &[u8]) -> Result<(), AllocError>
     ensures { OnOk result (out.new.items
         ≡ out.old.items ++ with_point places (zero_filled (places + 1) digits.now)) }

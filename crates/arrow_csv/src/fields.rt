@@ -1,4 +1,4 @@
-//! The fields of a record, with quotes where they call for them (RFC 4180).
+//! The fields of a record, with quotes if they need them (RFC 4180).
 
 ghost use Rattle.std.specs.Prelude.{◌≡◌, ◌≤◌, ◌++◌, OnOk, drop, take, length};
 ghost use Rattle.csv.specs.Writing.{default_writer, field_text, quoted};
@@ -7,7 +7,7 @@ ghost use Rattle.arrow_csv.specs.Layouts.{null_by};
 use crate::chunks::{calls_for_quotes, quote_place};
 use std::alloc::AllocError;
 
-/// Appends a field between quotes, with its own written twice.
+/// Appends a field between quotes, with each double quote in it written twice.
 #[tactic(auto, unfolding(csv::specs::Writing::escaped))]
 fn push_quoted(out: &mut Vec<u8>, field: &[u8]) -> Result<(), AllocError>
     ensures { OnOk result (out.new.items ≡ out.old.items ++ quoted default_writer field.now) }
@@ -27,7 +27,7 @@ fn push_quoted(out: &mut Vec<u8>, field: &[u8]) -> Result<(), AllocError>
     Ok(())
 }
 
-/// Appends a field, between quotes where it calls for them.
+/// Appends a field, between quotes if it needs them.
 pub(crate) fn push_field_text(out: &mut Vec<u8>, field: &[u8]) -> Result<(), AllocError>
     ensures { OnOk result (out.new.items ≡ out.old.items ++ field_text default_writer field.now) }
 {
@@ -38,7 +38,7 @@ pub(crate) fn push_field_text(out: &mut Vec<u8>, field: &[u8]) -> Result<(), All
     }
 }
 
-/// Appends the field of a null whose text is given: nothing, where none is.
+/// Appends the field of a null with the given text: nothing, if none is given.
 #[inline(always)]
 pub(crate) fn push_null(out: &mut Vec<u8>, null: Option<&str>) -> Result<(), AllocError>
     ensures { OnOk result (out.new.items
@@ -50,8 +50,8 @@ pub(crate) fn push_null(out: &mut Vec<u8>, null: Option<&str>) -> Result<(), All
     }
 }
 
-/// Puts quotes around the field that begins at this place and ends with the text, where it calls
-/// for them.
+/// Puts quotes around the field that begins at index `place` and ends with the text, if it needs
+/// them.
 pub(crate) fn quote_from(out: &mut Vec<u8>, place: usize) -> Result<(), AllocError>
     requires { place ≤ length out.old.items }
     ensures { OnOk result (out.new.items

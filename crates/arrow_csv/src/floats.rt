@@ -8,8 +8,8 @@ ghost use Rattle.arrow_csv.specs.Floats.{IsFloatText, IsNumberText};
 ghost use Rattle.arrow_csv.specs.Texts.{Appends, IsPlain};
 
 use crate::decimals::push_decimal;
+use crate::digit_texts::push_number;
 use crate::intervals::push_months;
-use crate::texts::push_number;
 use arrow_data::floats::bits_in;
 use arrow_data::half;
 use arrow_types::{DataType, Precision};
@@ -17,7 +17,7 @@ use ryu::{Buffer, Float};
 use std::alloc::AllocError;
 use std::num::{f32_from_bits_with_nan, f64_from_bits_with_nan};
 
-/// Appends a text of the number that a value of this type is. It calls for no quotes.
+/// Appends a text of a number as a value of this type. It needs no quotes.
 #[inline(always)]
 pub(crate) fn push_int(
     out: &mut Vec<u8>,
@@ -35,7 +35,7 @@ pub(crate) fn push_int(
     }
 }
 
-/// Appends a text of the number of these bits: of 16 bits that of the equal number of 32 bits.
+/// Appends a text of the number of these bits: for 16 bits, that of the equal number of 32 bits.
 #[inline(never)]
 fn push_float(out: &mut Vec<u8>, precision: Precision, bits: u64) -> Result<(), AllocError>
     ensures { OnOk result (Appends (IsPlain (IsFloatText precision bits))
@@ -48,7 +48,7 @@ fn push_float(out: &mut Vec<u8>, precision: Precision, bits: u64) -> Result<(), 
     }
 }
 
-/// Appends a short text of a number that reads back as the same number.
+/// Appends a short text of a number that parses as the same number.
 #[inline(never)]
 fn push_short<F: Float>(out: &mut Vec<u8>, number: F) -> Result<(), AllocError>
     ensures { OnOk result (Appends

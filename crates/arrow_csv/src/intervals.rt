@@ -7,12 +7,12 @@ ghost use Rattle.arrow_csv.specs.Intervals.{bytes_text, counted, interval_text, 
 ghost use Rattle.arrow_csv.specs.Texts.{Appends, IsPlain};
 
 use crate::decimals::push_wide_decimal;
-use crate::texts::{push_bytes, push_number};
+use crate::digit_texts::{push_bytes, push_number};
 use arrow_data::{Interval, decimals, intervals};
 use arrow_types::DataType;
 use std::alloc::AllocError;
 
-/// Appends the text of the bytes that a value of this type is. It calls for no quotes.
+/// Appends the text of bytes as a value of this type. It needs no quotes.
 #[inline(always)]
 pub(crate) fn push_binary(
     out: &mut Vec<u8>,
@@ -39,8 +39,8 @@ pub(crate) fn push_binary(
 /// Appends the text of an interval: all its numbers, also those that are 0, each with its unit
 /// (`14M`, `2d500ms`, `1M2d3ns`).
 ///
-/// It calls for no quotes in a record. If an allocation fails, the vector may have a beginning of
-/// the text.
+/// It needs no quotes in a record. If an allocation fails, the vector may have a beginning of the
+/// text.
 #[inline(never)]
 pub fn push_interval(out: &mut Vec<u8>, interval: Interval) -> Result<(), AllocError>
     ensures { OnOk result (Appends (IsPlain (λ text. text ≡ interval_text interval))
@@ -64,7 +64,7 @@ pub fn push_interval(out: &mut Vec<u8>, interval: Interval) -> Result<(), AllocE
     }
 }
 
-/// Appends the text of so many months (`14M`), as [`push_interval`] does.
+/// Appends the text of a number of months (`14M`), as [`push_interval`] does.
 #[inline(never)]
 pub fn push_months(out: &mut Vec<u8>, months: i128) -> Result<(), AllocError>
     ensures { OnOk result (Appends (IsPlain (λ text. text ≡ months_text months))

@@ -1,28 +1,28 @@
 //! Batches as records of comma-separated values, for people to read.
 //!
-//! A text begins with a record of the column names behind the word `batch`; each row is a record of
+//! A text begins with a record of the word `batch` and the column names; each row is a record of
 //! the number of its batch and the texts of its values, indices looked up. Fields are joined by
-//! commas and records end with a line feed. Quotes stand around a field only where a comma, a
-//! double quote or an end of line is in it, and its own double quotes are then written twice (RFC
-//! 4180). That is the quoting of the crate `csv` by its definitions, which writes the first record;
-//! rows are appended to one text, without a record of their own before. Bytes that call for quotes
-//! are looked for sixteen at a time, sixty-four in long fields (`src/chunks.rt`).
+//! commas and records end with a line feed. A field is between quotes only if it contains a comma,
+//! a double quote or an end of line, and double quotes in it are then written twice (RFC 4180).
+//! That is the quoting of the crate `csv` by its definitions, which writes the first record; rows
+//! are appended to one text, without building a separate record first. Bytes that need quotes are
+//! searched sixteen at a time, sixty-four in long fields (`src/chunks.rt`).
 //!
-//! Which texts a value has, is said by `IsText` (`specs/Texts.antt`), over plain values: one, but
-//! where a floating-point number is in it, which shows as a text that reads back as the same number.
-//! The one that is written is short: `1.5`, `-0.0`, `1e300`, `inf` and `NaN`, by the crate `ryu`. A
-//! number of 16 bits shows as the number of 32 bits that it equals. No number calls for quotes. An
-//! decimal shows as the digits of its whole number with a point (`-0.50`), with as many zeros after
-//! it as it has places, or, if the scale is below 0, with the exponent (`12e3`). An interval shows as
-//! its numbers with their units: `14M`, `2d500ms` or `1M2d3ns`.
+//! `IsText` (`specs/Texts.antt`) defines which texts a value has, over plain values: one, unless it
+//! contains a floating-point number, which shows as a text that parses as the same number. The one
+//! that is written is short: `1.5`, `-0.0`, `1e300`, `inf` and `NaN`, by the crate `ryu`. A number
+//! of 16 bits shows as the number of 32 bits that it equals. No number needs quotes. A decimal
+//! shows as the digits of its whole number with a point (`-0.50`), with as many digits after the
+//! point, zeros included, as it has places, or, if the scale is below 0, with the exponent
+//! (`12e3`). An interval shows as its numbers with their units: `14M`, `2d500ms` or `1M2d3ns`.
 //!
-//! [`header`], [`rows`] and [`BatchRows::push`] give records of such texts for every schema and every
-//! batch. The standard gives no such text; this one is the project's own, and it is not claimed that
-//! it can be read back as a whole.
+//! [`header`], [`rows`] and [`BatchRows::push`] give records of such texts for every schema and
+//! every batch. The standard gives no such text; this one is the project's own, and there is no
+//! claim that a complete text can be parsed again.
 //!
-//! Who writes the rows of a batch in parts keeps its [`BatchRows`]: where each column's values lie is
-//! looked up once, and of a dictionary that has few values beside the rows the field of each value is
-//! made once.
+//! A caller that writes the rows of a batch in parts keeps its [`BatchRows`]: where each column's
+//! values lie is looked up once, and if a dictionary has few values compared with the rows, the
+//! field of each value is made once.
 //!
 //! | Notion | Definition |
 //! |---|---|
@@ -35,12 +35,13 @@
 //! | columns chosen by their names | `specs/Named.antt`: `chosen`, `chosen_shape`, `lacking` |
 //! | the text of a null, records with or without a number | `specs/Layouts.antt`: `Form`, `form_by` |
 //! | fields of a dictionary's values, made before the rows | `specs/Made.antt`: `AreFieldsOf` |
-//! | bytes that call for no quotes, seen by chunks | `specs/Chunks.antt`: `AreAllPlain`, `is_mark` |
+//! | bytes that need no quotes, checked by chunks | `specs/Chunks.antt`: `AreAllPlain`, `is_mark` |
 #![tactic(auto)]
 
 mod chunks;
 mod column_text;
 mod decimals;
+mod digit_texts;
 mod fields;
 mod floats;
 mod intervals;
@@ -51,8 +52,8 @@ mod texts;
 mod wide;
 
 pub use decimals::{push_decimal, push_wide_decimal};
+pub use digit_texts::{push_bytes, push_number};
 pub use intervals::{push_interval, push_months};
 pub use layout::Layout;
 pub use named::lacking;
 pub use records::{BatchRows, header, header_of, rows};
-pub use texts::{push_bytes, push_number};

@@ -9,7 +9,7 @@ use arrow_data::Batch;
 use arrow_types::{Field, Schema};
 use std::alloc::{AllocError, Global};
 
-/// The place among these names of the first one that no column of the schema has; `None` where all
+/// The index, among these names, of the first one that no column of the schema has; `None` if all
 /// have one. Names are compared byte for byte.
 pub fn lacking(schema: &Schema, names: &[&str]) -> Option<usize>
     ensures { result ≡ lacking (map (λ name. name.now) names.now) schema.now.fields }
@@ -23,7 +23,7 @@ pub fn lacking(schema: &Schema, names: &[&str]) -> Option<usize>
     None
 }
 
-/// The place of the first field of this name.
+/// The index of the first field of this name.
 pub(crate) fn place_of(fields: &[Field], name: &str) -> Option<usize>
     ensures place { result ≡ place_named name.now (fields_view fields.now) }
     ensures inside { IfSome result (λ place. place < length fields.now) }
@@ -36,7 +36,7 @@ pub(crate) fn place_of(fields: &[Field], name: &str) -> Option<usize>
     None
 }
 
-/// The texts of the first column of each name; none of a name that no column has.
+/// The texts of the first column of each name; none for a name that no column has.
 pub(crate) fn columns_named<'a>(
     alloc: Global,
     batch: &'a Batch,
@@ -53,7 +53,7 @@ pub(crate) fn columns_named<'a>(
     Ok(columns)
 }
 
-/// Appends the text of the column at a place, where there is one.
+/// Appends the text of the column at an index, if there is one.
 fn push_column<'a>(
     alloc: Global,
     columns: &mut Vec<ColumnText<'a>>,

@@ -4,25 +4,19 @@ ghost use Rattle.std.specs.Prelude.{◌≡◌, ◌≤◌, ◌<◌, ◌-◌, ◌+
 ghost use Rattle.std.specs.Fmt.{decimal};
 ghost use Rattle.arrow_data.specs.PlainValue.{value_at};
 ghost use Rattle.arrow_data.specs.Same.{HaveSlot};
-ghost use Rattle.arrow_data.specs.Shown.{HoldsValue};
 ghost use Rattle.arrow_csv.specs.Texts.{Appends, IsSomeField};
 ghost use Rattle.csv.specs.Records.{fields_of, partial_of};
 ghost use Rattle.arrow_types.specs.Field.{none};
 ghost use Rattle.arrow_types.specs.View.{fields_view};
 ghost use Rattle.arrow_csv.specs.Named.{HaveSlots, choice_by, chosen, chosen_shape, fields_named, with_field};
-ghost use Rattle.arrow_data.specs.declared.array.SlotValue.TheVariants.{Null};
 ghost use Rattle.arrow_csv.specs.Layouts.{first_field, form_by, null_by, usual_form};
 ghost use Rattle.arrow_csv.specs.Records.{AreBatchRows, AreFieldsAfter, AreFieldsJoined, AreRows};
-ghost use Rattle.arrow_csv.specs.Records.{IsBareRow, IsHead, IsRowAfter, IsRowBehind, first_of};
+ghost use Rattle.arrow_csv.specs.Records.{IsBareRow, IsHead, IsRowAfter, IsRowPast, first_of};
 ghost use Rattle.arrow_csv.specs.Records.{header_record, names};
 
 use crate::column_text::ColumnText;
-use crate::fields::{push_field_text, quote_from};
-use crate::floats::push_int;
-use crate::intervals::push_binary;
 use crate::layout::Layout;
 use crate::named::{columns_named, place_of};
-use crate::texts::{push_items, push_parts};
 use arrow_data::{Array, Batch, SlotValue};
 use arrow_types::{Field, Schema};
 use csv::{ByteRecord, WriterBuilder};
@@ -39,7 +33,7 @@ pub fn header(alloc: Global, schema: &Schema) -> Result<Vec<u8>, AllocError>
 }
 
 /// The first record of a layout: the word `batch`, if records have numbers, and the names of the
-/// columns that it has. A record of no field is written as one empty field: `""`.
+/// columns that it has. A record with no fields is written with one empty field: `""`.
 pub fn header_of(alloc: Global, schema: &Schema, layout: Layout<'_>) -> Result<Vec<u8>, AllocError>
     ensures { IfOk result (λ text. text.items ≡ header_record (form_by layout.entry)
         (chosen_shape (choice_by layout.entry.columns) schema.now).fields) }
@@ -97,7 +91,7 @@ fn push_named(line: &mut ByteRecord, fields: &[Field], wanted: &[&str]) -> Resul
     Ok(())
 }
 
-/// Appends the name of the field at a place, where there is one.
+/// Appends the name of the field at an index, if there is one.
 fn push_name(
     line: &mut ByteRecord,
     fields: &[Field],
@@ -132,10 +126,10 @@ pub fn rows(
     Ok(out)
 }
 
-/// The rows of a batch that has a number, as a layout writes them, on their way into text.
+/// The rows of a numbered batch, as a layout writes them, while they are being written as text.
 ///
-/// What is the same for all rows is looked up or made with it: where each column's values lie, and
-/// of a dictionary that has few values beside the rows the field of each value.
+/// What is the same for all rows is looked up or made once, when it is created: where each column's
+/// values lie, and, if a dictionary has few values compared with the rows, the field of each value.
 #[derive(Drop)]
 pub struct BatchRows<'a> {
     number: u64,
@@ -200,8 +194,8 @@ impl<'a> BatchRows<'a> {
 
     /// Appends the records of these rows. If an allocation fails, the text is as it was.
     ///
-    /// A record of no field, or of one that is empty, is written as `""`. After no text the records
-    /// are made in place; else apart from it, and copied once.
+    /// A record of no field, or of one that is empty, is written as `""`. If the text is empty
+    /// before, the records are made in place; else they are made separately, and copied once.
     pub fn push(&self, out: &mut Vec<u8>, rows: Range<usize>) -> Result<(), AllocError>
         requires order { rows.start ≤ rows.end }
         requires inside { rows.end ≤ self.now.batch.rows }
@@ -218,7 +212,7 @@ impl<'a> BatchRows<'a> {
         out.extend_from_slice(&records)
     }
 
-    // The same where no text stands before the records.
+    /// The same if no text comes before the records.
     fn push_first(&self, out: &mut Vec<u8>, rows: Range<usize>) -> Result<(), AllocError>
         requires order { rows.start ≤ rows.end }
         requires inside { rows.end ≤ self.now.batch.rows }
@@ -227,7 +221,7 @@ impl<'a> BatchRows<'a> {
             rows.start rows.end out.new.items) }
         ensures err { OnErr result (out.new.items ≡ []) }
     {
-        // Called for what it says of every batch.
+        // Called for its postcondition, which holds of every batch.
         self.batch.schema();
         let columns = Columns {
             texts: &self.columns,
@@ -327,7 +321,7 @@ fn push_numbered(
 ) -> Result<(), AllocError>
     requires { HaveSlot i columns.texts.now }
     ensures { OnOk result (Appends
-        (IsRowBehind head.now (null_by columns.entry.null) columns.entry.texts.now i)
+        (IsRowPast head.now (null_by columns.entry.null) columns.entry.texts.now i)
         out.old.items out.new.items) }
 {
     out.extend_from_slice(head)?;
@@ -336,8 +330,7 @@ fn push_numbered(
     Ok(())
 }
 
-/// Appends a record of no other fields than those of the columns: where it would have no byte, two
-/// quotes.
+/// Appends a record of only the columns' fields: if it would have no byte, two quotes.
 fn push_bare(out: &mut Vec<u8>, columns: Columns<'_>, i: usize) -> Result<(), AllocError>
     requires { HaveSlot i columns.texts.now }
     ensures { OnOk result (Appends
@@ -385,40 +378,4 @@ fn push_fields(out: &mut Vec<u8>, columns: Columns<'_>, i: usize) -> Result<(), 
         column.push(out, i, columns.null)?;
     }
     Ok(())
-}
-
-/// Appends the text of the value in slot `i`, which is at hand and is no null, between quotes where
-/// it calls for them, as no truth value does, no number and no byte string.
-#[inline(always)]
-pub(crate) fn push_field(
-    out: &mut Vec<u8>,
-    column: &Array,
-    i: usize,
-    value: SlotValue<'_>,
-) -> Result<(), AllocError>
-    requires inside { i < length column.now.raw }
-    requires holds { HoldsValue column.now i value }
-    requires some { value ≡ Null → ⊥ }
-    ensures { OnOk result (Appends
-        (IsSomeField column.now.data_type (value_at column.now.resolved i))
-        out.old.items out.new.items) }
-{
-    match value {
-        SlotValue::Null => Ok(()),
-        SlotValue::Bool(true) => out.extend_from_slice(b"true"),
-        SlotValue::Bool(false) => out.extend_from_slice(b"false"),
-        SlotValue::Int(number) => push_int(out, column.data_type(), number),
-        SlotValue::Bytes(bytes) => push_binary(out, column.data_type(), bytes),
-        SlotValue::Text(text) => push_field_text(out, text.as_bytes()),
-        SlotValue::List(start, end, items) => {
-            let place = out.len();
-            push_items(out, items, start, end)?;
-            quote_from(out, place)
-        }
-        SlotValue::Struct(children, place) => {
-            let from = out.len();
-            push_parts(out, column.data_type().children(), children, place)?;
-            quote_from(out, from)
-        }
-    }
 }

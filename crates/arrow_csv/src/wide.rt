@@ -6,16 +6,16 @@ ghost use Rattle.arrow_csv.specs.Wide.{last_digits, wide_number, without_zeros};
 
 use arrow_data::Decimal;
 
-/// The size of a chunk: ten to the power of 19, the highest power of ten that 64 bits have.
+/// The size of a chunk: ten to the power of 19, the highest power of ten that fits 64 bits.
 const CHUNK: u128 = 10_000_000_000_000_000_000;
 
-/// How many digits a chunk has.
+/// The number of digits of a chunk.
 const CHUNK_DIGITS: usize = 19;
 
-/// How many chunks have all digits of 256 bits.
+/// The number of chunks that hold all digits of 256 bits.
 const CHUNKS: usize = 5;
 
-/// How many digits these chunks have.
+/// The number of digits of these chunks.
 const DIGITS: usize = 95;
 
 /// A number of 256 bits, without a sign.
@@ -48,7 +48,7 @@ impl Wide {
         }
     }
 
-    /// The number divided by the size of a chunk, and what is left of it.
+    /// The number divided by the size of a chunk, and the remainder.
     fn divided(self) -> (Wide, u64)
         ensures whole { wide_number result.0 * 10 ^ 19 + result.1 ≡ wide_number self }
         ensures rest { result.1 < 10 ^ 19 }
@@ -62,7 +62,7 @@ impl Wide {
         (quotient, rest as u64)
     }
 
-    /// The digits of the number, zeros in front.
+    /// The digits of the number, with leading zeros.
     pub(crate) fn digits(self) -> [u8; DIGITS]
         ensures { result ≡ last_digits 95 (wide_number self) }
     {
@@ -77,8 +77,8 @@ impl Wide {
     }
 }
 
-/// The next 64 bits of a long division: they and the rest of the bits above them, divided by the
-/// size of a chunk, and what is left.
+/// The next 64 bits of a long division: they and the remainder of the bits above them, divided by
+/// the size of a chunk, and the remainder.
 #[inline(always)]
 fn divided_limb(rest: u128, limb: u64) -> (u128, u128)
     requires { rest < 10 ^ 19 }
@@ -90,7 +90,7 @@ fn divided_limb(rest: u128, limb: u64) -> (u128, u128)
     (number / CHUNK, number % CHUNK)
 }
 
-/// Writes the last nineteen digits of a number to a place.
+/// Writes the last nineteen digits of a number at index `place`.
 fn put_digits(number: u64, digits: &mut [u8], place: usize)
     requires { place + 19 ≤ length digits.old }
     ensures { drop place digits.new ≡ last_digits 19 number ++ drop (place + 19) digits.old }
@@ -102,7 +102,7 @@ fn put_digits(number: u64, digits: &mut [u8], place: usize)
     }
 }
 
-/// Where digits begin without the zeros in front.
+/// The index of the first digit that is not a leading zero.
 pub(crate) fn first_digit(digits: &[u8]) -> usize
     ensures within { result ≤ length digits.now }
     ensures rest { drop result digits.now ≡ without_zeros digits.now }

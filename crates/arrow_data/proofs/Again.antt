@@ -1,4 +1,4 @@
--- Bytes are those of the numbers that they make.
+-- Bytes are the bytes of the number that they encode.
 use Rattle.std.proofs.Common.{◌≡◌, ℕ, zero, suc, ◌+◌, ◌*◌, ◌-◌, ◌/◌, ◌%◌, ◌^◌, ◌<◌, ◌≤◌, Bool, true, false, List, [], ◌∷◌, length, get_or, take, drop, refl, ap, ◌∙◌, arith, length-take, length-drop}
 use Rattle.std.specs.Prelude.{pos, negsuc, nat_lt, ◌-ℤ◌, if◌then◌else◌}
 use Rattle.std.proofs.lemmas.Int.{ints}
@@ -7,7 +7,7 @@ use Rattle.arrow_bits.specs.Numbers.{number_of, number_at, signed_at, twos_compl
 use Rattle.arrow_bits.proofs.Ranged.{int_fits}
 use Rattle.arrow_bits.proofs.Reading.{bytes_take}
 
--- bytes are those of the number that they make
+-- bytes are the bytes of the number that they encode
 pub bytes_again : (w : ℕ) (bytes : List ℕ) → length bytes ≡ w → ((i : ℕ) → get_or bytes i 0 < 256) → number_bytes w (number_of bytes) ≡ bytes
 bytes_again zero [] long small = refl
 bytes_again zero (b ∷ bytes) long small = absurd (omega (arith, long))
@@ -29,11 +29,11 @@ twos_by false w n whole =
     let back : top - 1 - (top - 1 - n) ≡ n = omega (arith, whole) in
     ap (int_bytes w) (below_it n top whole) ∙ ap (number_bytes w) back
 
--- the bytes of a number with its sign
+-- the two's complement bytes of a signed number are the bytes of the unsigned number with the same bits
 twos_again : (w n : ℕ) → n < 2 ^ (8 * w) → int_bytes w (twos_complement w n) ≡ number_bytes w n
 twos_again w n whole = twos_by (nat_lt n (2 ^ (8 * w - 1))) w n whole
 
--- the bytes at a place are those of their number
+-- the bytes at an offset are those of the number there
 pub number_again_at : (w : ℕ) (bytes : List ℕ) (place : ℕ) → ((i : ℕ) → get_or bytes i 0 < 256) → place + w ≤ length bytes
     → number_bytes w (number_at bytes place w) ≡ take w (drop place bytes)
 unfolding number_at

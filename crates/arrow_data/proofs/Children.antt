@@ -8,7 +8,7 @@ use Rattle.std.proofs.lemmas.List.{length-map}
 use Rattle.std.proofs.lemmas.List.FromFn.{get_or-map-range_with_len, length-map-range_with_len}
 use Rattle.std.proofs.lemmas.Option.{get_or_from_slice_get, slice_get-map, slice_get_read, slice_get_within}
 use Rattle.arrow_bits.proofs.Rising.{numbers_from_offsets, offsets_inside}
-use Rattle.arrow_types.specs.Field.{Fields, Head, none, more, TypeShape}
+use Rattle.arrow_types.specs.Field.{FieldTree, FieldHeader, none, more, TypeShape}
 use Rattle.arrow_data.specs.PlainValue.{PlainValue, value_at, null_value, is_null_value, list_value, struct_value, values_of, field_value, nth_value}
 use Rattle.arrow_data.specs.Column.{Column, AreOf, HasChild, HasField, HasItems, IsColumn, column_dictionaries, dictionaries_of_field, field_of_listed, listed_of, slots_of, type_of_field, struct_fields, struct_fields_of}
 use Rattle.arrow_data.specs.Form.{IsLists, form_of, offset_bytes}
@@ -24,7 +24,7 @@ valid_from_value : (b : Bool) (x : PlainValue) → is_null_value (if b then x el
 valid_from_value true x h = refl
 valid_from_value false x h = absurd (true≢false h)
 
--- what stands in a valid slot
+-- the value in a valid slot
 value_of_valid : (b : Bool) (x : PlainValue) → b ≡ true → (if b then x else null_value) ≡ x
 value_of_valid true x h = refl
 value_of_valid false x h = absurd (true≢false (sym h))
@@ -52,7 +52,7 @@ structs t n v cs = record {
   below = map slots_of cs;
 }
 
--- an offset of those of a column of lists
+-- an offset among those of a column of lists
 at_offsets : (w : OffsetWidth) (n : ℕ) (o : List ℕ) (j : ℕ) → j ≤ n → get_or (item_places (Offsets w) n o) j 0 ≡ place_of w o j
 at_offsets w n o j h = get_or-map-range_with_len (place_of w o) 0 (n + 1) j j 0 (omega (arith, h)) (omega arith)
 
@@ -61,7 +61,7 @@ at_places : (w : ListForm) (n : ℕ) (o : List ℕ) (j : ℕ) → j ≤ n → ge
 at_places (Offsets w) n o j h = at_offsets w n o j h
 at_places (Fixed size) n o j h = get_or-map-range_with_len (λ k. size * k) 0 (n + 1) j j 0 (omega (arith, h)) (omega arith)
 
--- offsets do not fall and stay within the top
+-- offsets do not decrease and stay within the top
 offsets_known : (w : OffsetWidth) (n top : ℕ) (o : List ℕ) (j : ℕ) → ((i : ℕ) → get_or o i 0 < 256) → HasOffsets w n top o → j < n
     → (place_of w o j ≤ place_of w o (j + 1)) × (place_of w o (j + 1) ≤ top)
 offsets_known w n top o j small rising h =
@@ -71,13 +71,13 @@ offsets_known w n top o j small rising h =
       subst (λ x. x ≤ top) (at_offsets w n o (j + 1) (omega (arith, h))) (offsets_inside (offset_bytes w) o n top small offsets (j + 1) 0 (omega (arith, long, h))),
     )
 
--- nor do the places of items
+-- nor do the indices at which items begin
 pub places_known : (w : ListForm) (n top : ℕ) (o : List ℕ) (j : ℕ) → ((i : ℕ) → get_or o i 0 < 256) → HasItemPlaces w n top o → j < n
     → (item_place w o j ≤ item_place w o (j + 1)) × (item_place w o (j + 1) ≤ top)
 places_known (Offsets w) n top o j small rising h = offsets_known w n top o j small rising h
 places_known (Fixed size) n top o j small long h = items_inside size j n top h long
 
--- what a valid slot of lists shows
+-- the value that a valid slot of lists shows
 pub items_shown : (t : TypeShape) (w : ListForm) (n : ℕ) (v o : List ℕ) (child : Column) (i : ℕ) → AreOf t.children (child ∷ []) → IsColumn child → i < n → is_valid_at v i ≡ true
     → item_place w o i ≤ item_place w o (i + 1) → item_place w o (i + 1) ≤ length child.raw → HasItems (lists t w n v o child) i (item_place w o i) (item_place w o (i + 1)) child
 items_shown t w n v o child i typed known inside valid order within =
@@ -96,13 +96,13 @@ items_shown t w n v o child i typed known inside valid order within =
       same_resolved = at_slots n (λ j. resolved j) i inside ∙ value_of_valid (is_valid_at v i) (list_value (values_of (items_at w o child.resolved i))) valid;
     }
 
--- the same of a column that is known to be one of lists
+-- the same for a column that is known to be one of lists
 pub items_of_column : (c : Column) (t : TypeShape) (w : ListForm) (n : ℕ) (v o : List ℕ) (child : Column) (i start stop : ℕ) → c ≡ lists t w n v o child → AreOf t.children (child ∷ []) → IsColumn child → i < n
     → is_valid_at v i ≡ true → start ≡ item_place w o i → stop ≡ item_place w o (i + 1) → start ≤ stop → stop ≤ length child.raw → HasItems c i start stop child
 items_of_column c t w n v o child i start stop is typed known inside valid low high order within =
     rw (is, low, high) (items_shown t w n v o child i typed known inside valid (omega (arith, low, high, order)) (omega (arith, high, within)))
 
--- what a column of lists says of its child
+-- the child of a column of lists
 pub child_shown : (c : Column) (t : TypeShape) (w : ListForm) (n : ℕ) (v o : List ℕ) (child : Column) → c ≡ lists t w n v o child → form_of t.tag ≡ forms.Lists w → AreOf t.children (child ∷ []) → IsColumn child
     → ((i : ℕ) → get_or o i 0 < 256) → HasItemPlaces w n (length child.raw) o → HasChild c child
 child_shown c t w n v o child is form typed known small rising =
@@ -130,12 +130,12 @@ nth_row of (c ∷ cs) zero i a e =
     ap (λ (x : Column). value_at (of x) i) same
 nth_row of (c ∷ cs) (suc k) i a e = nth_row of cs k i a e
 
--- what holds of all columns holds of the one that is found
+-- a property of all columns holds of the one that is found
 holds_of_found : (P : Column → Type 0) (cs : List Column) (k : ℕ) (a : Column) → AllByRecursion P cs → slice_get cs k ≡ Some a → P a
 holds_of_found P cs k a all is = subst P (get_or_from_slice_get cs k a a is) (All-from_recursion P cs all k a (slice_get_within cs k a is))
 
 -- the type of the column of field k
-type_found : (fields : Fields) (cs : List Column) (k : ℕ) (a : Column) → AreOf fields cs → slice_get cs k ≡ Some a → type_of_field fields k ≡ Some (a.data_type, a.encoding)
+type_found : (fields : FieldTree) (cs : List Column) (k : ℕ) (a : Column) → AreOf fields cs → slice_get cs k ≡ Some a → type_of_field fields k ≡ Some (a.data_type, a.encoding)
 type_found none [] k a h e = absurd cc
 type_found none (c ∷ cs) k a h e = absurd h
 type_found (more x b rest) [] k a h e = absurd h
@@ -145,13 +145,13 @@ type_found (more x b rest) (c ∷ cs) zero a h e =
 type_found (more x b rest) (c ∷ cs) (suc k) a h e = type_found rest cs k a h.2 e
 
 -- a column lists as many dictionaries as its field refers to
-count_listed : (head : Head) (children : Fields) (c : Column) → c.data_type ≡ record { tag = head.tag; children = children } → c.encoding ≡ head.encoding → IsColumn c
+count_listed : (head : FieldHeader) (children : FieldTree) (c : Column) → c.data_type ≡ record { tag = head.tag; children = children } → c.encoding ≡ head.encoding → IsColumn c
     → length (column_dictionaries head.encoding (record { tag = head.tag; children = children })) ≡ length c.dictionaries
 count_listed head children c typed encoded known =
     ap length ((λ i. column_dictionaries (sym encoded i) (sym typed i)) ∙ sym known.lists) ∙ length-map c.dictionaries field_of_listed
 
 -- the dictionaries of the column of field k are those that are listed for it
-listed_found : (fields : Fields) (cs : List Column) (k : ℕ) (a : Column) → AreOf fields cs → AllByRecursion IsColumn cs → slice_get cs k ≡ Some a → a.dictionaries ≡ dictionaries_of_field fields k (listed_of cs)
+listed_found : (fields : FieldTree) (cs : List Column) (k : ℕ) (a : Column) → AreOf fields cs → AllByRecursion IsColumn cs → slice_get cs k ≡ Some a → a.dictionaries ≡ dictionaries_of_field fields k (listed_of cs)
 listed_found none [] k a h known e = absurd cc
 listed_found none (c ∷ cs) k a h known e = absurd h
 listed_found (more x b rest) [] k a h known e = absurd h
@@ -164,19 +164,19 @@ listed_found (more x b rest) (c ∷ cs) (suc k) a h known e =
     listed_found rest cs k a h.2 known.1 e ∙ ap (dictionaries_of_field rest k) (sym (ap (λ n. drop n (c.dictionaries ++ listed_of cs)) long ∙ drop-append_seam c.dictionaries (listed_of cs)))
 
 -- past the last column there is no field
-type_past : (fields : Fields) (cs : List Column) (k : ℕ) → AreOf fields cs → length cs ≤ k → type_of_field fields k ≡ None
+type_past : (fields : FieldTree) (cs : List Column) (k : ℕ) → AreOf fields cs → length cs ≤ k → type_of_field fields k ≡ None
 type_past none cs k h l = refl
 type_past (more x b rest) [] k h l = absurd h
 type_past (more x b rest) (c ∷ cs) zero h l = absurd (omega (arith, l))
 type_past (more x b rest) (c ∷ cs) (suc k) h l = type_past rest cs k h.2 (omega (arith, l))
 
--- what `get` says of a slice
+-- the result of `get` on a slice
 pub found_from_lookup : (cs : List Column) (n : ℕ) (r : Option (Bor Column)) → IfSome r (λ x. x.now ≡ get_or cs n x.now) → MatchOption r (length cs ≤ n) (λ x. (n < length cs) × HoldsAt (λ y. x.now ≡ y) cs n)
     → MatchOption r (length cs ≤ n) (λ b. slice_get cs n ≡ Some b.now)
 found_from_lookup cs n None h g = g
 found_from_lookup cs n (Some a) h g = slice_get_read cs (length cs) n a.now refl g.0 h
 
--- what a struct says of the child that stands as field k
+-- the child of a struct that is at field k
 part_shown : (t : TypeShape) (n : ℕ) (v : List ℕ) (cs : List Column) (k : ℕ) (a : Column)
     → form_of t.tag ≡ forms.Structs → AreOf t.children cs → AllByRecursion IsColumn cs → AllByRecursion (λ (d : Column). n ≤ length d.raw) cs → slice_get cs k ≡ Some a
     → HasField (structs t n v cs) k a
@@ -201,13 +201,13 @@ part_shown t n v cs k a tag typed known longer is =
           );
     }
 
--- the same of a column that is known to be one of structs
+-- the same for a column that is known to be one of structs
 pub part_of_column : (c : Column) (t : TypeShape) (n : ℕ) (v : List ℕ) (cs : List Column) (k : ℕ) (a : Column)
     → c ≡ structs t n v cs → form_of t.tag ≡ forms.Structs → AreOf t.children cs → AllByRecursion IsColumn cs → AllByRecursion (λ (d : Column). n ≤ length d.raw) cs → slice_get cs k ≡ Some a
     → HasField c k a
 part_of_column c t n v cs k a is tag typed known longer found = subst (λ x. HasField x k a) (sym is) (part_shown t n v cs k a tag typed known longer found)
 
--- what a struct says of the child of field k, or of there being none
+-- the child of a struct at field k, or that there is none
 field_shown : (t : TypeShape) (n : ℕ) (v : List ℕ) (cs : List Column) (k : ℕ) (r : Option (Bor Column))
     → form_of t.tag ≡ forms.Structs → AreOf t.children cs → AllByRecursion IsColumn cs → AllByRecursion (λ (d : Column). n ≤ length d.raw) cs
     → MatchOption r (length cs ≤ k) (λ b. slice_get cs k ≡ Some b.now)
@@ -217,7 +217,7 @@ field_shown t n v cs k None tag typed known longer is =
     ap (λ f. type_of_field f k) fields ∙ type_past t.children cs k typed is
 field_shown t n v cs k (Some a) tag typed known longer is = part_shown t n v cs k a.now tag typed known longer is
 
--- the same of a column that is known to be one of structs
+-- the same for a column that is known to be one of structs
 pub field_of_column : (c : Column) (t : TypeShape) (n : ℕ) (v : List ℕ) (cs : List Column) (k : ℕ) (r : Option (Bor Column))
     → c ≡ structs t n v cs → form_of t.tag ≡ forms.Structs → AreOf t.children cs → AllByRecursion IsColumn cs → AllByRecursion (λ (d : Column). n ≤ length d.raw) cs
     → MatchOption r (length cs ≤ k) (λ b. slice_get cs k ≡ Some b.now)

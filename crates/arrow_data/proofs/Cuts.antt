@@ -13,7 +13,7 @@ use Rattle.arrow_data.specs.Slots.{place_of, range_of, AreTexts}
 use Rattle.arrow_data.specs.declared.form.OffsetWidth.{OffsetWidth}
 use Rattle.arrow_data.specs.declared.form.OffsetWidth.TheVariants.{Small, Large}
 
--- a part of a text that is a text itself, and not empty, begins between characters
+-- a nonempty part of a text that is itself a text begins between characters
 pub part_begins : (bs : List ℕ) (i j : ℕ) → i < j → j ≤ length bs → IsUtf8 (slice_range bs i j) → IsCharBoundary bs i
 part_begins bs i j order inside part =
     let start = IsCharBoundary-start (slice_range bs i j) part in
@@ -52,7 +52,7 @@ places_order Large offsets len i k rises order inside =
     let room = length_large_offsets len offsets in
     omega (arith, large_offset_found len offsets i (omega (arith, order, inside)), large_offset_found len offsets k (omega (arith, inside)), rises i k 0 order (omega (arith, room, inside)))
 
--- how many offsets there are, where they stand, and in which order
+-- the number of offsets, where they lie, and their order
 pub ruleset offsets = (length_offsets, length_large_offsets, offset_found, large_offset_found, places_order)
 
 -- the bytes of a slot, in those of all
@@ -71,7 +71,7 @@ part_decides bs i j r whole order inside cuts = (
   λ part. cuts.1 (part_begins bs i j order inside part, part_ends bs i j whole order inside part),
 )
 
--- a text may be cut before a slot where it may be cut behind each
+-- a text may be cut before a slot if it may be cut after each slot
 cut_before : (width : OffsetWidth) (offsets text : List ℕ) (len j : ℕ) → IsUtf8 text → AreCuts width len offsets text → j < len
     → IsCharBoundary text (place_of width offsets j - place_of width offsets 0)
 cut_before width offsets text len zero utf8 cuts below =
@@ -80,7 +80,7 @@ cut_before width offsets text len (suc k) utf8 cuts below =
     let next : k + 1 ≡ suc k = omega arith in
     subst (λ n. IsCharBoundary text (place_of width offsets n - place_of width offsets 0)) next (cuts k (omega (arith, below)))
 
--- the bytes of a slot are a part of those of all
+-- the bytes of a slot are a part of the bytes of all slots
 slot_of_all : (width : OffsetWidth) (len j : ℕ) (offsets bytes text : List ℕ) → IsNonDecreasing (plain_list (offset_bytes width) len offsets)
     → text ≡ slice_range bytes (place_of width offsets 0) (place_of width offsets len) → j < len
     → slice_range text (place_of width offsets j - place_of width offsets 0) (place_of width offsets (j + 1) - place_of width offsets 0) ≡ range_of width offsets bytes j
@@ -90,7 +90,7 @@ slot_of_all width len j offsets bytes text rises whole below =
     let after = places_order width offsets len (j + 1) len rises (omega (arith, below)) (omega arith) in
     slot_in width offsets bytes text len j (place_of width offsets j - place_of width offsets 0) (place_of width offsets (j + 1) - place_of width offsets 0) whole before order after refl refl
 
--- where the bytes of all slots are ASCII each of them is a text
+-- if the bytes of all slots are ASCII, each slot is a text
 pub ascii_texts : (width : OffsetWidth) (len : ℕ) (validity offsets bytes text : List ℕ) → IsNonDecreasing (plain_list (offset_bytes width) len offsets)
     → text ≡ slice_range bytes (place_of width offsets 0) (place_of width offsets len) → IsAscii text → AreTexts width len validity offsets bytes
 ascii_texts width len validity offsets bytes text rises whole ascii j below valid =

@@ -9,7 +9,7 @@ use Rattle.arrow_data.specs.declared.buffers.Ints.{Ints}
 use Rattle.arrow_data.specs.declared.dictionary.Dictionary.{Dictionary}
 use Rattle.arrow_data.specs.declared.array.Ranges.TheVariants.{Indices}
 
--- what a column of indices says of its dictionary
+-- the dictionary of a column of indices
 pub dictionary_shown : (c : Column) (t : TypeShape) (e : Option Encoding) (len : ℕ) (body : List ℕ) (n : Ints) (d : Box Dictionary)
     → c ≡ column_by t e len body (Indices n d) → AreEntriesBy e len t body n d.value → HasDictionary c d.value
 dictionary_shown c t None len body n d is ok = absurd ok

@@ -6,7 +6,7 @@ use Rattle.std.specs.Prelude.{slice_range, IsUtf8}
 use Rattle.arrow_bits.specs.Numbers.{FitsInt, IsIntWidth, int_of}
 use Rattle.arrow_bits.proofs.Ranged.{int_fits}
 use Rattle.arrow_bits.proofs.Reading.{bytes_take}
-use Rattle.arrow_types.specs.Field.{Fields, Head, none, more, TypeShape}
+use Rattle.arrow_types.specs.Field.{FieldTree, FieldHeader, none, more, TypeShape}
 use Rattle.arrow_types.specs.declared.field.Encoding.{Encoding}
 use Rattle.arrow_data.specs.Column.{Column, AreOf, IsColumn}
 use Rattle.arrow_data.specs.Fits.{AllFit, Fits, FitsType, HoldsBinary, HoldsInt, HoldsUtf8, ItemsFit, PartsFit}
@@ -31,20 +31,20 @@ fit_from : (P : PlainValue → Type 0) (n a : ℕ) (f : ℕ → PlainValue) → 
 fit_from P zero a f h = tt
 fit_from P (suc n) a f h = (h a (omega arith), fit_from P n (a + 1) f (λ j l. h j (omega arith)))
 
--- where the value of each slot has it, all values have
+-- if the value of each slot has the property, all values have it
 pub slots_fit : (P : PlainValue → Type 0) (n : ℕ) (f : ℕ → PlainValue) → ((j : ℕ) → j < n → P (f j)) → AllByRecursion P (slots n f)
 slots_fit P n f h = fit_from P n 0 f (λ j l. h j (omega arith))
 
--- a slot whose value fits where it is valid
-pub shown_fits : (form : Form) (fields : Fields) (valid : Bool) (x : PlainValue) → (valid ≡ true → Fits form fields x) → Fits form fields (if valid then x else null_value)
+-- a slot fits if its value fits when the slot is valid
+pub shown_fits : (form : Form) (fields : FieldTree) (valid : Bool) (x : PlainValue) → (valid ≡ true → Fits form fields x) → Fits form fields (if valid then x else null_value)
 shown_fits form fields true x h = h refl
 shown_fits form fields false x h = tt
 
--- a part of bytes are bytes
+-- each element of a range of bytes is a byte
 pub part_small : (body : List ℕ) (r : ByteRange) → AreBytes body → (i : ℕ) → get_or (bytes_of body r) i 0 < 256
 part_small body r small i = bytes_take (r.end - r.start) (drop r.start body) (λ k. rw (get_or-drop r.start body k 0) (small (r.start + k))) i
 
--- a width has one byte at least
+-- a width is at least one byte
 pub some_bytes : (width : ℕ) (signed : Bool) → IsIntWidth width signed → 1 ≤ width
 some_bytes width signed (inl (inl one)) = omega (arith, one)
 some_bytes width signed (inl (inr (inl two))) = omega (arith, two)
@@ -68,7 +68,7 @@ int_fits_form (forms.FixedBytes w) len body n j small format ints l = absurd for
 int_fits_form (forms.Lists w) len body n j small format ints l = absurd format
 int_fits_form forms.Structs len body n j small format ints l = absurd format
 
--- of values that all have it, those of a range
+-- if all values have the property, those of a range have it
 pub all_take : (P : PlainValue → Type 0) (n : ℕ) (xs : List PlainValue) → AllByRecursion P xs → AllByRecursion P (take n xs)
 all_take P zero xs h = tt
 all_take P (suc n) [] h = tt
@@ -79,30 +79,30 @@ all_drop P zero xs h = h
 all_drop P (suc n) [] h = tt
 all_drop P (suc n) (x ∷ xs) h = all_drop P n xs h.1
 
--- the one in a slot, which is null where there is none
+-- the value in a slot, which is null if there is no such slot
 pub all_at : (P : PlainValue → Type 0) (xs : List PlainValue) (j : ℕ) → P null_value → AllByRecursion P xs → P (value_at xs j)
 all_at P [] j nothing h = nothing
 all_at P (x ∷ xs) zero nothing h = h.0
 all_at P (x ∷ xs) (suc j) nothing h = all_at P xs j nothing h.1
 
 -- items of a list that each fit its field
-pub items_fit : (head : Head) (children rest : Fields) (vs : List PlainValue) → AllFit (record { tag = head.tag; children = children }) head.encoding vs → ItemsFit (more head children rest) (values_of vs)
+pub items_fit : (head : FieldHeader) (children rest : FieldTree) (vs : List PlainValue) → AllFit (record { tag = head.tag; children = children }) head.encoding vs → ItemsFit (more head children rest) (values_of vs)
 items_fit head children rest [] h = tt
 items_fit head children rest (v ∷ vs) h = (h.0, items_fit head children rest vs h.1)
 
 -- the values of a column of a field fit the field
-field_fits : (head : Head) (children : Fields) (c : Column) → c.data_type ≡ record { tag = head.tag; children = children } → c.encoding ≡ head.encoding → IsColumn c
+field_fits : (head : FieldHeader) (children : FieldTree) (c : Column) → c.data_type ≡ record { tag = head.tag; children = children } → c.encoding ≡ head.encoding → IsColumn c
     → AllFit (record { tag = head.tag; children = children }) head.encoding c.raw
 field_fits head children c typed encoded known = subst (λ e. AllFit (record { tag = head.tag; children = children }) e c.raw) encoded (subst (λ t. AllFit t c.encoding c.raw) typed known.fits)
 
 -- a range of the child's values
-list_fits : (fields : Fields) (child : Column) (a b : ℕ) → AreOf fields (child ∷ []) → IsColumn child → ItemsFit fields (values_of (slice_range child.raw a b))
+list_fits : (fields : FieldTree) (child : Column) (a b : ℕ) → AreOf fields (child ∷ []) → IsColumn child → ItemsFit fields (values_of (slice_range child.raw a b))
 list_fits none child a b typed known = absurd typed
 list_fits (more head children rest) child a b typed known =
     let P = FitsType (record { tag = head.tag; children = children }) head.encoding in
     items_fit head children rest (slice_range child.raw a b) (all_take P (b - a) (drop a child.raw) (all_drop P a child.raw (field_fits head children child typed.0 typed.1 known)))
 
--- as many as the form asks for
+-- as many items as the form requires
 items_many : (w : ListForm) (len j : ℕ) (places : List ℕ) (xs : List PlainValue) → HasItemPlaces w len (length xs) places → j < len → HoldsItems w (length (items_at w places xs j))
 items_many (Offsets width) len j places xs laid l = tt
 items_many (Fixed size) len j places xs laid l =
@@ -112,14 +112,14 @@ items_many (Fixed size) len j places xs laid l =
     let long : stop ≡ start + size = omega arith in
     omega (arith, length-take (stop - start) (drop start xs), length-drop start xs, inside.0, inside.1, long)
 
--- a list of the child's values has as many items as the form asks for
+-- a list of the child's values has as many items as the form requires
 pub list_many : (form : Form) (w : ListForm) (len j : ℕ) (places : List ℕ) (xs : List PlainValue) → form ≡ forms.Lists w → HasItemPlaces w len (length xs) places → j < len
     → HoldsList form (length (list_of_values (values_of (items_at w places xs j))))
 list_many form w len j places xs is laid l =
     subst (λ f. HoldsList f (length (list_of_values (values_of (items_at w places xs j))))) (sym is) (rw (list_again (items_at w places xs j)) (items_many w len j places xs laid l))
 
 -- a slot of each of the children
-struct_fits : (fields : Fields) (cs : List Column) (j : ℕ) → AreOf fields cs → AllByRecursion IsColumn cs
+struct_fits : (fields : FieldTree) (cs : List Column) (j : ℕ) → AreOf fields cs → AllByRecursion IsColumn cs
     → PartsFit fields (values_of (map (λ values. value_at values j) (map (λ (c : Column). c.raw) cs)))
 struct_fits none [] j typed known = tt
 struct_fits none (c ∷ cs) j typed known = absurd typed
@@ -127,11 +127,11 @@ struct_fits (more head children rest) [] j typed known = absurd typed
 struct_fits (more head children rest) (c ∷ cs) j typed known =
     (all_at (FitsType (record { tag = head.tag; children = children }) head.encoding) c.raw j tt (field_fits head children c typed.0 typed.1 known.0), struct_fits rest cs j typed.2 known.1)
 
--- the bytes of a slot of fixed width are as many
+-- the number of bytes in a slot of fixed width is that width
 fixed_long : (width j : ℕ) (bytes : List ℕ) → width * j + width ≤ length bytes → length (slice_range bytes (width * j) (width * j + width)) ≡ width
 fixed_long width j bytes inside = omega (arith, length-take (width * j + width - width * j) (drop (width * j) bytes), length-drop (width * j) bytes)
 
--- byte strings fit the form of byte strings, texts the one of texts
+-- byte strings fit the form of byte strings, and texts fit the form of texts
 binary_fits : (form : Form) (w : OffsetWidth) (bytes : List ℕ) → form ≡ forms.Bytes w → HoldsBinary form bytes
 binary_fits form w bytes is = subst (λ f. HoldsBinary f bytes) (sym is) tt
 

@@ -31,13 +31,13 @@ use Rattle.arrow_data.proofs.Fitting.{part_small, some_bytes}
 use Rattle.arrow_data.proofs.Sameness.{at_values_from, length-values_from}
 use Rattle.arrow_data.proofs.Shown.{at_slots, slot_inside}
 
--- one more of the first ones
+-- the first k + 1 values are the first k and one more
 take_next : (vs : List PlainValue) (k : ℕ) → k < length vs → take (suc k) vs ≡ take k vs ++ value_at vs k ∷ []
 take_next [] k h = absurd (omega (arith, h))
 take_next (v ∷ vs) zero h = refl
 take_next (v ∷ vs) (suc k) h = ap (λ others. v ∷ others) (take_next vs k (omega (arith, h)))
 
--- a part of a list, and the one after it
+-- a range of a list is a range and the one after it
 part_both : {A : Type 0} (xs : List A) (a b c : ℕ) → a ≤ b → b ≤ c → slice_range xs a c ≡ slice_range xs a b ++ slice_range xs b c
 part_both xs a b c low high =
     let count : c - a ≡ (b - a) + (c - b) = omega (arith, low, high) in
@@ -45,20 +45,20 @@ part_both xs a b c low high =
     ap (λ n. take n (drop a xs)) count ∙ take-add (b - a) (c - b) (drop a xs)
     ∙ ap (λ others. slice_range xs a b ++ take (c - b) others) (drop-drop (b - a) a xs ∙ ap (λ n. drop n xs) place)
 
--- what each slot of a range has stands between two places that follow one another
-abbrev pub StandBetween : {A : Type 0} → (PlainValue → List A) → List PlainValue → List A → (ℕ → ℕ) → ℕ → ℕ → Type 0
-StandBetween g raw all place start stop =
+-- the elements of each slot of a range lie between two consecutive indices of `all`
+abbrev pub LieBetween : {A : Type 0} → (PlainValue → List A) → List PlainValue → List A → (ℕ → ℕ) → ℕ → ℕ → Type 0
+LieBetween g raw all place start stop =
     (j : ℕ) → start ≤ j → j < stop → (place j ≤ place (j + 1)) × (g (value_at raw j) ≡ slice_range all (place j) (place (j + 1)))
 
--- so the places never fall
-pub places_rise : {A : Type 0} (g : PlainValue → List A) (raw : List PlainValue) (all : List A) (place : ℕ → ℕ) (start n : ℕ) → StandBetween g raw all place start (start + n) → place start ≤ place (start + n)
+-- so the indices never decrease
+pub places_rise : {A : Type 0} (g : PlainValue → List A) (raw : List PlainValue) (all : List A) (place : ℕ → ℕ) (start n : ℕ) → LieBetween g raw all place start (start + n) → place start ≤ place (start + n)
 places_rise g raw all place start zero each = let same : start ≡ start + 0 = omega arith in omega (arith, ap place same)
 places_rise g raw all place start (suc n) each =
     let one : start + n + 1 ≡ start + suc n = omega arith in
     omega (arith, places_rise g raw all place start n (λ j low high. each j low (omega (arith, high))), (each (start + n) (omega arith) (omega arith)).0, ap place one)
 
--- and what all slots have stands between the first place and the last
-joined : {A : Type 0} (g : PlainValue → List A) (raw : List PlainValue) (all : List A) (place : ℕ → ℕ) (start n : ℕ) → start + n ≤ length raw → StandBetween g raw all place start (start + n)
+-- and the elements of all slots lie between the first index and the last
+joined : {A : Type 0} (g : PlainValue → List A) (raw : List PlainValue) (all : List A) (place : ℕ → ℕ) (start n : ℕ) → start + n ≤ length raw → LieBetween g raw all place start (start + n)
     → flat_map g (take n (drop start raw)) ≡ slice_range all (place start) (place (start + n))
 joined g raw all place start zero inside each =
     let same : start + 0 ≡ start = omega arith in
@@ -74,15 +74,15 @@ joined g raw all place start (suc n) inside each =
     ∙ sym (part_both all (place start) (place (start + n)) (place (start + n + 1)) (places_rise g raw all place start n before) last.0)
     ∙ ap (λ k. slice_range all (place start) (place k)) one
 
--- what a range has
-pub joined_range : {A : Type 0} (g : PlainValue → List A) (raw : List PlainValue) (all : List A) (place : ℕ → ℕ) (start stop : ℕ) → start ≤ stop → stop ≤ length raw → StandBetween g raw all place start stop
+-- the elements of a range of slots
+pub joined_range : {A : Type 0} (g : PlainValue → List A) (raw : List PlainValue) (all : List A) (place : ℕ → ℕ) (start stop : ℕ) → start ≤ stop → stop ≤ length raw → LieBetween g raw all place start stop
     → slice_range all (place start) (place stop) ≡ flat_map g (values_from raw start stop)
 joined_range g raw all place start stop order inside each =
     let end : start + (stop - start) ≡ stop = omega (arith, order) in
     ap (λ k. slice_range all (place start) (place k)) (sym end)
     ∙ sym (joined g raw all place start (stop - start) (omega (arith, order, inside)) (λ j low high. each j low (omega (arith, high, order))))
 
--- what a slot shows that is not null
+-- the value that a slot shows if it is not null
 pub full_value : (valid : Bool) (payload shown : PlainValue) → shown ≡ (if valid then payload else null_value) → is_null_value shown ≡ false → shown ≡ payload
 full_value true payload shown is full = is
 full_value false payload shown is full = let no : true ≡ false = ap is_null_value (sym is) ∙ full in cc
@@ -91,16 +91,16 @@ full_value false payload shown is full = let no : true ≡ false = ap is_null_va
 slots_long : (raw : List PlainValue) (len : ℕ) (slot : ℕ → PlainValue) → raw ≡ slots len slot → (j : ℕ) → j < len → value_at raw j ≡ slot j
 slots_long raw len slot is j h = ap (λ vs. value_at vs j) is ∙ at_slots len slot j h
 
--- two ranges that are given
+-- two ranges that are both given and equal as options are equal
 same_range : (v w : ByteRange) → ◌≡◌ {A = Option ByteRange} (Some v) (Some w) → v ≡ w
 same_range v w e = cc
 
--- a slot is null where it is not valid
+-- a slot is null if it is not valid
 null_by : (valid : Bool) (payload : PlainValue) → is_null_value payload ≡ false → is_null_value (if valid then payload else null_value) ≡ not valid
 null_by true payload full = full
 null_by false payload full = refl
 
--- so of every node that has a bitmap or none
+-- the same for every node that has a bitmap or an empty one
 pub null_where : (body : List ℕ) (r : Ranges) (v : ByteRange) (j : ℕ) → validity_in r ≡ Some v → is_null_value (raw_slot body r j) ≡ not (is_valid_at (bytes_of body v) j)
 null_where body ranges.Nulls v j is = cc
 null_where body (ranges.Bools b) v j is = null_by (is_valid_at (bytes_of body b.validity) j) _ refl ∙ ap (λ x. not (is_valid_at (bytes_of body x) j)) (same_range b.validity v is)
@@ -124,7 +124,7 @@ null_always body (ranges.Lists w o p child) j is = cc
 null_always body (ranges.Structs o children) j is = cc
 null_always body (ranges.Indices n d) j is = cc
 
--- the validity has a bit for each slot, or none
+-- the validity has a bit for each slot, or is empty
 pub validity_long : (len : ℕ) (t : TypeShape) (e : Option Encoding) (body : List ℕ) (r : Ranges) (v : ByteRange) → validity_in r ≡ Some v → AreRanges len t e body r
     → IsInside body v × HasBits len (bytes_of body v)
 validity_long len t e body ranges.Nulls v is ok = cc
@@ -150,7 +150,7 @@ first_of c len body r v start stop i raw is inside first =
       null = λ h. shown i (omega (arith, h, inside)) ∙ ap not (first.invalid h);
     }
 
--- where all are null it is the first one
+-- if all slots are null, it is the first slot
 pub first_always : (c : Column) (len : ℕ) (body : List ℕ) (r : Ranges) (start stop : ℕ) → c.raw ≡ slots len (raw_slot body r) → validity_in r ≡ None → start ≤ stop → stop ≤ len → IsFirstNull c start stop start
 first_always c len body r start stop raw is order inside = record {
   low = omega arith;
@@ -159,7 +159,7 @@ first_always c len body r start stop raw is order inside = record {
   null = λ h. ap is_null_value (slots_long c.raw len (raw_slot body r) raw start (omega (arith, h, inside))) ∙ null_always body r start is;
 }
 
--- a part of one width
+-- a range of one width
 part_is : (w j : ℕ) (bytes : List ℕ) → (w * j ≤ w * (j + 1)) × (take w (drop (w * j) bytes) ≡ slice_range bytes (w * j) (w * (j + 1)))
 part_is w j bytes =
     let next : w * (j + 1) ≡ w * j + w = omega (arith, mul-suc w j) in
@@ -203,7 +203,7 @@ fixed_part form c len body f start stop raw long order inside full =
     let next : f.width * j + f.width ≡ f.width * (j + 1) = omega (arith, mul-suc f.width j) in
     ((part_is f.width j values).0, ap (value_bytes form) shown ∙ ap (slice_range values (f.width * j)) next))
 
--- the bytes of byte strings behind offsets
+-- the bytes of byte strings that are given by offsets
 pub strings_part : (form : Form) (c : Column) (len : ℕ) (body : List ℕ) (s : Strings) (start stop : ℕ) (value : List ℕ → PlainValue)
     → ((bytes : List ℕ) → value_bytes form (value bytes) ≡ bytes)
     → c.raw ≡ slots len (λ j. or_null (bytes_of body s.validity) j (value (range_of s.width (bytes_of body s.offsets) (bytes_of body s.bytes) j))) → len ≡ length c.raw
@@ -236,7 +236,7 @@ none_part form c len start stop slot raw long inside none =
     let few : j < stop - start = omega (arith, h, length-values_from c.raw start stop (omega (arith, inside, long))) in
     ap (value_bytes form) (at_values_from c.raw start stop j few ∙ slots_long c.raw len slot raw (start + j) (omega (arith, few, inside))) ∙ none (start + j)))
 
--- no slots have no bytes
+-- an empty range of slots has no bytes
 pub empty_part : (g : PlainValue → List ℕ) (raw : List PlainValue) (start stop : ℕ) → start ≡ stop → [] ≡ flat_map g (values_from raw start stop)
 empty_part g raw start stop same = let none : 0 ≡ stop - start = omega (arith, same) in ap (λ n. flat_map g (take n (drop start raw))) none
 

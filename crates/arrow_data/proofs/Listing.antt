@@ -6,19 +6,19 @@ use Rattle.std.proofs.lemmas.Bool.Decides.{Decides-int_eq}
 use Rattle.arrow_data.specs.Column.{ValueList}
 use Rattle.arrow_data.specs.Listed.{listed}
 
--- two different ids are told apart
+-- two different ids compare as different
 apart : (x y : ℤ) → x ≢ y → int_eq x y ≡ false
 apart x y other = ⊎_elim (λ same. absurd (other ((Decides-int_eq x y).0 same))) (λ differs. differs) (cases_Bool (int_eq x y))
 
--- an entry of the id that stands first is the one that is listed
+-- if the first entry has the id, it is the one that is listed
 pub listed_first : (e : ℤ × ValueList) (ds : List (ℤ × ValueList)) (id : ℤ) → e.0 ≡ id → listed (e ∷ ds) id ≡ Some e.1
 listed_first e ds id same = cond-true (int_eq e.0 id) (Some e.1) (listed ds id) ((Decides-int_eq e.0 id).1 same)
 
--- a first entry of another id is passed over
+-- a first entry with another id is passed over
 pub listed_next : (e : ℤ × ValueList) (ds : List (ℤ × ValueList)) (id : ℤ) → e.0 ≢ id → listed (e ∷ ds) id ≡ listed ds id
 listed_next e ds id other = cond-false (int_eq e.0 id) (Some e.1) (listed ds id) (apart e.0 id other)
 
--- the entry of the id before which none of it stands is the one that is listed
+-- the entry of the id that no other entry of it precedes is the one that is listed
 pub listed_at : (ds : List (ℤ × ValueList)) (id : ℤ) (i : ℕ) (e : ℤ × ValueList) → ((k : ℕ) → k < i → (get_or ds k e).0 ≢ id) → i < length ds → (get_or ds i e).0 ≡ id
     → listed ds id ≡ Some (get_or ds i e).1
 listed_at [] id i e before h same = absurd (omega arith)

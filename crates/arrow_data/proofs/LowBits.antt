@@ -6,7 +6,7 @@ use Rattle.std.specs.Int.{cast_signed, cast_unsigned, w128}
 use Rattle.arrow_bits.specs.Numbers.{int_bytes, number_bytes, twos_complement}
 use Rattle.arrow_bits.proofs.Reading.{signed_128}
 
--- a number that was read by its sign, without it
+-- a number that was read with a sign, without it
 pub low_again : (n : ℕ) → n < 2 ^ 128 → cast_unsigned w128 (twos_complement 16 n) ≡ n
 low_again n h = ap (cast_unsigned w128) (sym (signed_128 n h)) ∙ of_z-to_z w128 n h
 

@@ -1,4 +1,4 @@
--- The ranges of a node stand for its buffers.
+-- The ranges of a node represent its buffers.
 use Rattle.std.proofs.Common.{◌≡◌, ◌≤◌, ◌<◌, ℕ, List, [], ◌∷◌, ◌++◌, length, map, Some, None, refl, sym, ap, ◌∙◌, subst, arith}
 use Rattle.std.proofs.lemmas.List.{append-nil, get_or-map}
 use Rattle.std.proofs.lemmas.List.Elements.{All-from_recursion}
@@ -7,7 +7,7 @@ use Rattle.std.specs.List.{AllByRecursion}
 use Rattle.std.specs.Prelude.{slice_index_or}
 use Rattle.std.specs.declared.alloc.Global.{Global}
 use Rattle.std.specs.declared.vec.Vec.{Vec}
-use Rattle.arrow_types.specs.Field.{Fields, none, more, TypeShape}
+use Rattle.arrow_types.specs.Field.{FieldTree, none, more, TypeShape}
 use Rattle.arrow_data.specs.declared.form.NumberForm.{NumberForm}
 use Rattle.arrow_types.specs.declared.field.Encoding.{Encoding}
 use Rattle.arrow_data.specs.Column.{Column, AreOf, IsColumn, counts_of, listed_of, plain_column, slots_of}
@@ -36,8 +36,8 @@ buffer_read body bs k d h = get_or-map (bytes_of body) bs k d [] h
 pub inside_read : (body : List ℕ) (bs : List ByteRange) (k : ℕ) (d : ByteRange) → AllByRecursion (IsInside body) bs → k < length bs → IsInside body (slice_index_or bs k d)
 inside_read body bs k d all h = All-from_recursion (IsInside body) bs all k d h
 
--- below a leaf's type stand no fields
-pub leaf_bare : (form : Form) (fields : Fields) → IsLeaf form → HasFieldsOf form fields → fields ≡ none
+-- a leaf's type has no fields below it
+pub leaf_bare : (form : Form) (fields : FieldTree) → IsLeaf form → HasFieldsOf form fields → fields ≡ none
 leaf_bare forms.Nulls fields leaf own = own
 leaf_bare forms.Bits fields leaf own = own
 leaf_bare (forms.Numbers number) fields leaf own = own
@@ -59,14 +59,14 @@ leaf_laid (forms.Lists width) len b counts others leaf laid = absurd leaf
 leaf_laid forms.Structs len b counts others leaf laid = absurd leaf
 
 -- arrays of one field are one array
-pub one_child : (fields : Fields) (cs : List Column) → IsOneField fields → AreOf fields cs → length cs ≡ 1
+pub one_child : (fields : FieldTree) (cs : List Column) → IsOneField fields → AreOf fields cs → length cs ≡ 1
 one_child none cs one h = absurd one
 one_child (more head children none) [] one h = absurd h
 one_child (more head children none) (a ∷ []) one h = refl
 one_child (more head children none) (a ∷ b ∷ cs) one h = absurd h.2
 one_child (more head children (more head' children' rest)) cs one h = absurd one
 
--- the offsets of lists, where they are stored
+-- the offsets of lists, if they are stored
 offsets_read : (w : ListForm) (body : List ℕ) (bs : List ByteRange) → list_buffers w ≤ length bs → list_offsets w (map (bytes_of body) bs) ≡ bytes_of body (list_range w bs)
 offsets_read (Offsets width) body bs many = buffer_read body bs 1 (record { start = 0; end = 0 }) (omega (arith, many))
 offsets_read (Fixed size) body bs many = refl
@@ -108,7 +108,7 @@ values_by t form len b cs = record {
   below = map slots_of cs;
 }
 
--- its ranges and its child stand for what its buffers and its child do
+-- its ranges and its child represent the same column as its buffers and its child
 pub list_same : (w : ListForm) (t : TypeShape) (len : ℕ) (body : List ℕ) (bs : List ByteRange) (d : ByteRange) (cs : List Column) (child : Box Array) → form_of t.tag ≡ forms.Lists w → cs ≡ child.value ∷ [] → list_buffers w ≤ length bs
     → column_by t None len body (ranges.Lists w (slice_index_or bs 0 d) (list_range w bs) child) ≡ node_column t None len (map (bytes_of body) bs) cs []
 list_same w t len body bs d cs child form one many =
@@ -138,7 +138,7 @@ struct_lies t len body bs d cs form typed known one inside laid =
       known = known;
     }
 
--- its ranges and its children stand for what its buffers and its children do
+-- its ranges and its children represent the same column as its buffers and its children
 pub struct_same : (t : TypeShape) (len : ℕ) (body : List ℕ) (bs : List ByteRange) (d : ByteRange) (children : Vec Array Global) → form_of t.tag ≡ forms.Structs → 1 ≤ length bs
     → column_by t None len body (ranges.Structs (slice_index_or bs 0 d) children) ≡ node_column t None len (map (bytes_of body) bs) children.items []
 struct_same t len body bs d children form one =
@@ -162,17 +162,17 @@ read_as body bs k r h e = ap (bytes_of body) e ∙ sym (buffer_read body bs k r 
 lies_as : (body : List ℕ) (bs : List ByteRange) (k : ℕ) (r : ByteRange) → AllByRecursion (IsInside body) bs → k < length bs → r ≡ slice_index_or bs k r → IsInside body r
 lies_as body bs k r inside h e = subst (IsInside body) (sym e) (inside_read body bs k r inside h)
 
--- of no fields there are no columns, and so no dictionaries
-no_children : (fields : Fields) (cs : List Column) → fields ≡ none → AreOf fields cs → listed_of cs ≡ []
+-- without fields there are no columns, and so no dictionaries
+no_children : (fields : FieldTree) (cs : List Column) → fields ≡ none → AreOf fields cs → listed_of cs ≡ []
 no_children fields [] leaf h = refl
 no_children fields (c ∷ cs) leaf h = absurd (subst (λ f. AreOf f (c ∷ cs)) leaf h)
 
--- nor slots of them
-no_slots : (fields : Fields) (cs : List Column) → fields ≡ none → AreOf fields cs → map slots_of cs ≡ []
+-- nor any slots of columns
+no_slots : (fields : FieldTree) (cs : List Column) → fields ≡ none → AreOf fields cs → map slots_of cs ≡ []
 no_slots fields [] leaf h = refl
 no_slots fields (c ∷ cs) leaf h = absurd (subst (λ f. AreOf f (c ∷ cs)) leaf h)
 
--- Where no fields stand below a type and its form shows these slots, its node has the column of these slots.
+-- If a type has no fields below it and its form shows these slots, its node has the column of these slots.
 pub leaf_same : (t : TypeShape) (form : Form) (len : ℕ) (b : List (List ℕ)) (cs : List Column) (slot : ℕ → PlainValue) → form_of t.tag ≡ form → t.children ≡ none → AreOf t.children cs
     → node_offsets form len b ≡ [] → ((children : List (List PlainValue)) → slot ≡ value_slot form b children) → plain_column t (slots len (λ j. slot j)) ≡ node_column t None len b cs []
 leaf_same t form len b cs slot is leaf typed flat shows =
@@ -208,7 +208,7 @@ module _ (body : List ℕ) (bs : List ByteRange) (s : Strings) (three : 3 ≤ le
       → AreTexts s.width len (bytes_of body s.validity) (bytes_of body s.offsets) (bytes_of body s.bytes)
   texts_lie len texts = rw (read_as body bs 0 s.validity (omega (arith, three)) v, read_as body bs 1 s.offsets (omega (arith, three)) o, read_as body bs 2 s.bytes (omega (arith, three)) b) texts
 
-  -- the ranges stand for what the buffers do, whether a slot is read as bytes or as a text
+  -- the ranges represent the same slots as the buffers, whether a slot is read as bytes or as a text
   pub strings_same : (slot : List ℕ → List ℕ → List ℕ → ℕ → PlainValue)
       → slot (bytes_of body s.validity) (bytes_of body s.offsets) (bytes_of body s.bytes) ≡ slot (buffer (map (bytes_of body) bs) 0) (buffer (map (bytes_of body) bs) 1) (buffer (map (bytes_of body) bs) 2)
   strings_same slot =
@@ -218,7 +218,7 @@ module _ (body : List ℕ) (bs : List ByteRange) (s : Strings) (three : 3 ≤ le
       λ i. slot (first i) (second i) (third i)
 
 module _ (body : List ℕ) (bs : List ByteRange) (v w : ByteRange) (two : 2 ≤ length bs) (first : v ≡ slice_index_or bs 0 v) (second : w ≡ slice_index_or bs 1 w) where
-  -- two ranges stand for what two buffers do
+  -- two ranges represent the same slot as two buffers
   pub pair_same : (slot : List ℕ → List ℕ → ℕ → PlainValue) → slot (bytes_of body v) (bytes_of body w) ≡ slot (buffer (map (bytes_of body) bs) 0) (buffer (map (bytes_of body) bs) 1)
   pair_same slot =
       let one = read_as body bs 0 v (omega (arith, two)) first in

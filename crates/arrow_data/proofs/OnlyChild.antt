@@ -1,15 +1,15 @@
--- What is said of a child of a column leaves one child alone.
+-- A column determines its child: the clauses on a child of a column hold of only one child.
 use Rattle.std.proofs.Common.{◌≡◌, ℕ, [], ◌∷◌, get_or, Option, None, Some, sym, ap, ◌∙◌}
-use Rattle.arrow_types.specs.Field.{Fields, none, more}
+use Rattle.arrow_types.specs.Field.{FieldTree, none, more}
 use Rattle.arrow_data.specs.Column.{AreOf, Column, HasChild, HasField}
 use Rattle.arrow_data.specs.Laws.{AreOneColumn}
 
--- what is there, or else the other
+-- the content of an option, or else the other value
 abbrev there_or : {A : Type 0} → A → Option A → A
 there_or other None = other
 there_or other (Some x) = x
 
--- what is there twice is there once
+-- equal options have equal contents
 pub some_same : {A : Type 0} (x y : A) → (Some x ≡ Some y) → x ≡ y
 some_same x y same = ap (there_or x) same
 
@@ -24,7 +24,7 @@ one_field_of c k a b one other = record {
   listed = one.listed ∙ sym other.listed;
 }
 
-typed_as_one : (fields : Fields) (a b : Column) → AreOf fields (a ∷ []) → AreOf fields (b ∷ []) → (a.data_type ≡ b.data_type) × (a.encoding ≡ b.encoding)
+typed_as_one : (fields : FieldTree) (a b : Column) → AreOf fields (a ∷ []) → AreOf fields (b ∷ []) → (a.data_type ≡ b.data_type) × (a.encoding ≡ b.encoding)
 typed_as_one none a b one other = absurd one
 typed_as_one (more head children none) a b one other = (one.0 ∙ sym other.0, one.1 ∙ sym other.1)
 typed_as_one (more head children (more head' children' rest)) a b one other = absurd one.2

@@ -1,4 +1,4 @@
--- Intervals and decimals that are written as bytes are read again.
+-- Intervals and decimals that are written as bytes are read back unchanged.
 use Rattle.std.proofs.Common.{◌≡◌, ◌≤◌, ◌<◌, ◌+◌, ◌-◌, ◌/◌, ◌^◌, ◌*◌, ◌++◌, ℕ, zero, suc, ℤ, pos, negsuc, nat_abs, nat_eq, true, false, List, [], length, Some, None, if◌then◌else◌, refl, ap, sym, ◌∙◌, subst, arith, length-append, append_assoc}
 use Rattle.std.proofs.lemmas.Int.{ints}
 use Rattle.std.proofs.lemmas.List.{take-append-le}
@@ -6,14 +6,14 @@ use Rattle.std.proofs.Math.Seq.{drop-append_seam}
 use mir.Syntax.{w32, w64, w128}
 use mir.Val.{SFits}
 use Rattle.arrow_bits.specs.Numbers.{FitsInt, int_bytes, number_at, number_bytes, number_of, signed_at, twos_complement}
-use Rattle.arrow_bits.proofs.Written.{int_behind}
+use Rattle.arrow_bits.proofs.Written.{int_after}
 use Rattle.arrow_types.specs.declared.data_type.IntervalUnit.TheVariants as units
 use Rattle.arrow_data.specs.Decimals.{decimal_of_bytes}
 use Rattle.arrow_data.specs.Intervals.{day_time_in, interval_of_bytes, month_day_nano_in}
 use Rattle.arrow_data.specs.declared.decimals.Decimal.{Decimal}
 use Rattle.arrow_data.specs.declared.intervals.Interval.TheVariants.{DayTime, MonthDayNano}
 
--- as many bytes as were asked for
+-- the number of bytes is the width
 length_bytes : (width n : ℕ) → length (number_bytes width n) ≡ width
 length_bytes zero n = refl
 length_bytes (suc width) n = ap suc (length_bytes width (n / 256))
@@ -32,9 +32,9 @@ later_number : (place width : ℕ) (a b : List ℕ) → length a ≡ place → n
 unfolding number_at
 later_number place width a b long = subst (λ p. number_at (a ++ b) p width ≡ number_at b 0 width) long (rw (drop-append_seam a b) refl)
 
--- a signed number alone, at the beginning, and after other bytes
+-- a signed number by itself, at the beginning, and after other bytes
 alone : (width : ℕ) (z : ℤ) → 1 ≤ width → FitsInt width true z → signed_at (int_bytes width z) 0 width ≡ z
-alone width z one fits = int_behind [] width z one true fits
+alone width z one fits = int_after [] width z one true fits
 
 first : (width : ℕ) (z : ℤ) (b : List ℕ) → 1 ≤ width → FitsInt width true z → signed_at (int_bytes width z ++ b) 0 width ≡ z
 unfolding signed_at
@@ -57,7 +57,7 @@ pub in_16 : (z : ℤ) → SFits w128 z → FitsInt 16 true z
 in_16 (pos n) h = (omega (arith, ints), omega (arith, ints, h.sfits))
 in_16 (negsuc n) h = (omega (arith, ints, h.sfits), omega (arith, ints))
 
--- two numbers have the bytes of both
+-- the length of two numbers is the sum of their widths
 both_long : (v w : ℕ) (y z : ℤ) → length (int_bytes v y ++ int_bytes w z) ≡ v + w
 both_long v w y z = length-append (int_bytes v y) (int_bytes w z) ∙ (λ i. length_int v y i + length_int w z i)
 
@@ -84,7 +84,7 @@ month_day_nano_again months days ns m d n =
     let three = following 8 8 (a ++ b) c ns (both_long 4 4 months days) (alone 8 ns (omega arith) n) in
     ap (λ k. if nat_eq k 16 then Some (month_day_nano_in bytes) else None) long ∙ (λ i. Some (MonthDayNano (one i) (two i) (three i)))
 
--- a decimal of its parts
+-- a decimal from its two halves
 abbrev read : ℤ → ℤ → ℕ → Decimal
 read scale high low = record { high = high; low = low; scale = scale }
 
@@ -94,6 +94,6 @@ decimal_again scale high low fits small =
     let a = number_bytes 16 low in
     let b = int_bytes 16 high in
     let long : length (a ++ b) ≡ 32 = length-append a b ∙ (λ i. length_bytes 16 low i + length_int 16 high i) in
-    let below = first_number 16 a b (length_bytes 16 low) ∙ ap nat_abs (int_behind [] 16 (pos low) (omega arith) false (omega (arith, ints), omega (arith, ints, small))) in
+    let below = first_number 16 a b (length_bytes 16 low) ∙ ap nat_abs (int_after [] 16 (pos low) (omega arith) false (omega (arith, ints), omega (arith, ints, small))) in
     let above = following 16 16 a b high (length_bytes 16 low) (alone 16 high (omega arith) fits) in
     ap (λ n. if nat_eq n 32 then Some (read scale (signed_at (a ++ b) 16 16) (number_at (a ++ b) 0 16)) else None) long ∙ (λ i. Some (read scale (above i) (below i)))

@@ -4,7 +4,7 @@ use Rattle.std.proofs.lemmas.Bool.{false≢true, or_parts}
 use Rattle.std.specs.List.{AllByRecursion}
 use Rattle.std.specs.Prelude.{slice_range}
 use Rattle.arrow_bits.specs.Numbers.{int_of}
-use Rattle.arrow_types.specs.Field.{Fields, Head, none, more, TypeShape}
+use Rattle.arrow_types.specs.Field.{FieldTree, FieldHeader, none, more, TypeShape}
 use Rattle.arrow_types.specs.Schema.{has_encoding}
 use Rattle.arrow_types.specs.declared.field.Encoding.{Encoding}
 use Rattle.arrow_data.specs.Column.{Column, ValueList, AreOf, IsColumn, IsValueList}
@@ -17,13 +17,13 @@ use Rattle.arrow_data.specs.declared.array.Ranges.{Ranges}
 use Rattle.arrow_data.specs.declared.array.Ranges.TheVariants as ranges
 use Rattle.arrow_data.proofs.Fitting.{all_at, all_drop, all_take, items_fit, list_many, ranges_fit, shown_fits, slots_fit}
 
--- what has no encoding has none
+-- an encoding that is not there is `None`
 pub no_encoding : (e : Option Encoding) → is_some e ≡ false → e ≡ None
 no_encoding None h = refl
 no_encoding (Some e) h = absurd (false≢true (sym h))
 
--- fields without an encoding on any level are as they are
-plain_same : (fields : Fields) → has_encoding fields ≡ false → plain_fields fields ≡ fields
+-- fields without an encoding on any level are unchanged by `plain_fields`
+plain_same : (fields : FieldTree) → has_encoding fields ≡ false → plain_fields fields ≡ fields
 plain_same none h = refl
 plain_same (more head children rest) h =
     let others = or_parts (is_some head.encoding || has_encoding children) (has_encoding rest) h in
@@ -33,12 +33,12 @@ plain_same (more head children rest) h =
     λ i. more (same i) (plain_same children own.1 i) (plain_same rest others.1 i)
 
 -- the resolved values of a column of a field fit the field without its encodings
-field_resolved_fits : (head : Head) (children : Fields) (c : Column) → c.data_type ≡ record { tag = head.tag; children = children } → IsColumn c
+field_resolved_fits : (head : FieldHeader) (children : FieldTree) (c : Column) → c.data_type ≡ record { tag = head.tag; children = children } → IsColumn c
     → AllFit (record { tag = head.tag; children = plain_fields children }) None c.resolved
 field_resolved_fits head children c typed known = subst (λ t. AllFit (plain_type t) None c.resolved) typed known.resolved_fits
 
 -- a range of the child's values
-list_resolved_fits : (fields : Fields) (child : Column) (a b : ℕ) → AreOf fields (child ∷ []) → IsColumn child → ItemsFit (plain_fields fields) (values_of (slice_range child.resolved a b))
+list_resolved_fits : (fields : FieldTree) (child : Column) (a b : ℕ) → AreOf fields (child ∷ []) → IsColumn child → ItemsFit (plain_fields fields) (values_of (slice_range child.resolved a b))
 list_resolved_fits none child a b typed known = absurd typed
 list_resolved_fits (more head children rest) child a b typed known =
     let P = FitsType (record { tag = head.tag; children = plain_fields children }) None in
@@ -46,7 +46,7 @@ list_resolved_fits (more head children rest) child a b typed known =
     (all_take P (b - a) (drop a child.resolved) (all_drop P a child.resolved (field_resolved_fits head children child typed.0 known)))
 
 -- a slot of each of the children
-struct_resolved_fits : (fields : Fields) (cs : List Column) (j : ℕ) → AreOf fields cs → AllByRecursion IsColumn cs
+struct_resolved_fits : (fields : FieldTree) (cs : List Column) (j : ℕ) → AreOf fields cs → AllByRecursion IsColumn cs
     → PartsFit (plain_fields fields) (values_of (map (λ values. value_at values j) (map (λ (c : Column). c.resolved) cs)))
 struct_resolved_fits none [] j typed known = tt
 struct_resolved_fits none (c ∷ cs) j typed known = absurd typed

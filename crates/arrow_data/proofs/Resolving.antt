@@ -1,4 +1,4 @@
--- Why the resolved values of every array are what its raw values stand for.
+-- Why the resolved values of every array are what its raw values resolve to.
 use Rattle.std.proofs.Common.{◌≡◌, ◌≤◌, ◌<◌, ◌||◌, ◌+◌, ◌-◌, ◌*◌, ℕ, zero, suc, ℤ, pos, negsuc, Bool, true, false, List, [], ◌∷◌, ◌++◌, length, map, take, drop, get_or, is_some, Option, Some, None, refl, sym, ap, ◌∙◌, subst, arith, if◌then◌else◌}
 use Rattle.std.proofs.lemmas.Bool.{false≢true}
 use Rattle.std.proofs.lemmas.List.{take-map, drop-map}
@@ -7,7 +7,7 @@ use Rattle.std.specs.List.{AllByRecursion, range_with_len}
 use Rattle.std.specs.Prelude.{slice_range, option_map}
 use Rattle.std.proofs.lemmas.Bool.{or_parts}
 use Rattle.arrow_bits.specs.Numbers.{int_of}
-use Rattle.arrow_types.specs.Field.{Fields, none, more, TypeShape}
+use Rattle.arrow_types.specs.Field.{FieldTree, none, more, TypeShape}
 use Rattle.arrow_types.specs.Schema.{dictionary_fields, has_encoding}
 use Rattle.arrow_types.specs.View.{type_view}
 use Rattle.arrow_types.specs.declared.field.Encoding.{Encoding}
@@ -33,24 +33,24 @@ counted : (n a : ℕ) (f : PlainValue → Option PlainValue) (raw resolved : ℕ
 counted zero a f raw resolved h = refl
 counted (suc n) a f raw resolved h = λ i. h a (omega arith) i ∷ counted n (a + 1) f raw resolved (λ j l. h j (omega arith)) i
 
--- where each slot resolves, all do
+-- if each slot resolves, all do
 pub slots_resolve : (n : ℕ) (f : PlainValue → Option PlainValue) (raw resolved : ℕ → PlainValue) → ((j : ℕ) → j < n → f (raw j) ≡ Some (resolved j))
     → map f (slots n raw) ≡ map Some (slots n resolved)
 slots_resolve n f raw resolved h = counted n 0 f raw resolved (λ j l. h j (omega arith))
 
--- null stands for itself
-pub null_resolves : (e : Option Encoding) (fields : Fields) (d : ℤ → List PlainValue) → resolve e fields d null_value ≡ Some null_value
+-- null resolves to itself
+pub null_resolves : (e : Option Encoding) (fields : FieldTree) (d : ℤ → List PlainValue) → resolve e fields d null_value ≡ Some null_value
 null_resolves None fields d = refl
 null_resolves (Some e) fields d = refl
 
--- a slot whose value resolves where it is valid
-pub shown_resolves : (e : Option Encoding) (fields : Fields) (d : ℤ → List PlainValue) (valid : Bool) (x y : PlainValue) → (valid ≡ true → resolve e fields d x ≡ Some y)
+-- a slot resolves if its value resolves when the slot is valid
+pub shown_resolves : (e : Option Encoding) (fields : FieldTree) (d : ℤ → List PlainValue) (valid : Bool) (x y : PlainValue) → (valid ≡ true → resolve e fields d x ≡ Some y)
     → resolve e fields d (if valid then x else null_value) ≡ Some (if valid then y else null_value)
 shown_resolves e fields d true x y h = h refl
 shown_resolves e fields d false x y h = null_resolves e fields d
 
 -- the items of a list
-pub items_resolve : (fields : Fields) (d : ℤ → List PlainValue) (f : PlainValue → Option PlainValue) (xs ys : List PlainValue)
+pub items_resolve : (fields : FieldTree) (d : ℤ → List PlainValue) (f : PlainValue → Option PlainValue) (xs ys : List PlainValue)
     → ((value : PlainValue) (others : PlainValues) → resolve_items fields d (more_values value others) ≡ before (f value) (resolve_items fields d others))
     → map f xs ≡ map Some ys → resolve_items fields d (values_of xs) ≡ Some (values_of ys)
 items_resolve fields d f [] [] step p = refl
@@ -61,12 +61,12 @@ items_resolve fields d f (x ∷ xs) (y ∷ ys) step p =
 items_resolve fields d f [] (y ∷ ys) step p = cc
 items_resolve fields d f (x ∷ xs) [] step p = cc
 
--- a part of values that resolve resolves
+-- a range of values that resolve resolves
 pub range_resolves : (f : PlainValue → Option PlainValue) (xs ys : List PlainValue) (a b : ℕ) → map f xs ≡ map Some ys → map f (slice_range xs a b) ≡ map Some (slice_range ys a b)
 range_resolves f xs ys a b p =
     sym (ap (take (b - a)) (drop-map f a xs) ∙ take-map f (b - a) (drop a xs)) ∙ ap (λ zs. take (b - a) (drop a zs)) p ∙ ap (take (b - a)) (drop-map Some a ys) ∙ take-map Some (b - a) (drop a ys)
 
-list_resolves : (fields : Fields) (child : Column) (d : ℤ → List PlainValue) (a b : ℕ) → AreOf fields (child ∷ []) → IsColumn child → Agree child.dictionaries d
+list_resolves : (fields : FieldTree) (child : Column) (d : ℤ → List PlainValue) (a b : ℕ) → AreOf fields (child ∷ []) → IsColumn child → Agree child.dictionaries d
     → resolve_items fields d (values_of (slice_range child.raw a b)) ≡ Some (values_of (slice_range child.resolved a b))
 list_resolves none child d a b typed known agree = absurd typed
 list_resolves (more head children rest) child d a b typed known agree =
@@ -91,7 +91,7 @@ agree_right : (xs ys : List (ℤ × ValueList)) (d : ℤ → List PlainValue) �
 agree_right [] ys d h = h
 agree_right (x ∷ xs) ys d h = agree_right xs ys d h.1
 
-struct_resolves : (fields : Fields) (cs : List Column) (d : ℤ → List PlainValue) (j : ℕ) → AreOf fields cs → AllByRecursion IsColumn cs → Agree (listed_of cs) d
+struct_resolves : (fields : FieldTree) (cs : List Column) (d : ℤ → List PlainValue) (j : ℕ) → AreOf fields cs → AllByRecursion IsColumn cs → Agree (listed_of cs) d
     → resolve_parts fields d (values_of (map (λ values. value_at values j) (map (λ (c : Column). c.raw) cs))) ≡ Some (values_of (map (λ values. value_at values j) (map (λ (c : Column). c.resolved) cs)))
 struct_resolves none [] d j typed known agree = refl
 struct_resolves none (c ∷ cs) d j typed known agree = absurd typed
@@ -104,14 +104,13 @@ struct_resolves (more head children rest) (c ∷ cs) d j typed known agree =
     let others = struct_resolves rest cs d j typed.2 known.1 (agree_right c.dictionaries (listed_of cs) d agree) in
     λ i. before (here i) (others i)
 
--- an index of a dictionary
--- an index that has its value stands for it
+-- an index of a dictionary that has a value for it resolves to that value
 pub index_resolves : (values : List PlainValue) (z : ℤ) → IsIndex (length values) z → entry_of values z ≡ Some (entry_at values z)
 index_resolves values (pos n) h = slice_get-get_or values n null_value h
 index_resolves values (negsuc n) h = absurd h
 
--- without an encoding on any level the columns of fields hold the values that their raw values are
-children_plain : (fields : Fields) (cs : List Column) → AreOf fields cs → AllByRecursion IsColumn cs → has_encoding fields ≡ false
+-- without an encoding on any level, the resolved values of the columns of fields are their raw values
+children_plain : (fields : FieldTree) (cs : List Column) → AreOf fields cs → AllByRecursion IsColumn cs → has_encoding fields ≡ false
     → map (λ (c : Column). c.resolved) cs ≡ map (λ (c : Column). c.raw) cs
 children_plain none [] typed known flat = refl
 children_plain none (c ∷ cs) typed known flat = absurd typed
@@ -122,7 +121,7 @@ children_plain (more head children rest) (c ∷ cs) typed known flat =
     let here = known.0.plain (typed.1 ∙ no_encoding head.encoding own.0) (ap (λ (t : TypeShape). has_encoding t.children) typed.0 ∙ own.1) in
     λ i. here i ∷ children_plain rest cs typed.2 known.1 others.1 i
 
-child_plain : (fields : Fields) (c : Column) → AreOf fields (c ∷ []) → IsColumn c → has_encoding fields ≡ false → c.resolved ≡ c.raw
+child_plain : (fields : FieldTree) (c : Column) → AreOf fields (c ∷ []) → IsColumn c → has_encoding fields ≡ false → c.resolved ≡ c.raw
 child_plain fields c typed known flat = ap (λ vs. get_or vs 0 []) (children_plain fields (c ∷ []) typed (known, tt) flat)
 
 -- a column of values
@@ -143,8 +142,8 @@ values_known t n raw resolved listed offsets below few fits resolved_fits lists 
   resolves = λ d agree. slots_resolve n (resolve None t.children d) (λ j. raw j) (λ j. resolved j) (h d agree);
 }
 
--- a slot of a value that holds no other
-pub plain_resolves : (e : Option Encoding) (fields : Fields) (d : ℤ → List PlainValue) (valid : Bool) (x : PlainValue) → resolve e fields d x ≡ Some x
+-- a slot of a value that holds no other values
+pub plain_resolves : (e : Option Encoding) (fields : FieldTree) (d : ℤ → List PlainValue) (valid : Bool) (x : PlainValue) → resolve e fields d x ≡ Some x
     → resolve e fields d (if valid then x else null_value) ≡ Some (if valid then x else null_value)
 plain_resolves e fields d valid x h = shown_resolves e fields d valid x x (λ _. h)
 
@@ -152,7 +151,7 @@ plain_resolves e fields d valid x h = shown_resolves e fields d valid x x (λ _.
 none_fit : (len : ℕ) (t : TypeShape) (e : Option Encoding) (body : List ℕ) (r : Ranges) → AreBytes body → AreRanges len t e body r → e ≡ None → AllFit t None (slots len (raw_slot body r))
 none_fit len t e body r small h plain = subst (λ x. AllFit t x (slots len (raw_slot body r))) plain (ranges_fit len t e body r small h)
 
--- what the ranges make known of the column
+-- what is known of the column of a node's ranges
 pub ranges_known : (len : ℕ) (t : TypeShape) (e : Option Encoding) (body : List ℕ) (r : Ranges) → len ≤ 2147483647 → AreBytes body → HasOwnFields t → AreRanges len t e body r → IsColumn (column_by t e len body r)
 ranges_known len t e body ranges.Nulls few small has h =
     subst (λ x. IsColumn (column_by t x len body ranges.Nulls)) (sym h.0) (values_known t len (λ j. null_value) (λ j. null_value) [] [] [] few (none_fit len t e body ranges.Nulls small h h.0) (ranges_resolved_fit len t e body ranges.Nulls small h) (leaf_listed (form_of t.tag) forms.Nulls t.children has h.1 (λ x. x)) tt (λ _ j. refl) (λ d agree j l. refl))

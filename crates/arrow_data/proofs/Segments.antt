@@ -10,32 +10,32 @@ use Rattle.arrow_data.specs.Column.{Column, ValueList, HasValue, IsColumn}
 use Rattle.arrow_data.specs.Segments.{columns_of, joined, IsSegment, starts_from, starts_of, Between}
 use Rattle.arrow_data.specs.declared.dictionary.Segment.{Segment}
 
--- the values with those of one column more
+-- the values with those of one more column
 pub joined_push : (cs : List Column) (c : Column) → joined (cs ++ c ∷ []) ≡ joined cs ++ c.raw
 joined_push [] c = append-nil c.raw
 joined_push (x ∷ cs) c = ap (λ vs. x.raw ++ vs) (joined_push cs c) ∙ sym (append_assoc x.raw (joined cs) c.raw)
 
--- one segment more of the type leaves them all of the type
+-- one more segment of the type leaves all segments of the type
 pub segments_push : (t : TypeShape) (cs : List Column) (c : Column) → AllByRecursion (IsSegment t) cs → IsSegment t c → AllByRecursion (IsSegment t) (cs ++ c ∷ [])
 segments_push t [] c h s = (s, tt)
 segments_push t (x ∷ cs) c h s = (h.0, segments_push t cs c h.1 s)
 
--- the start of one segment more
+-- the start of one more segment
 pub starts_push : (k : ℕ) (cs : List Column) (c : Column) → starts_from k (cs ++ c ∷ []) ≡ starts_from k cs ++ (k + length (joined cs)) ∷ []
 starts_push k [] c = ap (λ n. n ∷ []) (omega arith)
 starts_push k (x ∷ cs) c =
     let end : k + length x.raw + length (joined cs) ≡ k + length (x.raw ++ joined cs) = omega (arith, length-append x.raw (joined cs)) in
     ap (λ ns. k ∷ ns) (starts_push (k + length x.raw) cs c ∙ ap (λ n. starts_from (k + length x.raw) cs ++ n ∷ []) end)
 
--- the columns with that of one segment more
+-- the columns with that of one more segment
 pub columns_push : (parts : List Segment) (s : Segment) → columns_of (parts ++ s ∷ []) ≡ columns_of parts ++ s.array.value ∷ []
 columns_push parts s = map_push (λ (x : Segment). x.array.value) parts s
 
--- the starts with that of one segment more
+-- the starts with that of one more segment
 pub starts_of_push : (parts : List Segment) (s : Segment) → starts_of (parts ++ s ∷ []) ≡ starts_of parts ++ s.start ∷ []
 starts_of_push parts s = map_push (λ (x : Segment). x.start) parts s
 
--- with the values of one column more of the type they all fit it
+-- with the values of one more column of the type, all values fit the type
 all_both : (P : PlainValue → Type 0) (xs ys : List PlainValue) → AllByRecursion P xs → AllByRecursion P ys → AllByRecursion P (xs ++ ys)
 all_both P [] ys h k = k
 all_both P (x ∷ xs) ys h k = (h.0, all_both P xs ys h.1 k)
@@ -44,10 +44,10 @@ pub fits_push : (t : TypeShape) (xs : List PlainValue) (c : Column) → AllFit t
 fits_push t xs c h known typed plain =
     all_both (FitsType t None) xs c.raw h (subst (λ e. AllFit t e c.raw) plain (subst (λ x. AllFit x c.encoding c.raw) typed known.fits))
 
--- what one segment more changes
+-- what one more segment changes
 pub ruleset segments = (fits_push, joined_push, segments_push, length-append, starts_push, columns_push, starts_of_push)
 
--- where there is a value, there is a first segment, which begins at the first place
+-- if there is a value, there is a first segment, and it begins at the first index
 pub first_start : (k : ℕ) (cs : List Column) (i : ℕ) → i < length (joined cs) → (0 < length (starts_from k cs)) × (get_or (starts_from k cs) 0 0 ≡ k)
 first_start k [] i h = absurd (omega arith)
 first_start k (c ∷ cs) i h = (omega arith, refl)
@@ -58,12 +58,12 @@ start_from k [] s h = absurd (omega arith)
 start_from k (c ∷ cs) zero h = omega arith
 start_from k (c ∷ cs) (suc s) h = omega (arith, start_from (k + length c.raw) cs s (omega arith))
 
--- a place before the next start lies in the first column
+-- an index before the next start lies in the first column
 first_inside : (k : ℕ) (c : Column) (cs : List Column) (i : ℕ) → k ≤ i → (0 + 1 < length (c ∷ cs) → i < get_or (starts_from k (c ∷ cs)) (0 + 1) 0) → i < k + length (c.raw ++ joined cs) → i - k < length c.raw
 first_inside k c [] i b a t = omega (arith, length-append c.raw [])
 first_inside k c (x ∷ cs) i b a t = let here : i < k + length c.raw = a (omega arith) in omega arith
 
--- the segment whose values begin at or before i, and the next after it
+-- the last segment whose values begin at or before i
 pub found_segment : (k : ℕ) (cs : List Column) (s i : ℕ) (d : Column) → s < length cs → get_or (starts_from k cs) s 0 ≤ i → (s + 1 < length cs → i < get_or (starts_from k cs) (s + 1) 0) → i < k + length (joined cs)
     → (i - get_or (starts_from k cs) s 0 < length (get_or cs s d).raw) × (value_at (get_or cs s d).raw (i - get_or (starts_from k cs) s 0) ≡ value_at (joined cs) (i - k))
 found_segment k [] s i d h b a t = absurd (omega arith)
@@ -108,7 +108,7 @@ length-starts_of parts = length-map parts (λ (s : Segment). s.start)
 pub start_at : (parts : List Segment) (n : ℕ) (s : Segment) → n < length parts → s ≡ get_or parts n s → get_or (starts_of parts) n 0 ≡ s.start
 start_at parts n s h is = get_or-map (λ (x : Segment). x.start) parts n s 0 h ∙ ap (λ (x : Segment). x.start) (sym is)
 
--- what the search ends at
+-- the segment at which the search ends
 pub segment_value : (d : ValueList) (parts : List Segment) (low high i : ℕ) (s : Segment) → starts_of parts ≡ starts_from 0 (columns_of parts)
     → AllByRecursion (IsSegment d.data_type) (columns_of parts) → d.values ≡ joined (columns_of parts) → i < length d.values
     → Between (starts_of parts) low high i → high ≤ low + 1 → s ≡ get_or parts low s → HasValue d i s.array.value (i - s.start)
@@ -125,7 +125,7 @@ segment_value d parts low high i s from all values within between last is =
     let whole : i - 0 ≡ i = omega arith in
     let place : i - s.start ≡ i - get_or (starts_from 0 cs) low 0 = ap (λ x. i - x) here in
     let below : get_or (starts_from 0 cs) low 0 ≤ i = subst (λ x. get_or x low 0 ≤ i) from between.below in
-    let behind : (k : ℕ) → i - s.start + k < length s.array.value.raw → (i + k < length d.values) × (value_at d.values (i + k) ≡ value_at s.array.value.raw (i - s.start + k)) =
+    let past : (k : ℕ) → i - s.start + k < length s.array.value.raw → (i + k < length d.values) × (value_at d.values (i + k) ≡ value_at s.array.value.raw (i - s.start + k)) =
     λ k h.
     let run = found_run 0 cs low (i - s.start + k) s.array.value inside (subst (λ (c : Column). i - s.start + k < length c.raw) (sym same) h) in
     let to : get_or (starts_from 0 cs) low 0 - 0 + (i - s.start + k) ≡ i + k = omega (arith, here, below) in (
@@ -144,7 +144,7 @@ segment_value d parts low high i s from all values within between last is =
       typed = rw (← same) of_type.0;
       plain = rw (← same) of_type.1;
       same = rw (values, place, ← same) (sym (found.1 ∙ ap (value_at (joined cs)) whole));
-      follow = behind;
+      follow = past;
       starts = first_back;
       whole = all_of;
     }

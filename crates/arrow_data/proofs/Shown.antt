@@ -30,7 +30,7 @@ parts_inside width i k n m order inside long = (mul-le width i width k (omega ar
 pub items_inside : (size i n m : ℕ) → i < n → size * n ≤ m → (size * i ≤ size * (i + 1)) × (size * (i + 1) ≤ m)
 items_inside size i n m h long = parts_inside size i (i + 1) n m (omega arith) (omega (arith, h)) long
 
--- how many slots there are, what stands in each, and where its bytes are
+-- the number of slots, the value in each, and where its bytes are
 pub ruleset shown = (length_slots, at_slots, slot_inside)
 
 -- the values at a slot of the columns' values are those of the columns
@@ -43,7 +43,7 @@ pub longer_of_counts : (n : ℕ) (cs : List Column) → AllByRecursion (λ count
 longer_of_counts n [] h = tt
 longer_of_counts n (c ∷ cs) h = (h.0, longer_of_counts n cs h.1)
 
--- what a valid slot of a struct shows
+-- the value that a valid slot of a struct shows
 pub parts_shown : (c : Column) (n i : ℕ) (t : TypeShape) (body : List ℕ) (v : ByteRange) (cs : List Column)
     → c.raw ≡ slots n (λ j. struct_slot (bytes_of body v) (map (λ (x : Column). x.raw) cs) j)
     → c.resolved ≡ slots n (λ j. struct_slot (bytes_of body v) (map (λ (x : Column). x.resolved) cs) j) → c.data_type ≡ t → AreStructs n t body v cs

@@ -1,4 +1,4 @@
--- What a slot holds once indices are looked up.
+-- The value of a slot after indices are looked up.
 use Rattle.std.proofs.Common.{◌≡◌, ◌<◌, ℕ, ℤ, Bool, true, false, List, [], ◌∷◌, length, Option, None, Some, is_some, IsTrue, refl, sym, ap, ◌∙◌, subst, arith, if◌then◌else◌}
 use Rattle.std.proofs.lemmas.Bool.{false≢true}
 use Rattle.arrow_types.specs.Field.{TypeShape}
@@ -13,8 +13,8 @@ use Rattle.arrow_data.specs.Slots.{is_valid_at}
 use Rattle.arrow_data.specs.declared.array.Array.TheInside.{Inside}
 use Rattle.arrow_data.specs.declared.array.Ranges.{Ranges}
 use Rattle.arrow_data.specs.declared.array.Ranges.TheVariants as ranges
-use Rattle.arrow_data.specs.declared.array.Seen.{Seen}
-use Rattle.arrow_data.specs.declared.array.Seen.TheVariants.{Nothing, Truth, Number, Binary, Text, Items, Parts}
+use Rattle.arrow_data.specs.declared.array.SlotRef.{SlotRef}
+use Rattle.arrow_data.specs.declared.array.SlotRef.TheVariants.{Nothing, Truth, Number, Binary, Text, Items, Parts}
 use Rattle.arrow_data.specs.declared.array.SlotValue.{SlotValue}
 use Rattle.arrow_data.specs.declared.array.SlotValue.TheVariants as values
 use Rattle.arrow_data.proofs.Sameness.{longer}
@@ -36,7 +36,7 @@ index_slot : (valid : Bool) (z : ℤ) (y : PlainValue) → (if valid then int_va
 index_slot true z y h = absurd (cc)
 index_slot false z y h = refl
 
--- a value that holds no others and is no index stands for itself
+-- a value that holds no others and is not an index is its own resolved value
 own_slot_same : (len : ℕ) (t : TypeShape) (e : Option Encoding) (body : List ℕ) (r : Ranges) (j : ℕ) → AreRanges len t e body r
     → (IsTrue (is_some e) → raw_slot body r j ≡ null_value) → is_alone (raw_slot body r j) ≡ true → resolved_slot body r j ≡ raw_slot body r j
 own_slot_same len t e body ranges.Nulls j ok own alone = refl
@@ -50,7 +50,7 @@ own_slot_same len t e body (ranges.Structs v children) j ok own alone = alone_sl
 own_slot_same len t None body (ranges.Indices n d) j ok own alone = absurd ok
 own_slot_same len t (Some e) body (ranges.Indices n d) j ok own alone = index_slot (is_valid_at (bytes_of body n.validity) j) _ _ (own refl)
 
--- so it does in a column
+-- the same for a slot of a column
 of_inside : (a : Inside) (i : ℕ) (v : PlainValue) → IsArray a → i < length (column_of a).raw → HasNoIndex (column_of a) i → value_at (column_of a).raw i ≡ v → is_alone v ≡ true
     → value_at (column_of a).resolved i ≡ v
 of_inside a i v ok within own is alone =
@@ -59,14 +59,14 @@ of_inside a i v ok within own is alone =
     let same = own_slot_same a.len (type_view a.data_type.value) a.encoding a.body a.ranges i ok.1 (λ some. sym raw ∙ own some) (ap is_alone (sym raw ∙ is) ∙ alone) in
     at_slots a.len (resolved_slot a.body a.ranges) i inside ∙ same ∙ sym raw ∙ is
 
--- what a slot shows that holds no index is its value
-pub shown_holds : (a : Inside) (c : Column) (i : ℕ) (s : Seen) → column_of a ≡ c → IsArray a → i < length c.raw → HasNoIndex c i → Shows c i s → HoldsValue c i (value_shown i s)
+-- a slot that holds no index shows its resolved value
+pub shown_holds : (a : Inside) (c : Column) (i : ℕ) (s : SlotRef) → column_of a ≡ c → IsArray a → i < length c.raw → HasNoIndex c i → Shows c i s → HoldsValue c i (value_shown i s)
 shown_holds a c i s view ok within own = by s
   where
     alone : (v : PlainValue) → is_alone v ≡ true → value_at c.raw i ≡ v → value_at c.resolved i ≡ v
     alone v one is = subst (λ (x : Column). i < length x.raw → HasNoIndex x i → value_at x.raw i ≡ v → is_alone v ≡ true → value_at x.resolved i ≡ v) view (of_inside a i v ok) within own is one
 
-    by : (s : Seen) → Shows c i s → HoldsValue c i (value_shown i s)
+    by : (s : SlotRef) → Shows c i s → HoldsValue c i (value_shown i s)
     by Nothing h = alone null_value refl h
     by (Truth b) h = alone _ refl h
     by (Number z) h = alone _ refl h

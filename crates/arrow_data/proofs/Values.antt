@@ -1,4 +1,4 @@
--- When two values of items are the same.
+-- When two item values are the same.
 use Rattle.std.proofs.Common.{rules, ◌≡◌, ◌↔◌, ℕ, Bool, IsTrue, ap, sym, ◌∙◌}
 use Rattle.std.specs.declared.alloc.Global.{Global}
 use Rattle.std.specs.declared.vec.Vec.{Vec}
@@ -7,19 +7,19 @@ use Rattle.arrow_data.specs.Value.{value_view, values_view}
 use Rattle.arrow_data.specs.declared.value.Value.{Value, Bytes as byte_strings, List as lists, Struct as structs, the_lemmas}
 use Rattle.arrow_data.proofs.Sameness.{values_same}
 
--- what a byte string says
+-- the view of a byte string
 pub bytes_view : (v : Vec ℕ Global) → value_view (byte_strings v) ≡ binary_value v.items
 bytes_view v = search (rules, the_lemmas)
 
--- what a list of values says
+-- the view of a list of values
 list_view : (v : Vec Value Global) → value_view (lists v) ≡ list_value (values_of (values_view v.items))
 list_view v = search (rules, the_lemmas)
 
--- what a struct of values says
+-- the view of a struct of values
 struct_view : (v : Vec Value Global) → value_view (structs v) ≡ struct_value (values_of (values_view v.items))
 struct_view v = search (rules, the_lemmas)
 
--- lists are equal where their items are
+-- lists are equal exactly when their items are
 pub lists_agree : (x y : Value) (v u : Vec Value Global) (r : Bool) → x ≡ lists v → y ≡ lists u → (IsTrue r ↔ (values_view v.items ≡ values_view u.items)) → IsTrue r ↔ (value_view x ≡ value_view y)
 lists_agree x y v u r p q same =
     let left = ap value_view p ∙ list_view v in
@@ -29,7 +29,7 @@ lists_agree x y v u r p q same =
           let inner : values_of (values_view v.items) ≡ values_of (values_view u.items) = cc in same.1 (values_same _ _ inner),
     )
 
--- structs are equal where their parts are
+-- structs are equal exactly when their fields' values are
 pub structs_agree : (x y : Value) (v u : Vec Value Global) (r : Bool) → x ≡ structs v → y ≡ structs u → (IsTrue r ↔ (values_view v.items ≡ values_view u.items)) → IsTrue r ↔ (value_view x ≡ value_view y)
 structs_agree x y v u r p q same =
     let left = ap value_view p ∙ struct_view v in

@@ -31,7 +31,7 @@ use Rattle.arrow_data.proofs.Entries.{dictionary_shown}
 use Rattle.arrow_data.proofs.Fitting.{part_small}
 use Rattle.arrow_data.proofs.Shown.{at_slots, length_slots, longer_of_counts}
 
--- there are as many slots as the array has
+-- the column has as many slots as the array
 long : (a : Inside) → length (column_of a).raw ≡ a.len
 long a = length_slots a.len (raw_slot a.body a.ranges)
 
@@ -209,7 +209,7 @@ counts_up : (z : ℤ) (count : ℕ) → IsIndex count z → z ≡ pos (nat_abs z
 counts_up (pos n) count h = refl
 counts_up (negsuc n) count h = absurd h
 
--- the place of the value that a slot refers to
+-- the index of the value that a slot refers to
 pub entry_shown : (a : Inside) (c : Column) (n : Ints) (d : Box Dictionary) (i : ℕ) (z : ℤ) (vs : Column) (place : ℕ) → column_of a ≡ c → IsArray a → a.ranges ≡ ranges.Indices n d
     → i < length c.raw → int_at a.body n i ≡ int_value z → HasValue d.value (nat_abs z) vs place → HasEntry c i vs place
 entry_shown a c n d i z vs place view ok is inside number has =

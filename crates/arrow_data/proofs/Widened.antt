@@ -1,4 +1,4 @@
--- Numbers that are written with more digits or fewer (`odd`), and the patterns of 32 bits that they have.
+-- Numbers that are written with more or fewer digits (`odd`), and their patterns of 32 bits.
 use Rattle.std.proofs.Common.{◌≡◌, ◌<◌, ◌≤◌, ◌+◌, ◌-◌, ◌*◌, ◌/◌, ◌%◌, ◌^◌, ℕ, zero, suc, Bool, true, false, cond, leb, eqb, leb-true, leb-false, le-leb, ne_eqb, refl, sym, ap, ◌∙◌, subst, arith, inl, inr, pos, negsuc}
 use Rattle.std.proofs.lemmas.Bool.{lt-leb}
 use Rattle.std.specs.Float.{binary32, inf, nan, fin}
@@ -12,38 +12,38 @@ use lib.Pow.{pow-add, pow_mono, pow_pos}
 -- ---- the zeros at a number's end
 
 -- an odd number with i zeros after it has these at its end
-zeros_behind : (d m i : ℕ) → m % 2 ≡ 1 → i < d → count_trailing_zeros d (m * 2 ^ i) ≡ i
+zeros_after : (d m i : ℕ) → m % 2 ≡ 1 → i < d → count_trailing_zeros d (m * 2 ^ i) ≡ i
 unfolding count_trailing_zeros
-zeros_behind zero m i is_odd below = absurd (omega arith)
-zeros_behind (suc d) m zero is_odd below =
+zeros_after zero m i is_odd below = absurd (omega arith)
+zeros_after (suc d) m zero is_odd below =
     ap (λ (x : ℕ). under (x % 2) (count_trailing_zeros d (x / 2))) (mul-one m) ∙ ap (λ (r : ℕ). under r (count_trailing_zeros d (m / 2))) is_odd
-zeros_behind (suc d) m (suc i) is_odd below =
+zeros_after (suc d) m (suc i) is_odd below =
     ap (λ (r : ℕ). under r (count_trailing_zeros d (m * 2 ^ suc i / 2))) (shifted_even m i) ∙ ap (λ (x : ℕ). suc (count_trailing_zeros d x)) (shifted_half m i)
-    ∙ ap suc (zeros_behind d m i is_odd (omega arith))
+    ∙ ap suc (zeros_after d m i is_odd (omega arith))
 
--- what `odd` is of a number above 0
+-- the value of `odd` for a number above 0
 odd_above_0 : (d : ℕ) (s : Bool) (q k l : ℕ) → 0 < q → odd d s q k l ≡ fin s (q / 2 ^ count_trailing_zeros d q) (minus (k + count_trailing_zeros d q) l)
 unfolding odd
 odd_above_0 d s zero k l some = absurd (omega arith)
 odd_above_0 d s (suc q) k l some = refl
 
--- what it is of 0
+-- its value for 0
 odd_of_0 : (d : ℕ) (s : Bool) (q k l : ℕ) → q ≡ 0 → odd d s q k l ≡ fin s 0 (pos 0)
 unfolding odd
 odd_of_0 d s zero k l none = refl
 odd_of_0 d s (suc q) k l none = absurd (omega arith)
 
--- what it is of an odd number with i zeros after it
+-- its value for an odd number with i zeros after it
 odd_with_zeros : (d : ℕ) (s : Bool) (m i k l : ℕ) → m % 2 ≡ 1 → i < d → odd d s (m * 2 ^ i) k l ≡ fin s m (minus (k + i) l)
 odd_with_zeros d s m i k l is_odd below =
-    odd_above_0 d s (m * 2 ^ i) k l (mul-pos (omega arith) (pow_pos i)) ∙ ap (λ (t : ℕ). fin s (m * 2 ^ i / 2 ^ t) (minus (k + t) l)) (zeros_behind d m i is_odd below)
+    odd_above_0 d s (m * 2 ^ i) k l (mul-pos (omega arith) (pow_pos i)) ∙ ap (λ (t : ℕ). fin s (m * 2 ^ i / 2 ^ t) (minus (k + t) l)) (zeros_after d m i is_odd below)
     ∙ ap (λ (x : ℕ). fin s x (minus (k + i) l)) (mul-div_cancel m (pow_pos i))
 
 -- each number above 0 is an odd one with zeros after it
 abbrev Parts : ℕ → ℕ → Type 0
 Parts d q = (m : ℕ) × (i : ℕ) × (m % 2 ≡ 1) × (m * 2 ^ i ≡ q)
 
--- of a number of d digits these are found, digit by digit
+-- for a number of d digits these are found, digit by digit
 parts : (d q : ℕ) → 0 < q → q < 2 ^ d → Parts d q
 parts zero q some below = absurd (omega arith)
 parts (suc d) q some below = go (q % 2) refl (λ above below_half. parts d (q / 2) above below_half)
@@ -108,12 +108,12 @@ moved q some below =
     let highest = pow-add 2 (suc place) shift in
     (omega (arith, first.1), omega arith, omega (arith, lower, sym lowest ∙ ap (λ x. 2 ^ x) sum), omega (arith, upper, sym highest ∙ ap (λ x. 2 ^ x) sum_after))
 
--- what is read from a pattern: its sign, its exponent and the digits after the first
+-- the fields that are read from a pattern: its sign, its exponent and the digits after the first
 of_bits_is : (b : ℕ) → of_bits binary32 b ≡ of_fields binary32 (leb 2147483648 b) (b % 2147483648 / 8388608) (b % 8388608)
 unfolding of_bits
 of_bits_is b = refl
 
--- what these stand for, where the exponent is neither the least nor the greatest
+-- the number of these fields, if the exponent is neither the least nor the greatest
 of_fields_is : (s : Bool) (x t : ℕ) → x < 254 → of_fields binary32 s (suc x) t ≡ odd 24 s (8388608 + t) x 149
 unfolding of_fields
 of_fields_is s x t below = ap (λ b. cond b (cond (eqb t 0) (inf s) nan) (odd 24 s (8388608 + t) x 149)) (ne_eqb (suc x) 255 (λ same. omega arith))
@@ -139,7 +139,7 @@ number_of_moved s q k x b some below exponent field sign size =
 abbrev pub Pattern : ℕ → ℕ → ℕ → Type 0
 Pattern q k size = (size ≡ (k + 124 - (count_leading_zeros 32 q - 8)) * 8388608 + q * 2 ^ (count_leading_zeros 32 q - 8)) × (size < 2147483648)
 
--- what the code computes is this pattern
+-- the result of the code is this pattern
 pub pattern : (q k : ℕ) → 0 < q → q < 4096 → k ≤ 30
     → Pattern q k ((k + 124 - (count_leading_zeros 32 q - 8)) * 8388608 % 4294967296 + q * 2 ^ (count_leading_zeros 32 q - 8) % 4294967296)
 pattern q k some below exponent =
@@ -164,9 +164,9 @@ pub minus_zero_is : (d : ℕ) (s : Bool) (q k l : ℕ) → q ≡ 0 → s ≡ tru
 unfolding of_bits of_fields odd neg
 minus_zero_is d s q k l none sign = sym (odd_of_0 d s q k l none ∙ ap (λ s. fin s 0 (pos 0)) sign)
 
--- ---- infinite numbers, and what is no number
+-- ---- infinite numbers, and NaN
 
--- what is no number
+-- NaN
 pub nan_is : of_bits binary32 2143289344 ≡ nan
 unfolding of_bits of_fields
 nan_is = refl
@@ -187,12 +187,12 @@ minus_inf_is = refl
 one_more : (s : Bool) (q k : ℕ) → q < 2048 → odd 12 s (2 * q) k 25 ≡ odd 11 s q k 24
 one_more s q k below = ap (λ (x : ℕ). odd 12 s x k 25) (omega arith) ∙ odd_same 12 11 s q 1 k 25 k 24 (omega arith) below (omega arith)
 
--- the number of the fields, where that of the exponent is 0
+-- the number of the fields, if the exponent's field is 0
 pub half_of_small : (s : Bool) (x t : ℕ) → t < 1024 → x ≡ 0 → odd 12 s (2 * t) 0 25 ≡ half_of_fields s x t
 half_of_small s zero t below small = one_more s t 0 (omega arith)
 half_of_small s (suc x) t below small = absurd (omega arith)
 
--- and where it is neither the least nor the greatest
+-- and if it is neither the least nor the greatest
 pub half_of_others : (s : Bool) (x t : ℕ) → t < 1024 → (x ≡ 0 → ⊥) → (x ≡ 31 → ⊥) → odd 12 s (2 * (1024 + t)) (x - 1) 25 ≡ half_of_fields s x t
 half_of_others s zero t below above_0 below_31 = absurd (above_0 refl)
 half_of_others s (suc x) t below above_0 below_31 =

@@ -10,13 +10,13 @@ use Rattle.arrow_data.specs.Column.{Column, AreOf, column_code}
 use Rattle.arrow_data.specs.declared.batch.BatchFault.{BatchFault}
 use Rattle.arrow_data.specs.declared.batch.BatchFault.TheVariants.{ColumnCount, ColumnType, ColumnLength, IndexRange, Memory}
 
--- What a record batch is to contracts, a table: a schema, a column of each, and the number of rows.
+-- What a record batch is to contracts: a table of a schema, a column for each of its fields, and the number of rows.
 pub record Table : Type 0 where
   pub schema : SchemaShape
   pub columns : List Column
   pub rows : ℕ
 
--- how the logic stores batches
+-- how the logic encodes batches
 abbrev pub table_code : Coded Table
 table_code = code_by (SchemaShape × (List Column × ℕ)) (coded× schema_code (coded× (coded_list column_code) coded_ℕ))
     (λ t. (t.schema, (t.columns, t.rows))) (λ p. record { schema = p.0; columns = p.1.0; rows = p.1.1 }) (λ _. refl)
@@ -31,9 +31,9 @@ pub record IsTable (t : Table) : Type 0 where
   pub typed : AreOf t.schema.fields t.columns
   pub long : HaveRows t.rows t.columns
 
--- An answer to a schema, columns and a number of rows: the batch of just these where no fault applies, else the first
+-- The result for a schema, columns and a number of rows: the batch of just these if no fault applies, else the first
 -- fault that does. The last two faults apply to no columns at all: an array with an index that has no value is never
--- made, and nothing grows.
+-- made, and nothing is allocated.
 abbrev pub Judges : Result Table BatchFault → SchemaShape → List Column → ℕ → Type 0
 Judges (Ok batch) schema columns rows = AreOf schema.fields columns × HaveRows rows columns × (batch ≡ record { schema = schema; columns = columns; rows = rows })
 Judges (Err ColumnCount) schema columns rows = length columns ≡ width schema.fields → ⊥

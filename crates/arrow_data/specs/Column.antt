@@ -1,8 +1,8 @@
--- What an array and a dictionary are, without how they are kept (Columnar Format, "Terminology").
+-- What an array and a dictionary are, apart from how they are stored (Columnar Format, "Terminology").
 use Rattle.std.specs.Prelude.{◌≡◌, ◌≤◌, ◌<◌, ◌+◌, ◌*◌, ◌-◌, ◌^◌, ℕ, zero, suc, ℤ, pos, false, List, [], ◌∷◌, ◌++◌, length, map, take, drop, get_or, ⊤, Option, None, Some, IsTrue, is_some, slice_get, refl}
 use Rattle.std.specs.Coded.{Coded, code_by, coded×, coded_ℕ, coded_ℤ, coded_list, coded_option}
 use Rattle.std.specs.List.{AllByRecursion}
-use Rattle.arrow_types.specs.Field.{Fields, none, more, TypeShape, levels}
+use Rattle.arrow_types.specs.Field.{FieldTree, none, more, TypeShape, levels}
 use Rattle.arrow_types.specs.Schema.{DictionaryField, dictionary_fields, has_encoding}
 use Rattle.arrow_types.specs.Stored.{type_code}
 use Rattle.arrow_types.specs.contracts.field.Encoding.{the_row as encoding_row}
@@ -20,15 +20,15 @@ pub record ValueList : Type 0 where
   pub data_type : TypeShape
   pub values : List PlainValue
 
--- how the logic stores dictionaries
+-- how the logic encodes dictionaries
 abbrev pub value_list_code : Coded ValueList
 value_list_code = code_by (TypeShape × List PlainValue) (coded× type_code (coded_list value_code))
     (λ d. (d.data_type, d.values)) (λ p. record { data_type = p.0; values = p.1 }) (λ _. refl)
 
--- What an array is to contracts: its type, its encoding, and the value of each slot, raw (where it is
--- dictionary-encoded, the index) and resolved. Beside these, for each dictionary-encoded field of it in pre-order, the
--- id and the dictionary; of lists the offsets, one more than there are slots (Columnar Format, "Variable-size List
--- Layout"); and of lists and structs the slots of each child, raw and resolved, also those that no slot shows.
+-- What an array is to contracts: its type, its encoding, and the value of each slot, raw (the index, if the array is
+-- dictionary-encoded) and resolved. In addition: for each dictionary-encoded field of it in pre-order, the id and the
+-- dictionary; for lists the offsets, one more than there are slots (Columnar Format, "Variable-size List Layout");
+-- and for lists and structs the slots of each child, raw and resolved, including those that no slot shows.
 pub record Column : Type 0 where
   pub data_type : TypeShape
   pub encoding : Option Encoding
@@ -38,7 +38,7 @@ pub record Column : Type 0 where
   pub offsets : List ℕ
   pub below : List (List PlainValue × List PlainValue)
 
--- how the logic stores arrays
+-- how the logic encodes arrays
 abbrev pub column_code : Coded Column
 column_code =
     code_by (TypeShape × (Option Encoding × (List PlainValue × (List PlainValue × (List (ℤ × ValueList) × (List ℕ × List (List PlainValue × List PlainValue)))))))
@@ -56,21 +56,22 @@ plain_column data_type values = record { data_type = data_type; encoding = None;
 abbrev pub slots_of : Column → List PlainValue × List PlainValue
 slots_of c = (c.raw, c.resolved)
 
--- An array stands above its dictionary, which stands above the arrays of its values, and these above their children.
+-- An array is higher than its dictionary, which is higher than the arrays of its values, and these are higher than
+-- their children.
 abbrev pub index_levels : Option Encoding → ℕ
 index_levels None = 0
 index_levels (Some e) = 2
 
--- how high an array stands: three steps for each level of its children, two more for its dictionary
+-- the height of an array: three steps for each level of its children, two more for its dictionary
 abbrev pub column_size : Column → ℕ
 column_size c = 3 * levels c.data_type.children + index_levels c.encoding
 
--- how high a dictionary stands: one step above the arrays of its values, below those that refer to it
+-- the height of a dictionary: one step above the arrays of its values, and below the arrays that refer to it
 abbrev pub value_list_size : ValueList → ℕ
 value_list_size d = 3 * levels d.data_type.children + 1
 
 -- the columns have the types and the encodings of the fields
-abbrev pub AreOf : Fields → List Column → Type 0
+abbrev pub AreOf : FieldTree → List Column → Type 0
 AreOf none [] = ⊤
 AreOf none (c ∷ cs) = ⊥
 AreOf (more head children rest) [] = ⊥
@@ -80,7 +81,7 @@ AreOf (more head children rest) (c ∷ cs) = (c.data_type ≡ record { tag = hea
 abbrev pub counts_of : List Column → List ℕ
 counts_of cs = map (λ (c : Column). length c.raw) cs
 
--- the dictionaries of columns side by side
+-- the dictionaries of all columns, joined in order
 abbrev pub listed_of : List Column → List (ℤ × ValueList)
 listed_of [] = []
 listed_of (c ∷ cs) = c.dictionaries ++ listed_of cs
@@ -89,8 +90,8 @@ listed_of (c ∷ cs) = c.dictionaries ++ listed_of cs
 abbrev pub field_of_listed : ℤ × ValueList → DictionaryField
 field_of_listed d = record { id = d.0; value_type = d.1.data_type }
 
--- The dictionaries that a column with this encoding and this type refers to, by id and type: a dictionary-encoded one to
--- its own alone, of its own type, another one to those of its fields, in pre-order.
+-- The dictionaries that a column with this encoding and this type refers to, by id and type: a dictionary-encoded
+-- column refers only to its own dictionary, of its own type; any other refers to those of its fields, in pre-order.
 abbrev pub column_dictionaries : Option Encoding → TypeShape → List DictionaryField
 column_dictionaries None t = dictionary_fields t.children
 column_dictionaries (Some e) t = record { id = e.id; value_type = t } ∷ []
@@ -105,10 +106,11 @@ pub record IsValueList (d : ValueList) : Type 0 where
   pub few : length d.values ≤ 2 ^ 62
   pub fits : AllFit d.data_type None d.values
 
--- What is known of every array. Each raw value fits the type, or the type of the indices, and each resolved one the type
--- without an encoding on any level. The resolved values are what the raw ones stand for, by all dictionaries that have the
--- listed values; without an encoding on any level each raw value stands for itself. It lists a dictionary for each of its
--- dictionary-encoded fields, by the field's id and of its type, and no other.
+-- What is known of every array. Each raw value fits the type, or the type of the indices, and each resolved value
+-- fits the type without an encoding on any level. The resolved values are what the raw ones resolve to by all
+-- dictionaries that have the listed values; without an encoding on any level each raw value resolves to itself. The
+-- array lists a dictionary for each of its dictionary-encoded fields, by the field's id and of its type, and no
+-- other.
 pub record IsColumn (c : Column) : Type 0 where
   pub few : length c.raw ≤ 2147483647
   pub fits : AllFit c.data_type c.encoding c.raw
@@ -121,7 +123,7 @@ pub record IsColumn (c : Column) : Type 0 where
   pub lists : map field_of_listed c.dictionaries ≡ column_dictionaries c.encoding c.data_type
   pub listed_known : AllByRecursion (λ (d : ℤ × ValueList). IsValueList d.1) c.dictionaries
 
--- the values from place `start` up to place `stop`
+-- the values from index `start` up to index `stop`
 abbrev pub values_from : List PlainValue → ℕ → ℕ → List PlainValue
 values_from values start stop = take (stop - start) (drop start values)
 
@@ -133,8 +135,8 @@ row_of cs i = map (λ (c : Column). value_at c.raw i) cs
 abbrev pub resolved_row_of : List Column → ℕ → List PlainValue
 resolved_row_of cs i = map (λ (c : Column). value_at c.resolved i) cs
 
--- The items of slot i are the child's values from `start` up to `stop`: offset i and the one after it, also where there are
--- no items. The child has all its slots and its dictionaries.
+-- The items of slot i are the child's values from `start` up to `stop`: offset i and the one after it, even if there
+-- are no items. The child has all its slots and its dictionaries.
 pub record HasItems (c : Column) (i start stop : ℕ) (child : Column) : Type 0 where
   pub typed : AreOf c.data_type.children (child ∷ [])
   pub whole : c.below ≡ slots_of child ∷ []
@@ -155,13 +157,13 @@ pub record HasParts (c : Column) (i : ℕ) (children : List Column) : Type 0 whe
   pub same_resolved : value_at c.resolved i ≡ struct_value (values_of (resolved_row_of children i))
 
 -- the type and the encoding of field k
-abbrev pub type_of_field : Fields → ℕ → Option (TypeShape × Option Encoding)
+abbrev pub type_of_field : FieldTree → ℕ → Option (TypeShape × Option Encoding)
 type_of_field none k = None
 type_of_field (more head children rest) zero = Some (record { tag = head.tag; children = children }, head.encoding)
 type_of_field (more head children rest) (suc k) = type_of_field rest k
 
--- the fields of a struct, none of a column of another form
-abbrev pub struct_fields_of : Form → Fields → Fields
+-- the fields of a struct; a column of another form has none
+abbrev pub struct_fields_of : Form → FieldTree → FieldTree
 struct_fields_of forms.Nulls children = none
 struct_fields_of forms.Bits children = none
 struct_fields_of (forms.Numbers number) children = none
@@ -171,12 +173,12 @@ struct_fields_of (forms.FixedBytes width) children = none
 struct_fields_of (forms.Lists list) children = none
 struct_fields_of forms.Structs children = children
 
--- the fields whose values stand side by side in each slot of the column: none of a dictionary-encoded one
-abbrev pub struct_fields : Column → Fields
+-- the fields that have a value in each slot of the column; a dictionary-encoded column has none
+abbrev pub struct_fields : Column → FieldTree
 struct_fields c = struct_fields_of (node_form c.data_type.tag c.encoding) c.data_type.children
 
--- the dictionaries of field k, of those that are listed for the fields side by side
-abbrev pub dictionaries_of_field : Fields → ℕ → List (ℤ × ValueList) → List (ℤ × ValueList)
+-- the dictionaries of field k, among those that are listed for all the fields in order
+abbrev pub dictionaries_of_field : FieldTree → ℕ → List (ℤ × ValueList) → List (ℤ × ValueList)
 dictionaries_of_field none k listed = []
 dictionaries_of_field (more head children rest) zero listed = take (length (column_dictionaries head.encoding (record { tag = head.tag; children = children }))) listed
 dictionaries_of_field (more head children rest) (suc k) listed = dictionaries_of_field rest k (drop (length (column_dictionaries head.encoding (record { tag = head.tag; children = children }))) listed)
@@ -206,7 +208,7 @@ pub record HasFields (c : Column) (children : List Column) : Type 0 where
 abbrev pub IsList : Column → Type 0
 IsList c = IsLists (node_form c.data_type.tag c.encoding)
 
--- the child is the one that the lists of the column have their items in, with all its slots and its dictionaries
+-- the child is the one that contains the items of the column's lists, with all its slots and its dictionaries
 pub record HasChild (c : Column) (child : Column) : Type 0 where
   pub is_list : IsList c
   pub typed : AreOf c.data_type.children (child ∷ [])
@@ -224,8 +226,8 @@ pub record HasDictionary (c : Column) (d : ValueList) : Type 0 where
   pub known : IsValueList d
   pub listed : (e : Encoding) × (c.encoding ≡ Some e) × (c.dictionaries ≡ (e.id, d) ∷ [])
 
--- Value i of a dictionary stands at a place of a column of its type and without an encoding. The column's values, all of
--- them, are the dictionary's from value `i - place` on.
+-- Value i of a dictionary is at an index of a column of its type and without an encoding. All of the column's values
+-- are the dictionary's values from value `i - place` on.
 pub record HasValue (d : ValueList) (i : ℕ) (values : Column) (place : ℕ) : Type 0 where
   pub inside : place < length values.raw
   pub typed : values.data_type ≡ d.data_type
@@ -235,8 +237,8 @@ pub record HasValue (d : ValueList) (i : ℕ) (values : Column) (place : ℕ) : 
   pub starts : place ≤ i
   pub whole : (k : ℕ) → k < length values.raw → value_at d.values (i - place + k) ≡ value_at values.raw k
 
--- Slot i holds an index, and the place of another column, of the same type and without an encoding, is that of the value of
--- this number in the column's dictionary: the resolved value of the slot.
+-- Slot i holds an index. The slot `place` of another column, of the same type and without an encoding, holds the
+-- value with this number in the column's dictionary: the resolved value of slot i.
 pub record HasEntry (c : Column) (i : ℕ) (values : Column) (place : ℕ) : Type 0 where
   pub encoded : IsTrue (is_some c.encoding)
   pub full : is_null_value (value_at c.raw i) ≡ false

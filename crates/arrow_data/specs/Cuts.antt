@@ -1,4 +1,4 @@
--- Where the bytes of all slots, which are a text, may be cut. Only the crate's private clauses cite this.
+-- Where the bytes of all slots may be cut, if they are a text. Only the crate's private clauses cite this.
 use Rattle.std.specs.Prelude.{◌<◌, ◌+◌, ◌-◌, ℕ, List, IsCharBoundary}
 use Rattle.arrow_data.specs.Slots.{place_of}
 use Rattle.arrow_data.specs.declared.form.OffsetWidth.{OffsetWidth}

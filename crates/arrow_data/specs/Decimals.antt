@@ -1,8 +1,9 @@
--- Decimals in columns: the whole number that they are times a power of 10, in two's complement (Schema.fbs, table "Decimal").
+-- Decimals in columns: the whole number that is scaled by a power of 10, in two's complement (Schema.fbs, table
+-- "Decimal").
 use Rattle.std.specs.Prelude.{◌++◌, ◌^◌, ℕ, ℤ, pos, negsuc, ◌+ℤ◌, ◌*ℤ◌, nat_eq, nat_lt, Bool, Option, Some, None, is_some, if◌then◌else◌, List, length}
 use Rattle.std.specs.Int.{cast_unsigned, w128}
 use Rattle.arrow_bits.specs.Numbers.{int_bytes, number_at, number_bytes, signed_at}
-use Rattle.arrow_types.specs.DataType.{Tag}
+use Rattle.arrow_types.specs.DataType.{TypeId}
 use Rattle.arrow_types.specs.DataType as tags
 use Rattle.arrow_data.specs.declared.decimals.Decimal.{Decimal}
 use Rattle.arrow_data.specs.Column.{Column}
@@ -12,32 +13,32 @@ use Rattle.arrow_data.specs.PlainValue.{PlainValue, int_value, binary_value, val
 abbrev pub unscaled_of : Decimal → ℤ
 unscaled_of d = (d.high *ℤ pos (2 ^ 128)) +ℤ pos d.low
 
--- whether a number has a signed one of 128 bits (`negsuc n` is -(n + 1))
+-- whether a number fits into 128 bits with a sign (`negsuc n` is -(n + 1))
 abbrev pub has_128_bits : ℤ → Bool
 has_128_bits (pos n) = nat_lt n (2 ^ 127)
 has_128_bits (negsuc n) = nat_lt n (2 ^ 127)
 
--- what is above the lowest 128 bits of a number that has a signed one of so many
+-- the part above the lowest 128 bits of a number that fits into 128 bits with a sign
 abbrev pub sign_above : ℤ → ℤ
 sign_above (pos n) = pos 0
 sign_above (negsuc n) = negsuc 0
 
--- the decimal of this scale that a number is
+-- the decimal of this scale with this whole number
 abbrev pub decimal_of_number : ℤ → ℤ → Decimal
 decimal_of_number scale z = record { high = sign_above z; low = cast_unsigned w128 z; scale = scale }
 
--- the decimal of this scale that bytes are, if there are 32
+-- the decimal of this scale that the bytes encode, if there are 32
 abbrev pub decimal_of_bytes : ℤ → List ℕ → Option Decimal
 decimal_of_bytes scale bytes =
     if nat_eq (length bytes) 32 then Some (record { high = signed_at bytes 16 16; low = number_at bytes 0 16; scale = scale }) else None
 
 -- the decimal that a value of this type is, if it is one
-abbrev pub decimal_in : Tag → PlainValue → Option Decimal
+abbrev pub decimal_in : TypeId → PlainValue → Option Decimal
 decimal_in (tags.decimal width precision scale) (int_value z) = Some (decimal_of_number scale z)
 decimal_in (tags.decimal width precision scale) (binary_value bytes) = decimal_of_bytes scale bytes
 decimal_in tag value = None
 
--- the one in slot i of a column, whose values are not given by indices
+-- the decimal in slot i of a column whose values are not given by indices
 abbrev pub decimal_shown : Column → ℕ → Option Decimal
 decimal_shown column i = if is_some column.encoding then None else decimal_in column.data_type.tag (value_at column.raw i)
 

@@ -1,8 +1,8 @@
--- When a raw value may stand in a slot of a field (Columnar Format, "Physical Memory Layout"; Schema.fbs, union "Type").
+-- When a raw value may be in a slot of a field (Columnar Format, "Physical Memory Layout"; Schema.fbs, union "Type").
 use Rattle.std.specs.Prelude.{◌≡◌, ℕ, ℤ, List, length, ⊤, Option, None, IsUtf8}
 use Rattle.std.specs.List.{AllByRecursion}
 use Rattle.arrow_bits.specs.Numbers.{FitsInt}
-use Rattle.arrow_types.specs.Field.{Fields, Head, none, more, TypeShape}
+use Rattle.arrow_types.specs.Field.{FieldTree, FieldHeader, none, more, TypeShape}
 use Rattle.arrow_types.specs.declared.field.Encoding.{Encoding}
 use Rattle.arrow_data.specs.Form.{HoldsList, node_form, number_width, has_sign}
 use Rattle.arrow_data.specs.PlainValue.{PlainValue, PlainValues, null_value, bool_value, int_value, binary_value, utf8_value, list_of_values, list_value, struct_value, no_values, more_values}
@@ -20,7 +20,7 @@ HoldsInt (forms.FixedBytes width) z = ⊥
 HoldsInt (forms.Lists list) z = ⊥
 HoldsInt forms.Structs z = ⊥
 
--- the byte string is of any length, or of the form's own
+-- the byte string has any length, or the length that the form requires
 abbrev pub HoldsBinary : Form → List ℕ → Type 0
 HoldsBinary forms.Nulls bytes = ⊥
 HoldsBinary forms.Bits bytes = ⊥
@@ -43,9 +43,9 @@ HoldsUtf8 (forms.Lists list) bytes = ⊥
 HoldsUtf8 forms.Structs bytes = ⊥
 
 abbrev mutual
-  -- A raw value fits a node of this form with these fields below it, on every level: null fits every one, an index one
-  -- of the index's width and sign.
-  pub Fits : Form → Fields → PlainValue → Type 0
+  -- A raw value fits a node of this form with these fields below it, on every level: null fits every node, an index
+  -- fits one of the index's width and sign.
+  pub Fits : Form → FieldTree → PlainValue → Type 0
   Fits form children null_value = ⊤
   Fits form children (bool_value b) = form ≡ forms.Bits
   Fits form children (int_value z) = HoldsInt form z
@@ -55,13 +55,13 @@ abbrev mutual
   Fits form children (struct_value parts) = (form ≡ forms.Structs) × PartsFit children parts
 
   -- the items of a list, by its one child field
-  pub ItemsFit : Fields → PlainValues → Type 0
+  pub ItemsFit : FieldTree → PlainValues → Type 0
   ItemsFit children no_values = ⊤
   ItemsFit none (more_values value others) = ⊥
   ItemsFit (more head children rest) (more_values value others) = Fits (node_form head.tag head.encoding) children value × ItemsFit (more head children rest) others
 
-  -- the values of a struct, one of each of its fields
-  pub PartsFit : Fields → PlainValues → Type 0
+  -- the values of a struct, one for each of its fields
+  pub PartsFit : FieldTree → PlainValues → Type 0
   PartsFit none no_values = ⊤
   PartsFit none (more_values value others) = ⊥
   PartsFit (more head children rest) no_values = ⊥
@@ -75,12 +75,12 @@ FitsType t e value = Fits (node_form t.tag e) t.children value
 abbrev pub AllFit : TypeShape → Option Encoding → List PlainValue → Type 0
 AllFit t e values = AllByRecursion (FitsType t e) values
 
--- a field whose values are not dictionary-encoded, with the name and the rest of this one
-abbrev pub plain_head : Head → Head
+-- a field whose values are not dictionary-encoded, otherwise as this one
+abbrev pub plain_head : FieldHeader → FieldHeader
 plain_head head = record { name = head.name; nullable = head.nullable; tag = head.tag; encoding = None }
 
 -- the fields with no encoding on any level
-abbrev pub plain_fields : Fields → Fields
+abbrev pub plain_fields : FieldTree → FieldTree
 plain_fields none = none
 plain_fields (more head children rest) = more (plain_head head) (plain_fields children) (plain_fields rest)
 

@@ -1,9 +1,9 @@
--- The layouts of nodes, and which of them each type has (Columnar Format, "Physical Memory Layout" and "Buffer Listing for
--- Each Layout"; Schema.fbs, union "Type"). All that is said of buffers and slots goes by this one table.
+-- The layouts of nodes, and which of them each type has (Columnar Format, "Physical Memory Layout" and "Buffer
+-- Listing for Each Layout"; Schema.fbs, union "Type"). All statements about buffers and slots go by this one table.
 use Rattle.std.specs.Prelude.{◌≡◌, ◌-◌, ◌/◌, ◌^◌, ℕ, Bool, true, false, Option, Some, None, ⊤}
-use Rattle.arrow_types.specs.DataType.{Tag, bits_of, date_width_of, float_width_of, time_width_of}
+use Rattle.arrow_types.specs.DataType.{TypeId, bits_of, date_width_of, float_width_of, time_width_of}
 use Rattle.arrow_types.specs.DataType as tags
-use Rattle.arrow_types.specs.Field.{Fields, none, more}
+use Rattle.arrow_types.specs.Field.{FieldTree, none, more}
 use Rattle.arrow_types.specs.declared.data_type.BitWidth.{BitWidth}
 use Rattle.arrow_types.specs.declared.data_type.BitWidth.TheVariants.{ThirtyTwo, SixtyFour}
 use Rattle.arrow_types.specs.declared.data_type.DecimalWidth.{DecimalWidth}
@@ -20,22 +20,24 @@ use Rattle.arrow_data.specs.declared.form.NumberForm.TheVariants as numbers
 use Rattle.arrow_data.specs.declared.form.OffsetWidth.{OffsetWidth}
 use Rattle.arrow_data.specs.declared.form.OffsetWidth.TheVariants.{Small, Large}
 
--- the form of intervals: of months a number, of several numbers the bytes of them all (Schema.fbs, enum "IntervalUnit")
+-- the form of intervals: a number for months, the bytes of all numbers for the other units (Schema.fbs, enum
+-- "IntervalUnit")
 abbrev pub interval_form : IntervalUnit → Form
 interval_form YearMonth = forms.Numbers (numbers.Int ThirtyTwo true)
 interval_form DayTime = forms.FixedBytes 8
 interval_form MonthDayNano = forms.FixedBytes 16
 
--- The form of decimals: the whole numbers that they are times the power of their scale. One of 256 bits is its bytes, as no
--- number of the program has so many bits (Schema.fbs, table "Decimal").
+-- The form of decimals: the whole number that is scaled. For 256 bits it is the bytes, as the program has no numbers
+-- of that width (Schema.fbs, table "Decimal").
 abbrev pub decimal_form : DecimalWidth → Form
 decimal_form decimals.ThirtyTwo = forms.Numbers (numbers.Int ThirtyTwo true)
 decimal_form decimals.SixtyFour = forms.Numbers (numbers.Int SixtyFour true)
 decimal_form decimals.OneHundredTwentyEight = forms.Numbers numbers.Int128
 decimal_form decimals.TwoHundredFiftySix = forms.FixedBytes 32
 
--- the form of the values of a type; a floating-point number is the number of its bits, a map the list of its entries
-abbrev pub form_of : Tag → Form
+-- the form of the values of a type; a floating-point number has the form of its bits as a number, a map the form of a
+-- list of its entries
+abbrev pub form_of : TypeId → Form
 form_of tags.null = forms.Nulls
 form_of tags.boolean = forms.Bits
 form_of (tags.int bits signed) = forms.Numbers (numbers.Int bits signed)
@@ -62,7 +64,7 @@ abbrev pub index_form : Encoding → Form
 index_form e = forms.Numbers (numbers.Int e.index.bits e.index.signed)
 
 -- the form of a node: a dictionary-encoded one has that of its indices (Columnar Format, "Dictionary-encoded Layout")
-abbrev pub node_form : Tag → Option Encoding → Form
+abbrev pub node_form : TypeId → Option Encoding → Form
 node_form tag None = form_of tag
 node_form tag (Some e) = index_form e
 
@@ -90,8 +92,8 @@ abbrev pub has_sign : NumberForm → Bool
 has_sign (numbers.Int bits signed) = signed
 has_sign numbers.Int128 = true
 
--- how many buffers a node of lists has: that of validity, and that of the offsets where these are stored (Columnar Format,
--- "Buffer Listing for Each Layout")
+-- how many buffers a node of lists has: the validity, and the offsets if they are stored (Columnar Format, "Buffer
+-- Listing for Each Layout")
 abbrev pub list_buffers : ListForm → ℕ
 list_buffers (lists.Offsets width) = 2
 list_buffers (lists.Fixed size) = 1
@@ -108,13 +110,13 @@ buffers_of (forms.Lists list) = list_buffers list
 buffers_of forms.Structs = 1
 
 -- there is one field
-abbrev pub IsOneField : Fields → Type 0
+abbrev pub IsOneField : FieldTree → Type 0
 IsOneField none = ⊥
 IsOneField (more head children none) = ⊤
 IsOneField (more head children (more head' children' rest)) = ⊥
 
--- the fields that stand below a type of the form: of lists one, of structs any, of all others none
-abbrev pub HasFieldsOf : Form → Fields → Type 0
+-- the fields below a type of the form: one for lists, any number for structs, none for all others
+abbrev pub HasFieldsOf : Form → FieldTree → Type 0
 HasFieldsOf forms.Nulls fields = fields ≡ none
 HasFieldsOf forms.Bits fields = fields ≡ none
 HasFieldsOf (forms.Numbers number) fields = fields ≡ none
@@ -135,12 +137,12 @@ IsLists (forms.FixedBytes width) = ⊥
 IsLists (forms.Lists list) = ⊤
 IsLists forms.Structs = ⊥
 
--- slots of a node of lists may hold so many items: any number, or the fixed one (Schema.fbs, table "FixedSizeList")
+-- slots of a node of lists may hold that many items: any number, or the fixed one (Schema.fbs, table "FixedSizeList")
 abbrev pub HoldsItems : ListForm → ℕ → Type 0
 HoldsItems (lists.Offsets width) count = ⊤
 HoldsItems (lists.Fixed size) count = count ≡ size
 
--- slots of the form hold lists, and may hold one of so many items
+-- slots of the form hold lists, and may hold one with that many items
 abbrev pub HoldsList : Form → ℕ → Type 0
 HoldsList forms.Nulls count = ⊥
 HoldsList forms.Bits count = ⊥
@@ -151,7 +153,7 @@ HoldsList (forms.FixedBytes width) count = ⊥
 HoldsList (forms.Lists list) count = HoldsItems list count
 HoldsList forms.Structs count = ⊥
 
--- no fields stand below a type of the form
+-- a type of the form has no fields below it
 abbrev pub IsLeaf : Form → Type 0
 IsLeaf forms.Nulls = ⊤
 IsLeaf forms.Bits = ⊤

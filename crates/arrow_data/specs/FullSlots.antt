@@ -1,4 +1,4 @@
--- Slots one after another of which none is null, and the bytes in which their values lie.
+-- Consecutive slots of which none is null, and the bytes that contain their values.
 use Rattle.std.specs.Prelude.{◌≡◌, ◌≤◌, ◌<◌, ℕ, true, false, List, []}
 use Rattle.arrow_bits.specs.Numbers.{int_bytes}
 use Rattle.arrow_data.specs.Column.{Column}
@@ -26,7 +26,7 @@ pub record IsFirstInvalid (validity : List ℕ) (start stop i : ℕ) : Type 0 wh
   pub valid : (j : ℕ) → start ≤ j → j < i → is_valid_at validity j ≡ true
   pub invalid : i < stop → is_valid_at validity i ≡ false
 
--- how many bytes each number of a node of the form takes, 0 where it has none
+-- how many bytes each number of a node of the form takes, 0 if the form has no numbers
 abbrev pub width_in : Form → ℕ
 width_in forms.Nulls = 0
 width_in forms.Bits = 0
@@ -37,8 +37,8 @@ width_in (forms.FixedBytes width) = 0
 width_in (forms.Lists list) = 0
 width_in forms.Structs = 0
 
--- The bytes that a value is in a node of the form: of a number its own, of a byte string or a text those that it has; of
--- all others none (Columnar Format, "Fixed-size Primitive Layout", "Variable-size Binary Layout").
+-- The bytes of a value in a node of the form: the bytes of a number, or those of a byte string or a text; none for
+-- all other values (Columnar Format, "Fixed-size Primitive Layout", "Variable-size Binary Layout").
 abbrev pub value_bytes : Form → PlainValue → List ℕ
 value_bytes form null_value = []
 value_bytes form (bool_value b) = []

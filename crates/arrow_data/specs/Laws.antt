@@ -1,10 +1,10 @@
--- The laws of the definitions: what is said of a child of a column leaves one child alone (Columnar Format, "Struct
+-- The laws of the definitions: the clauses on a child of a column hold of only one child (Columnar Format, "Struct
 -- Layout" and "Variable-size List Layout").
 use Rattle.std.specs.Prelude.{◌≡◌, ℕ}
 use Rattle.arrow_data.specs.Column.{Column, HasChild, HasField, slots_of}
 
--- Two columns are the same to whoever reads their slots: of one type and encoding, with the same slots, also those that no
--- slot above shows, and with the same dictionaries.
+-- Two columns are the same to whoever reads their slots: of one type and encoding, with the same slots, including
+-- those that no slot of the parent shows, and with the same dictionaries.
 pub record AreOneColumn (c d : Column) : Type 0 where
   pub typed : (c.data_type ≡ d.data_type) × (c.encoding ≡ d.encoding)
   pub whole : slots_of c ≡ slots_of d

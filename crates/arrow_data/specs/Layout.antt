@@ -2,7 +2,7 @@
 -- child by the number of its slots.
 use Rattle.std.specs.Prelude.{◌≤◌, ◌*◌, ℕ, List, [], length, get_or, ⊤, Option, None, Some}
 use Rattle.std.specs.List.{AllByRecursion}
-use Rattle.arrow_types.specs.DataType.{Tag}
+use Rattle.arrow_types.specs.DataType.{TypeId}
 use Rattle.arrow_types.specs.declared.field.Encoding.{Encoding}
 use Rattle.arrow_data.specs.Form.{buffers_of, node_form, number_width}
 use Rattle.arrow_data.specs.PlainValue.{PlainValue}
@@ -33,7 +33,7 @@ pub record HasLists (list : ListForm) (len : ℕ) (validity offsets : List ℕ) 
   pub bits : HasBits len validity
   pub rising : HasItemPlaces list len count offsets
 
--- each slot is one of every child
+-- each slot is a slot of every child
 pub record HasStructs (len : ℕ) (validity counts : List ℕ) : Type 0 where
   pub bits : HasBits len validity
   pub longer : AllByRecursion (λ count. len ≤ count) counts
@@ -44,10 +44,10 @@ buffer buffers k = get_or buffers k []
 
 -- How many buffers a node has (Columnar Format, "Buffer Listing for Each Layout"). A dictionary-encoded one has those of
 -- its indices.
-abbrev pub buffer_count : Tag → Option Encoding → ℕ
+abbrev pub buffer_count : TypeId → Option Encoding → ℕ
 buffer_count tag e = buffers_of (node_form tag e)
 
--- the offsets of a node of lists, none where none are stored
+-- the offsets of a node of lists, empty if none are stored
 abbrev pub list_offsets : ListForm → List (List ℕ) → List ℕ
 list_offsets (lists.Offsets width) b = buffer b 1
 list_offsets (lists.Fixed size) b = []
@@ -68,10 +68,10 @@ HoldsSlots (forms.Lists list) len b counts = HasLists list len (buffer b 0) (lis
 HoldsSlots forms.Structs len b counts = HasStructs len (buffer b 0) counts
 
 -- the buffers and the children of a node hold its slots
-abbrev pub IsLaid : Tag → Option Encoding → ℕ → List (List ℕ) → List ℕ → Type 0
+abbrev pub IsLaid : TypeId → Option Encoding → ℕ → List (List ℕ) → List ℕ → Type 0
 IsLaid tag e len b counts = HoldsSlots (node_form tag e) len b counts
 
--- the valid slots of a node of texts are UTF-8; no other form asks for anything
+-- the valid slots of a node of texts are UTF-8; no other form requires anything
 abbrev pub HoldsTexts : Form → ℕ → List (List ℕ) → Type 0
 HoldsTexts forms.Nulls len b = ⊤
 HoldsTexts forms.Bits len b = ⊤
@@ -82,8 +82,8 @@ HoldsTexts (forms.FixedBytes width) len b = ⊤
 HoldsTexts (forms.Lists list) len b = ⊤
 HoldsTexts forms.Structs len b = ⊤
 
--- the valid slots of a node, if it is one of texts, are UTF-8
-abbrev pub IsText : Tag → Option Encoding → ℕ → List (List ℕ) → Type 0
+-- the valid slots of a node of texts are UTF-8; nothing is required of other nodes
+abbrev pub IsText : TypeId → Option Encoding → ℕ → List (List ℕ) → Type 0
 IsText tag e len b = HoldsTexts (node_form tag e) len b
 
 -- the valid slots of a dictionary-encoded node have their values

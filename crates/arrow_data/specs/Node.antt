@@ -1,4 +1,4 @@
--- What the ranges of a node stand for, and what is known of them in every array.
+-- What the ranges of a node represent, and what is known of them in every array.
 use Rattle.std.specs.Prelude.{◌≡◌, ◌≤◌, ◌<◌, ℕ, ℤ, List, [], ◌∷◌, map, length, get_or, slice_index_or, slice_range, Option, None, Some}
 use Rattle.std.specs.List.{AllByRecursion}
 use Rattle.arrow_bits.specs.Numbers.{IsIntWidth}
@@ -31,7 +31,7 @@ bytes_of body r = slice_range body r.start r.end
 abbrev pub IsInside : List ℕ → ByteRange → Type 0
 IsInside body r = (r.start ≤ r.end) × (r.end ≤ length body)
 
--- the truth value of a slot, out of the ranges of the body
+-- the truth value of a slot, from the ranges of the body
 abbrev pub bool_at : List ℕ → Bools → ℕ → PlainValue
 bool_at body b j = bool_slot (bytes_of body b.validity) (bytes_of body b.values) j
 
@@ -55,7 +55,7 @@ fixed_at body f j = fixed_slot f.width (bytes_of body f.validity) (bytes_of body
 abbrev pub entry_in : List ℕ → Ints → List PlainValue → ℕ → PlainValue
 entry_in body n values j = entry_slot n.width n.signed (bytes_of body n.validity) (bytes_of body n.values) values j
 
--- where the validity of the slots lies, None where every slot is null
+-- where the validity of the slots lies, None if every slot is null
 abbrev pub validity_in : Ranges → Option ByteRange
 validity_in ranges.Nulls = None
 validity_in (ranges.Bools b) = Some b.validity
@@ -96,7 +96,7 @@ abbrev pub listed_by : Option Encoding → ValueList → List (ℤ × ValueList)
 listed_by None d = []
 listed_by (Some e) d = (e.id, d) ∷ []
 
--- the dictionaries that a node refers to, itself and below it
+-- the dictionaries that a node and the nodes below it refer to
 abbrev pub dictionaries_of : Option Encoding → Ranges → List (ℤ × ValueList)
 dictionaries_of e (ranges.Lists w v o child) = child.value.dictionaries
 dictionaries_of e (ranges.Structs v children) = listed_of children.items
@@ -145,20 +145,20 @@ pub record AreInts (len : ℕ) (body : List ℕ) (n : Ints) : Type 0 where
   pub values : IsInside body n.values
   pub laid : HasFixed len n.width (bytes_of body n.validity) (bytes_of body n.values)
 
--- the ranges hold a part of the bytes for each slot
+-- the ranges hold a range of the bytes for each slot
 pub record AreStrings (len : ℕ) (body : List ℕ) (s : Strings) : Type 0 where
   pub validity : IsInside body s.validity
   pub offsets : IsInside body s.offsets
   pub bytes : IsInside body s.bytes
   pub laid : HasStrings s.width len (bytes_of body s.validity) (bytes_of body s.offsets) (bytes_of body s.bytes)
 
--- the ranges hold so many bytes for each slot
+-- the ranges hold as many bytes as the width for each slot
 pub record AreFixed (len : ℕ) (body : List ℕ) (f : Fixed) : Type 0 where
   pub validity : IsInside body f.validity
   pub values : IsInside body f.values
   pub laid : HasFixed len f.width (bytes_of body f.validity) (bytes_of body f.values)
 
--- the ranges hold a part of the child's slots for each slot, and the child is of the type's one field
+-- the ranges hold a range of the child's slots for each slot, and the child is of the type's one field
 pub record AreLists (list : ListForm) (len : ℕ) (t : TypeShape) (body : List ℕ) (v o : ByteRange) (child : Column) : Type 0 where
   pub validity : IsInside body v
   pub offsets : IsInside body o
@@ -184,7 +184,7 @@ IsFormat (forms.FixedBytes width) n = ⊥
 IsFormat (forms.Lists list) n = ⊥
 IsFormat forms.Structs n = ⊥
 
--- the ranges hold an index for each slot, which has its value where it is valid, in a dictionary of the type
+-- the ranges hold an index for each slot; each valid index has a value in a dictionary of the type
 pub record AreEntries (len : ℕ) (t : TypeShape) (e : Encoding) (body : List ℕ) (n : Ints) (d : ValueList) : Type 0 where
   pub format : IsFormat (node_form t.tag (Some e)) n
   pub ints : AreInts len body n
@@ -192,7 +192,7 @@ pub record AreEntries (len : ℕ) (t : TypeShape) (e : Encoding) (body : List �
   pub typed : d.data_type ≡ t
   pub known : IsValueList d
 
--- indices into a dictionary, where the column has an encoding
+-- indices into a dictionary; the column has an encoding
 abbrev pub AreEntriesBy : Option Encoding → ℕ → TypeShape → List ℕ → Ints → ValueList → Type 0
 AreEntriesBy None len t body n d = ⊥
 AreEntriesBy (Some e) len t body n d = AreEntries len t e body n d
@@ -221,7 +221,7 @@ column_by t e len body r = record {
   below = below_of r;
 }
 
--- what an array stands for
+-- the column that an array represents
 abbrev pub column_of : Inside → Column
 column_of a = column_by (type_view a.data_type.value) a.encoding a.len a.body a.ranges
 
@@ -229,16 +229,16 @@ column_of a = column_by (type_view a.data_type.value) a.encoding a.len a.body a.
 abbrev pub AreBytes : List ℕ → Type 0
 AreBytes body = (i : ℕ) → get_or body i 0 < 256
 
--- below a type stand the fields that its form asks for
+-- the fields below a type are those that its form requires
 abbrev pub HasOwnFields : TypeShape → Type 0
 HasOwnFields t = HasFieldsOf (form_of t.tag) t.children
 
--- where the offsets of a node of lists lie: in its second buffer, nowhere where none are stored
+-- where the offsets of a node of lists lie: in its second buffer, or nowhere if none are stored
 abbrev pub list_range : ListForm → List ByteRange → ByteRange
 list_range (lists.Offsets width) ranges = slice_index_or ranges 1 (record { start = 0; end = 0 })
 list_range (lists.Fixed size) ranges = record { start = 0; end = 0 }
 
--- what is known of every array: its slots can be counted by a signed 32-bit number, and its ranges, of a body of bytes, are
+-- what is known of every array: a signed 32-bit number can count its slots, and its ranges, in a body of bytes, are
 -- of its type
 abbrev pub IsArray : Inside → Type 0
 IsArray a = (a.len ≤ 2147483647) × AreRanges a.len (type_view a.data_type.value) a.encoding a.body a.ranges × AreBytes a.body × HasOwnFields (type_view a.data_type.value)

@@ -45,7 +45,7 @@ index_slot e b j = int_slot (index_width e.index) e.index.signed (buffer b 0) (b
 abbrev pub entry_of_slot : Encoding → List (List ℕ) → List PlainValue → ℕ → PlainValue
 entry_of_slot e b values j = entry_slot (index_width e.index) e.index.signed (buffer b 0) (buffer b 1) values j
 
--- The column of a node of `len` slots: with an encoding its slots are indices into the values, without one they are
+-- The column of a node of `len` slots: with an encoding its slots are indices into the values; without one they are
 -- values, which its buffers and its children give.
 abbrev pub node_column : TypeShape → Option Encoding → ℕ → List (List ℕ) → List Column → List PlainValue → Column
 node_column t None len b children values = record {
@@ -72,7 +72,7 @@ abbrev pub AreChildren : TypeShape → Option Encoding → List Column → Type 
 AreChildren t None children = AreOf t.children children
 AreChildren t (Some e) children = has_encoding t.children ≡ false
 
--- the values of a dictionary, none where there is no dictionary
+-- the values of a dictionary, or none if there is no dictionary
 abbrev pub values_in : Option ValueList → List PlainValue
 values_in None = []
 values_in (Some d) = d.values

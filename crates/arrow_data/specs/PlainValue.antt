@@ -1,8 +1,8 @@
--- The values of slots as plain data, without where they lie in memory (Columnar Format, "Terminology").
+-- The values of slots as plain data, apart from where they lie in memory (Columnar Format, "Terminology").
 use Rattle.std.specs.Prelude.{ℕ, zero, suc, ℤ, Bool, true, false, List, [], ◌∷◌, Option, Some, None, slice_index_or}
 
 mutual
-  -- A value of any type. Dates, times, timestamps and durations are their numbers, a text is its bytes.
+  -- A value of any type. A date, a time, a timestamp or a duration is its number, a text is its bytes.
   pub data PlainValue : Type 0 where
     null_value : PlainValue
     bool_value : Bool → PlainValue
@@ -12,7 +12,7 @@ mutual
     list_value : PlainValues → PlainValue
     struct_value : PlainValues → PlainValue
 
-  -- values one after another: the items of a list, or one of each field of a struct
+  -- a sequence of values: the items of a list, or one for each field of a struct
   pub data PlainValues : Type 0 where
     no_values : PlainValues
     more_values : PlainValue → PlainValues → PlainValues
@@ -22,12 +22,12 @@ abbrev pub values_of : List PlainValue → PlainValues
 values_of [] = no_values
 values_of (value ∷ values) = more_values value (values_of values)
 
--- and back
+-- and the inverse
 abbrev pub list_of_values : PlainValues → List PlainValue
 list_of_values no_values = []
 list_of_values (more_values value others) = value ∷ list_of_values others
 
--- the value of a slot, of those that there are
+-- the value of a slot, null if there is no such slot
 abbrev pub value_at : List PlainValue → ℕ → PlainValue
 value_at values j = slice_index_or values j null_value
 
@@ -91,7 +91,7 @@ items_in (utf8_value bytes) = None
 items_in (list_value vs) = Some vs
 items_in (struct_value vs) = None
 
--- value k, null where there are fewer
+-- value k, null if there are fewer
 abbrev pub nth_value : ℕ → PlainValues → PlainValue
 nth_value k no_values = null_value
 nth_value zero (more_values value _) = value

@@ -1,4 +1,4 @@
--- What two slots are compared by, and the measures by which the comparison ends.
+-- How two slots are compared, and the measures by which the comparison ends.
 use Rattle.std.specs.Prelude.{◌≡◌, ◌+◌, ◌*◌, ◌≤◌, ℕ, Bool, List, length, take}
 use Rattle.std.specs.List.{AllByRecursion}
 use denote.Param.Weighed.{most}
@@ -14,7 +14,7 @@ use Rattle.arrow_data.specs.Stored.{value_code}
 abbrev pub same_values : ValueList → ValueList → Bool
 same_values = on (λ (d : ValueList). d.values) (is_equal (coded_list value_code))
 
--- it is a partial equivalence, as equality by `==` asks
+-- it is a partial equivalence, as equality by `==` requires
 pub same_values_laws : IsPartialEquivalence same_values
 same_values_laws = on_per (λ (d : ValueList). d.values) (partial_equiv_from_equiv (is_equal_equivalence (coded_list value_code)))
 
@@ -26,14 +26,14 @@ Begins old new = take (length old) new ≡ old
 abbrev pub HaveSlot : ℕ → List Column → Type 0
 HaveSlot i cs = AllByRecursion (λ (c : Column). i + 1 ≤ length c.raw) cs
 
--- what falls from a slot to its items or parts, and from these to a slot of theirs
+-- a measure that decreases from a slot to its items or fields' values, and from these to one of their slots
 abbrev pub slot_measure : Column → ℕ
 slot_measure c = 2 * column_size c + 1
 
--- the same of the items in an array
+-- the same for the items in an array
 abbrev pub items_measure : Column → ℕ
 items_measure c = 2 * column_size c + 2
 
--- the same of one slot of several arrays
+-- the same for one slot of several arrays
 abbrev pub parts_measure : List Column → ℕ
 parts_measure cs = 2 * most (λ c. column_size c + 1) cs

@@ -1,4 +1,4 @@
--- What a dictionary stands for, and what is known of its segments in every dictionary.
+-- What a dictionary represents, and what is known of the segments of every dictionary.
 use Rattle.std.specs.Prelude.{◌≡◌, ◌≤◌, ◌<◌, ◌+◌, ℕ, List, [], ◌∷◌, ◌++◌, map, length, get_or, None}
 use Rattle.std.specs.List.{AllByRecursion}
 use Rattle.std.specs.Rc.{rc_value}
@@ -23,16 +23,16 @@ joined (c ∷ cs) = c.raw ++ joined cs
 abbrev pub IsSegment : TypeShape → Column → Type 0
 IsSegment t c = (c.data_type ≡ t) × (c.encoding ≡ None)
 
--- where the values of each column begin, those of the first at place k
+-- where the values of each column begin, those of the first at index k
 abbrev pub starts_from : ℕ → List Column → List ℕ
 starts_from k [] = []
 starts_from k (c ∷ cs) = k ∷ starts_from (k + length c.raw) cs
 
--- the kept starts of the segments
+-- the stored starts of the segments
 abbrev pub starts_of : List Segment → List ℕ
 starts_of segments = map (λ (s : Segment). s.start) segments
 
--- the kept starts are where the values of each segment begin
+-- the stored starts are where the values of each segment begin
 abbrev pub HaveStarts : List Segment → Type 0
 HaveStarts segments = starts_of segments ≡ starts_from 0 (columns_of segments)
 
@@ -45,7 +45,7 @@ block_segments (b ∷ bs) = b.segments.items ++ block_segments bs
 abbrev pub all_segments : Inside → List Segment
 all_segments d = block_segments (map rc_value d.older.items) ++ d.segments.items
 
--- the kept starts of blocks
+-- the stored starts of blocks
 abbrev pub block_starts : List Block → List ℕ
 block_starts blocks = map (λ (b : Block). b.start) blocks
 
@@ -54,11 +54,11 @@ pub record IsBlock (b : Block) : Type 0 where
   pub some : 0 < length b.segments.items
   pub start : b.start ≡ get_or (starts_of b.segments.items) 0 0
 
--- what a dictionary stands for: the values of its segments
+-- the values that a dictionary represents: those of its segments
 abbrev pub value_list_of : Inside → ValueList
 value_list_of d = record { data_type = type_view d.data_type; values = joined (columns_of (all_segments d)) }
 
--- what is known of the segments: their types, where each begins, and how many values they are
+-- what is known of the segments: their types, where each begins, and how many values they have
 pub record IsDictionary (d : Inside) : Type 0 where
   pub known : IsValueList (value_list_of d)
   pub typed : AllByRecursion (IsSegment (type_view d.data_type)) (columns_of (all_segments d))
@@ -71,7 +71,7 @@ pub record AreSame (xs ys : List Segment) : Type 0 where
   pub columns : columns_of xs ≡ columns_of ys
   pub starts : starts_of xs ≡ starts_of ys
 
--- some of the segments of these blocks and of the last ones, one after another, among which value i stands
+-- consecutive segments of these blocks and the last ones, which contain value i
 pub record IsPartWith (blocks : List Block) (last : List Segment) (i : ℕ) (part : List Segment) : Type 0 where
   pub before : List Segment
   pub after : List Segment
@@ -80,7 +80,7 @@ pub record IsPartWith (blocks : List Block) (last : List Segment) (i : ℕ) (par
   pub low : get_or (starts_of part) 0 0 ≤ i
   pub high : 0 < length after → i < get_or (starts_of after) 0 0
 
--- place i stands at start `low` or behind it, and before start `high`, if there is one
+-- index i is at start `low` or after it, and before start `high`, if there is one
 pub record Between (starts : List ℕ) (low high i : ℕ) : Type 0 where
   pub order : low < high
   pub inside : high ≤ length starts

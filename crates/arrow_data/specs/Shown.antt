@@ -3,13 +3,13 @@ use Rattle.std.specs.Prelude.{◌≡◌, ◌≤◌, ℕ, List, [], ◌∷◌, le
 use Rattle.arrow_data.specs.PlainValue.{value_at, null_value, bool_value, int_value, binary_value, utf8_value, list_value, struct_value, values_of}
 use Rattle.arrow_data.specs.Column.{Column, AreOf, HasItems, HasParts, values_from, resolved_row_of}
 use Rattle.arrow_data.specs.Same.{HaveSlot}
-use Rattle.arrow_data.specs.declared.array.Seen.{Seen}
+use Rattle.arrow_data.specs.declared.array.SlotRef.{SlotRef}
 use Rattle.arrow_data.specs.declared.array.SlotValue.{SlotValue}
 use Rattle.arrow_data.specs.declared.array.SlotValue.TheVariants as values
-use Rattle.arrow_data.specs.declared.array.Seen.TheVariants.{Nothing, Truth, Number, Binary, Text, Items, Parts}
+use Rattle.arrow_data.specs.declared.array.SlotRef.TheVariants.{Nothing, Truth, Number, Binary, Text, Items, Parts}
 
--- what is seen in slot i is its raw value
-abbrev pub Shows : Column → ℕ → Seen → Type 0
+-- slot i shows its raw value
+abbrev pub Shows : Column → ℕ → SlotRef → Type 0
 Shows c i Nothing = value_at c.raw i ≡ null_value
 Shows c i (Truth b) = value_at c.raw i ≡ bool_value b
 Shows c i (Number z) = value_at c.raw i ≡ int_value z
@@ -26,13 +26,13 @@ pub record ListsItems (c : Column) (i start stop : ℕ) (child : Column) : Type 
   pub long : length child.resolved ≡ length child.raw
   pub same : value_at c.resolved i ≡ list_value (values_of (values_from child.resolved start stop))
 
--- the value is made of the values of the fields' columns in one slot, indices looked up
+-- the value consists of the values of the fields' columns in one slot, indices looked up
 pub record JoinsParts (c : Column) (i : ℕ) (children : List Column) (place : ℕ) : Type 0 where
   pub typed : AreOf c.data_type.children children
   pub inside : HaveSlot place children
   pub same : value_at c.resolved i ≡ struct_value (values_of (resolved_row_of children place))
 
--- what slot i holds once indices are looked up
+-- the value of slot i once indices are looked up
 abbrev pub HoldsValue : Column → ℕ → SlotValue → Type 0
 HoldsValue c i values.Null = value_at c.resolved i ≡ null_value
 HoldsValue c i (values.Bool b) = value_at c.resolved i ≡ bool_value b
@@ -43,7 +43,7 @@ HoldsValue c i (values.List start stop child) = ListsItems c i start stop child.
 HoldsValue c i (values.Struct children place) = JoinsParts c i children.now place
 
 -- what slot i shows, as a value
-abbrev pub value_shown : ℕ → Seen → SlotValue
+abbrev pub value_shown : ℕ → SlotRef → SlotValue
 value_shown i Nothing = values.Null
 value_shown i (Truth b) = values.Bool b
 value_shown i (Number z) = values.Int z

@@ -16,7 +16,7 @@ use Rattle.arrow_data.specs.declared.form.OffsetWidth.{OffsetWidth}
 abbrev pub is_valid_at : List ℕ → ℕ → Bool
 is_valid_at validity j = nat_eq (length validity) 0 || bit_of validity j
 
--- the value where slot j is valid
+-- the value if slot j is valid, else null
 abbrev pub or_null : List ℕ → ℕ → PlainValue → PlainValue
 or_null validity j value = if is_valid_at validity j then value else null_value
 
@@ -28,16 +28,16 @@ bool_slot validity values j = or_null validity j (bool_value (bit_of values j))
 abbrev pub int_slot : ℕ → Bool → List ℕ → List ℕ → ℕ → PlainValue
 int_slot width signed validity values j = or_null validity j (int_value (int_of values (width * j) width signed))
 
--- the bytes of slot j, where each slot has `width` bytes (Columnar Format, "Fixed-size Primitive Layout"; Schema.fbs,
+-- the bytes of slot j, if each slot has `width` bytes (Columnar Format, "Fixed-size Primitive Layout"; Schema.fbs,
 -- "FixedSizeBinary")
 abbrev pub fixed_slot : ℕ → List ℕ → List ℕ → ℕ → PlainValue
 fixed_slot width validity values j = or_null validity j (binary_value (slice_range values (width * j) (width * j + width)))
 
--- offset j, which is never negative where offsets are as they should (Columnar Format, "Variable-size Binary Layout")
+-- offset j, which is never negative in valid offsets (Columnar Format, "Variable-size Binary Layout")
 abbrev pub place_of : OffsetWidth → List ℕ → ℕ → ℕ
 place_of width offsets j = number_at offsets (offset_bytes width * j) (offset_bytes width)
 
--- what stands from offset j up to the next one
+-- the elements from offset j up to the next one
 abbrev pub range_of : {A : Type 0} → OffsetWidth → List ℕ → List A → ℕ → List A
 range_of width offsets xs j = slice_range xs (place_of width offsets j) (place_of width offsets (j + 1))
 
@@ -45,7 +45,7 @@ range_of width offsets xs j = slice_range xs (place_of width offsets j) (place_o
 abbrev pub binary_slot : OffsetWidth → List ℕ → List ℕ → List ℕ → ℕ → PlainValue
 binary_slot width validity offsets bytes j = or_null validity j (binary_value (range_of width offsets bytes j))
 
--- the text of slot j, laid as a byte string is
+-- the text of slot j, with the layout of a byte string
 abbrev pub utf8_slot : OffsetWidth → List ℕ → List ℕ → List ℕ → ℕ → PlainValue
 utf8_slot width validity offsets bytes j = or_null validity j (utf8_value (range_of width offsets bytes j))
 
@@ -55,11 +55,11 @@ abbrev pub item_place : ListForm → List ℕ → ℕ → ℕ
 item_place (lists.Offsets width) offsets j = place_of width offsets j
 item_place (lists.Fixed size) offsets j = size * j
 
--- what lies in the child from where the items of slot j begin up to where those of the next one do
+-- the child's slots from where the items of slot j begin up to where those of the next one do
 abbrev pub items_at : ListForm → List ℕ → List PlainValue → ℕ → List PlainValue
 items_at list offsets child j = slice_range child (item_place list offsets j) (item_place list offsets (j + 1))
 
--- the items out of the values of the child
+-- the list of the items of slot j, from the values of the child
 abbrev pub list_slot : ListForm → List ℕ → List ℕ → List PlainValue → ℕ → PlainValue
 list_slot list validity offsets child j = or_null validity j (list_value (values_of (items_at list offsets child j)))
 
@@ -72,7 +72,7 @@ item_places (lists.Fixed size) len offsets = map (λ j. size * j) (range_with_le
 abbrev pub struct_slot : List ℕ → List (List PlainValue) → ℕ → PlainValue
 struct_slot validity children j = or_null validity j (struct_value (values_of (map (λ values. value_at values j) children)))
 
--- the value that an index refers to, of those that there are
+-- the value that an index refers to, null if there is none
 abbrev pub entry_at : List PlainValue → ℤ → PlainValue
 entry_at values (pos n) = value_at values n
 entry_at values (negsuc n) = null_value
@@ -89,7 +89,7 @@ slots len slot = map slot (range_with_len 0 len)
 abbrev pub HasBits : ℕ → List ℕ → Type 0
 HasBits len bits = 0 < length bits → len ≤ 8 * length bits
 
--- `len` ranges that end at `top` or before; for no slots the offsets may be left out
+-- `len` ranges that end at `top` or before; if there are no slots, the offsets may be left out
 abbrev pub HasOffsets : OffsetWidth → ℕ → ℕ → List ℕ → Type 0
 HasOffsets width len top offsets = 0 < len + length offsets → AreOffsetsOf (offset_bytes width) offsets len top
 

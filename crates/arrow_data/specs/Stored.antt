@@ -1,4 +1,4 @@
--- How the logic stores plain values: as trees of numbers, another one for each other value.
+-- How the logic encodes plain values: as trees of numbers, a different tree for each value.
 use Rattle.std.specs.Prelude.{◌≡◌}
 use Rattle.std.proofs.Common.{ap, refl}
 use Rattle.std.specs.Coded.{Coded, coded_ℕ, coded_ℤ, coded_bool, coded_list}
@@ -6,7 +6,7 @@ use base.Stored.{Gv, gnil, gnum, gcons}
 use Rattle.arrow_data.specs.PlainValue.{PlainValue, PlainValues, null_value, bool_value, int_value, binary_value, utf8_value, list_value, struct_value, no_values, more_values}
 
 abbrev mutual
-  -- the tree of a value, with a number of its own for each sort
+  -- the tree of a value, with a number for each kind of value
   pub value_gv : PlainValue → Gv
   value_gv null_value = gnil
   value_gv (bool_value b) = gcons (gnum 0) (coded_bool.code b)
@@ -16,13 +16,13 @@ abbrev mutual
   value_gv (list_value values) = gcons (gnum 4) (values_gv values)
   value_gv (struct_value values) = gcons (gnum 5) (values_gv values)
 
-  -- the tree of values one after another
+  -- the tree of a sequence of values
   pub values_gv : PlainValues → Gv
   values_gv no_values = gnil
   values_gv (more_values value values) = gcons (value_gv value) (values_gv values)
 
 mutual
-  -- values that have one tree are the same
+  -- values with the same tree are equal
   pub value_inj : (x y : PlainValue) → value_gv x ≡ value_gv y → x ≡ y
   value_inj null_value null_value p = refl
   value_inj (bool_value a) (bool_value b) p = ap bool_value (coded_bool.inj a b (cc))
@@ -33,12 +33,12 @@ mutual
   value_inj (struct_value a) (struct_value b) p = ap struct_value (values_inj a b (cc))
   value_inj x y p = cc
 
-  -- and so are values one after another
+  -- and so are sequences of values
   pub values_inj : (x y : PlainValues) → values_gv x ≡ values_gv y → x ≡ y
   values_inj no_values no_values p = refl
   values_inj (more_values a as') (more_values b bs') p = λ i. more_values (value_inj a b (cc) i) (values_inj as' bs' (cc) i)
   values_inj x y p = cc
 
--- how the logic stores a value
+-- how the logic encodes a value
 abbrev pub value_code : Coded PlainValue
 value_code = record { code = value_gv; inj = value_inj }

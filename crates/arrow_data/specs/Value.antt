@@ -1,10 +1,10 @@
--- What a `Value` says, level by level.
+-- The plain value of a `Value`, level by level.
 use Rattle.std.specs.Prelude.{List, map, string_bytes}
 use Rattle.arrow_data.specs.PlainValue.{PlainValue, null_value, bool_value, int_value, binary_value, utf8_value, list_value, struct_value, values_of}
 use Rattle.arrow_data.specs.declared.value.Value.{Value, fold-Value}
 use Rattle.arrow_data.specs.declared.value.Value.TheOpen.{Value-F}
 
--- one level of a value, whose items are plain already
+-- one level of a value whose items are plain already
 abbrev pub value_step : Value-F PlainValue → PlainValue
 value_step Value-F.Null = null_value
 value_step (Value-F.Bool b) = bool_value b
@@ -14,10 +14,10 @@ value_step (Value-F.Text text) = utf8_value (string_bytes text)
 value_step (Value-F.List values) = list_value (values_of values.items)
 value_step (Value-F.Struct values) = struct_value (values_of values.items)
 
--- what a value says
+-- the plain value of a value
 abbrev pub value_view : Value → PlainValue
 value_view = fold-Value PlainValue value_step
 
--- what each of them says, in their order
+-- the plain value of each of them, in their order
 abbrev pub values_view : List Value → List PlainValue
 values_view values = map value_view values

@@ -22,7 +22,7 @@ AreRaw c slot = (j : ℕ) → j < length c.raw → value_at c.raw j ≡ slot j
 abbrev pub AreValues : Column → (ℕ → PlainValue) → Type 0
 AreValues c slot = (j : ℕ) → j < length c.raw → value_at c.resolved j ≡ slot j
 
--- slot i holds no index, so that it has no value either, or the column is not dictionary-encoded
+-- slot i holds no index, and so has no value either, or the column is not dictionary-encoded
 abbrev pub HasNoEntry : Column → ℕ → Type 0
 HasNoEntry c i = IsTrue (is_some c.encoding) → (value_at c.raw i ≡ null_value) × (value_at c.resolved i ≡ null_value)
 
@@ -36,7 +36,8 @@ RefersTo c i n =
 abbrev pub IsOf : Form → Column → Type 0
 IsOf form c = (c.encoding ≡ None) × (node_form c.data_type.tag c.encoding ≡ form)
 
--- the column's slots hold numbers of so many bytes, with or without a sign: in a dictionary-encoded one its indices
+-- the column's slots hold numbers of that many bytes, with or without a sign: in a dictionary-encoded column, its
+-- indices
 pub record IsOfNumbers (c : Column) (width : ℕ) (signed : Bool) : Type 0 where
   pub number : NumberForm
   pub form : node_form c.data_type.tag c.encoding ≡ forms.Numbers number
@@ -76,14 +77,15 @@ HoldFixed c width validity values =
     IsOf (forms.FixedBytes width) c × HasFixed (length c.raw) width validity values
     × AreRaw c (fixed_slot width validity values) × AreValues c (fixed_slot width validity values)
 
--- lists, with the child that their items stand in; where these begin and end is the column's, also of slots without a value
+-- lists, with the child that contains their items; the offsets are those of the column, including those of slots
+-- without a value
 abbrev pub HoldLists : Column → ListForm → List ℕ → List ℕ → Column → Type 0
 HoldLists c list validity offsets child =
     IsOf (forms.Lists list) c × HasLists list (length c.raw) validity offsets (length child.raw) × HasChild c child
     × (c.offsets ≡ item_places list (length c.raw) offsets)
     × AreRaw c (list_slot list validity offsets child.raw) × AreValues c (list_slot list validity offsets child.resolved)
 
--- structs, with the children that have a slot for each of theirs
+-- structs, with the children, which have a slot for each slot of the structs
 abbrev pub HoldStructs : Column → List ℕ → List Column → Type 0
 HoldStructs c validity children =
     IsOf forms.Structs c × HasBits (length c.raw) validity × HasFields c children

@@ -1,4 +1,4 @@
-//! Arrays, and what stands in their slots.
+//! Arrays, and the values in their slots.
 
 ghost use Rattle.std.specs.Prelude.{◌≡◌, ◌≤◌, ◌<◌, length, option_map, MatchOption, None};
 ghost use Rattle.arrow_types.specs.View.{type_view};
@@ -31,7 +31,7 @@ use arrow_types::{DataType, Encoding};
 use std::marker::Model;
 use std::rc::Rc;
 
-// Where the buffers of a node lie in the body, and the arrays of its children or its dictionary.
+/// Where the buffers of a node lie in the body, and the arrays of its children or its dictionary.
 #[cycle(arrays)]
 #[derive(Drop)]
 pub(crate) enum Ranges {
@@ -55,7 +55,7 @@ pub(crate) enum Ranges {
 }
 
 impl Ranges {
-    // Where the validity of the slots lies; None where every slot is null.
+    /// Where the validity of the slots lies; None if every slot is null.
     fn validity(&self) -> Option<ByteRange>
         ensures { result ≡ validity_in self.now }
     {
@@ -72,8 +72,8 @@ impl Ranges {
 
 /// A column: its type, and a value in each slot (Columnar Format, "Physical Memory Layout").
 ///
-/// The values stay in the body of the message that brought them, which arrays share. Slots count
-/// from 0. In a dictionary-encoded column a slot holds an index, and the value is the one of that
+/// The values stay in the body of the message that contained them, which arrays share. Slots count
+/// from 0. In a dictionary-encoded column a slot holds an index, and its value is the one with that
 /// number in the column's dictionary.
 #[cycle(arrays)]
 #[derive(Drop)]
@@ -107,9 +107,9 @@ impl Model for Array {
         depth_le-levels a.len (type_view a.data_type.value) a.encoding a.body a.ranges h.1 };
 }
 
-// What stands in a slot: the one place that looks at the ranges.
+/// The content of a slot, as `seen` reads it from the ranges.
 #[derive(Clone, Copy)]
-pub(crate) enum Seen<'a> {
+pub(crate) enum SlotRef<'a> {
     Nothing,
     Truth(bool),
     Number(i128),
@@ -119,40 +119,40 @@ pub(crate) enum Seen<'a> {
     Parts(&'a [Array]),
 }
 
-/// The value of a slot, where an index stands for the value that it refers to.
+/// The value of a slot. An index is looked up: the slot has the value that it refers to.
 #[derive(Clone, Copy)]
 pub enum SlotValue<'a> {
     /// No value.
     Null,
     /// A truth value.
     Bool(bool),
-    /// A number; of a date, a time, a timestamp or a duration the number of its units.
+    /// A number; for a date, a time, a timestamp or a duration the number of its units.
     Int(i128),
     /// A byte string.
     Bytes(&'a [u8]),
     /// A text.
     Text(&'a str),
-    /// A list: the first and the end of the slots that its items stand in, and the array that has
+    /// A list: the first and the end of the slots that contain its items, and the array that has
     /// these slots.
     List(usize, usize, &'a Array),
     /// A struct: the arrays of its fields, and the slot in which each of them has its value.
     Struct(&'a [Array], usize),
 }
 
-impl<'a> Seen<'a> {
-    // What slot `i` shows, as a value.
+impl<'a> SlotRef<'a> {
+    /// What slot `i` shows, as a value.
     #[inline(always)]
     fn at(self, i: usize) -> SlotValue<'a>
         ensures { result ≡ value_shown i self.entry }
     {
         match self {
-            Seen::Nothing => SlotValue::Null,
-            Seen::Truth(truth) => SlotValue::Bool(truth),
-            Seen::Number(number) => SlotValue::Int(number),
-            Seen::Binary(bytes) => SlotValue::Bytes(bytes),
-            Seen::Text(text) => SlotValue::Text(text),
-            Seen::Items(start, end, items) => SlotValue::List(start, end, items),
-            Seen::Parts(children) => SlotValue::Struct(children, i),
+            SlotRef::Nothing => SlotValue::Null,
+            SlotRef::Truth(truth) => SlotValue::Bool(truth),
+            SlotRef::Number(number) => SlotValue::Int(number),
+            SlotRef::Binary(bytes) => SlotValue::Bytes(bytes),
+            SlotRef::Text(text) => SlotValue::Text(text),
+            SlotRef::Items(start, end, items) => SlotValue::List(start, end, items),
+            SlotRef::Parts(children) => SlotValue::Struct(children, i),
         }
     }
 }
@@ -175,40 +175,40 @@ impl Array {
         &self.data_type
     }
 
-    /// How the column refers to its dictionary. None where its slots hold the values themselves.
+    /// How the column refers to its dictionary. None if its slots hold the values themselves.
     pub fn encoding(&self) -> Option<&Encoding>
         ensures { option_map (λ e. e.now) result ≡ self.now.encoding }
     {
         self.encoding.as_ref()
     }
 
-    // What stands in slot `i`, where a dictionary-encoded column holds numbers.
+    /// The content of slot `i`; a dictionary-encoded column holds numbers.
     #[inline(always)]
-    pub(crate) fn seen(&self, i: usize) -> Seen<'_>
+    pub(crate) fn seen(&self, i: usize) -> SlotRef<'_>
         requires { i < length self.now.raw }
         ensures { Shows self.now i result }
     {
         let body = self.body.as_slice();
         match &self.ranges {
             Ranges::Bools(bools) => match bools.at(body, self.len, i) {
-                Some(truth) => Seen::Truth(truth),
-                None => Seen::Nothing,
+                Some(truth) => SlotRef::Truth(truth),
+                None => SlotRef::Nothing,
             },
             Ranges::Ints(ints) | Ranges::Indices(ints, _) => match ints.at(body, self.len, i) {
-                Some(number) => Seen::Number(number),
-                None => Seen::Nothing,
+                Some(number) => SlotRef::Number(number),
+                None => SlotRef::Nothing,
             },
             Ranges::Binaries(strings) => match strings.binary_at(body, self.len, i) {
-                Some(bytes) => Seen::Binary(bytes),
-                None => Seen::Nothing,
+                Some(bytes) => SlotRef::Binary(bytes),
+                None => SlotRef::Nothing,
             },
             Ranges::Texts(strings) => match strings.text_at(body, self.len, i) {
-                Some(text) => Seen::Text(text),
-                None => Seen::Nothing,
+                Some(text) => SlotRef::Text(text),
+                None => SlotRef::Nothing,
             },
             Ranges::FixedBytes(fixed) => match fixed.at(body, self.len, i) {
-                Some(bytes) => Seen::Binary(bytes),
-                None => Seen::Nothing,
+                Some(bytes) => SlotRef::Binary(bytes),
+                None => SlotRef::Nothing,
             },
             Ranges::Lists {
                 form,
@@ -224,28 +224,28 @@ impl Array {
                     offsets,
                 };
                 match places.range_at(marks, i) {
-                    Some((start, end)) => Seen::Items(start, end, child),
-                    None => Seen::Nothing,
+                    Some((start, end)) => SlotRef::Items(start, end, child),
+                    None => SlotRef::Nothing,
                 }
             }
             Ranges::Structs { validity, children } if is_valid(bytes_in(body, *validity), i) => {
-                Seen::Parts(children)
+                SlotRef::Parts(children)
             }
-            Ranges::Nulls | Ranges::Structs { .. } => Seen::Nothing,
+            Ranges::Nulls | Ranges::Structs { .. } => SlotRef::Nothing,
         }
     }
 
-    /// Whether slot `i` is null. An index is not, also where the value that it refers to is null.
+    /// Whether slot `i` is null. An index is not null, even if the value that it refers to is.
     #[inline(always)]
     pub fn is_null(&self, i: usize) -> bool
         requires { i < length self.now.raw }
         ensures { result ≡ is_null_value (value_at self.now.raw i) }
     {
-        matches!(self.seen(i), Seen::Nothing)
+        matches!(self.seen(i), SlotRef::Nothing)
     }
 
-    /// The first null slot from `start` on, or `stop` where none before it is null. Where the
-    /// column has no validity bitmap no slot is looked at.
+    /// The first null slot from `start` on, or `stop` if none before it is null. If the column has
+    /// no validity bitmap, no slot is inspected.
     pub fn first_null(&self, start: usize, stop: usize) -> usize
         requires order { start ≤ stop }
         requires inside { stop ≤ length self.now.raw }
@@ -257,9 +257,9 @@ impl Array {
         }
     }
 
-    /// The bytes in which the values of a range of slots lie, one after another: of numbers or
-    /// indices those of the numbers, of byte strings and texts their own. No slot of the range is
-    /// null. Of slots that hold something else there are none. Nothing is copied.
+    /// The consecutive bytes that contain the values of a range of slots: for numbers or indices
+    /// the bytes of the numbers, for byte strings and texts their bytes. No slot of the range is
+    /// null. Slots that hold something else have no bytes here. Nothing is copied.
     pub fn value_bytes(&self, start: usize, stop: usize) -> &[u8]
         requires order { start ≤ stop }
         requires inside { stop ≤ length self.now.raw }
@@ -286,36 +286,36 @@ impl Array {
         }
     }
 
-    /// The truth value in slot `i`. None where the slot is null or holds something else.
+    /// The truth value in slot `i`. None if the slot is null or holds something else.
     #[inline(always)]
     pub fn bool_at(&self, i: usize) -> Option<bool>
         requires { i < length self.now.raw }
         ensures { result ≡ bool_in (value_at self.now.raw i) }
     {
         match self.seen(i) {
-            Seen::Truth(truth) => Some(truth),
+            SlotRef::Truth(truth) => Some(truth),
             _ => None,
         }
     }
 
     /// The number in slot `i` of a column of type Int, Date, Time, Timestamp or Duration, the whole
-    /// number of one of type Decimal of at most 128 bits, the months of one of type Interval in months,
-    /// the bits of one of type FloatingPoint, or the index in slot `i` of a dictionary-encoded column
-    /// of any type. None where the slot is null or holds something else.
+    /// number of one of type Decimal of at most 128 bits, the months of one of type Interval in
+    /// months, the bits of one of type FloatingPoint, or the index in slot `i` of a
+    /// dictionary-encoded column of any type. None if the slot is null or holds something else.
     #[inline(always)]
     pub fn int_at(&self, i: usize) -> Option<i128>
         requires { i < length self.now.raw }
         ensures { result ≡ int_in (value_at self.now.raw i) }
     {
         match self.seen(i) {
-            Seen::Number(number) => Some(number),
+            SlotRef::Number(number) => Some(number),
             _ => None,
         }
     }
 
-    /// The floating-point number in slot `i`, one of 16 or 32 bits widened, of what is no number a NaN.
-    /// (Its own bits are at hand by [`Array::int_at`].) None where the slot is null, or the column of
-    /// another type or dictionary-encoded.
+    /// The floating-point number in slot `i`, widened if it has 16 or 32 bits; a NaN is returned as
+    /// a NaN. ([`Array::int_at`] returns its own bits.) None if the slot is null, or the column has
+    /// another type or is dictionary-encoded.
     pub fn float_at(&self, i: usize) -> Option<f64>
         requires { i < length self.now.raw }
         ensures { result ≡ float_shown self.now i }
@@ -336,8 +336,8 @@ impl Array {
     {
         match self.data_type() {
             DataType::Decimal { scale, .. } if self.encoding().is_none() => match self.seen(i) {
-                Seen::Number(number) => Some(decimals::of_number(*scale, number)),
-                Seen::Binary(bytes) => decimals::of_bytes(*scale, bytes),
+                SlotRef::Number(number) => Some(decimals::of_number(*scale, number)),
+                SlotRef::Binary(bytes) => decimals::of_bytes(*scale, bytes),
                 _ => None,
             },
             _ => None,
@@ -352,41 +352,42 @@ impl Array {
     {
         match self.data_type() {
             DataType::Interval(unit) if self.encoding().is_none() => match self.seen(i) {
-                Seen::Number(number) => intervals::of_number(*unit, number),
-                Seen::Binary(bytes) => intervals::of_bytes(*unit, bytes),
+                SlotRef::Number(number) => intervals::of_number(*unit, number),
+                SlotRef::Binary(bytes) => intervals::of_bytes(*unit, bytes),
                 _ => None,
             },
             _ => None,
         }
     }
 
-    /// The byte string in slot `i`, also one of a fixed size, or the bytes of an interval of several
-    /// numbers or of a decimal of 256 bits. None where the slot is null or holds something else.
+    /// The byte string in slot `i`, which may have a fixed size, or the bytes of an interval of
+    /// several numbers or of a decimal of 256 bits. None if the slot is null or holds something
+    /// else.
     #[inline(always)]
     pub fn bytes_at(&self, i: usize) -> Option<&[u8]>
         requires { i < length self.now.raw }
         ensures { option_map (λ b. b.now) result ≡ binary_in (value_at self.now.raw i) }
     {
         match self.seen(i) {
-            Seen::Binary(bytes) => Some(bytes),
+            SlotRef::Binary(bytes) => Some(bytes),
             _ => None,
         }
     }
 
-    /// The text in slot `i`. None where the slot is null or holds something else.
+    /// The text in slot `i`. None if the slot is null or holds something else.
     #[inline(always)]
     pub fn text_at(&self, i: usize) -> Option<&str>
         requires { i < length self.now.raw }
         ensures { option_map (λ t. t.now) result ≡ utf8_in (value_at self.now.raw i) }
     {
         match self.seen(i) {
-            Seen::Text(text) => Some(text),
+            SlotRef::Text(text) => Some(text),
             _ => None,
         }
     }
 
     /// The items in slot `i`: the first and the end of their slots in the child array, and the
-    /// child array. None where the slot is null or holds something else.
+    /// child array. None if the slot is null or holds something else.
     #[inline(always)]
     pub fn list_at(&self, i: usize) -> Option<(usize, usize, &Array)>
         requires { i < length self.now.raw }
@@ -394,12 +395,12 @@ impl Array {
             (λ r. HasItems self.now i r.0 r.1 r.2.now) }
     {
         match self.seen(i) {
-            Seen::Items(start, end, child) => Some((start, end, child)),
+            SlotRef::Items(start, end, child) => Some((start, end, child)),
             _ => None,
         }
     }
 
-    /// The child array that the items of all lists stand in. None where slots do not hold lists.
+    /// The child array that contains the items of all lists. None if slots do not hold lists.
     pub fn items(&self) -> Option<&Array>
         ensures { MatchOption result (IsList self.now → ⊥) (λ child. HasChild self.now child.now) }
     {
@@ -410,7 +411,7 @@ impl Array {
     }
 
     /// The array of field `k` of a struct: slot i of the struct is slot i of this array. It may
-    /// have more slots. None where slots do not hold structs, or these have no field `k`.
+    /// have more slots. None if slots do not hold structs, or these have no field `k`.
     pub fn field(&self, k: usize) -> Option<&Array>
         ensures { MatchOption result (type_of_field (struct_fields self.now) k ≡ None)
             (λ child. HasField self.now k child.now) }
@@ -421,7 +422,7 @@ impl Array {
         }
     }
 
-    /// The arrays of the fields of a struct, side by side. None where slots do not hold structs.
+    /// The arrays of the fields of a struct, in order. None if slots do not hold structs.
     pub fn fields(&self) -> Option<&[Array]>
         ensures { MatchOption result (IsStruct self.now → ⊥)
             (λ children. HasFields self.now children.now) }
@@ -432,7 +433,7 @@ impl Array {
         }
     }
 
-    /// The dictionary that the indices of the column refer to. None where the column is not
+    /// The dictionary that the indices of the column refer to. None if the column is not
     /// dictionary-encoded.
     pub fn dictionary(&self) -> Option<&Dictionary>
         ensures { MatchOption result (self.now.encoding ≡ None)
@@ -444,8 +445,8 @@ impl Array {
         }
     }
 
-    /// Where the value that slot `i` refers to stands: an array and a place there. None where the
-    /// slot is null, or the column is not dictionary-encoded.
+    /// Where the value that slot `i` refers to is: an array and an index in it. None if the slot is
+    /// null, or the column is not dictionary-encoded.
     #[inline(always)]
     pub fn resolved(&self, i: usize) -> Option<(&Array, usize)>
         requires { i < length self.now.raw }
@@ -462,13 +463,13 @@ impl Array {
     }
 
     /// The value of slot `i`, whatever its type. In a dictionary-encoded column it is the
-    /// dictionary's value, and null where the index or that value is. No memory is taken.
+    /// dictionary's value, and null if the index or that value is null. Nothing is allocated.
     #[inline(always)]
     pub fn slot(&self, i: usize) -> SlotValue<'_>
         requires { i < length self.now.raw }
         ensures { HoldsValue self.now i result }
     {
-        // A field is named so that the proof has at hand what is known of every array.
+        // A field is named so that the proof can use what is known of every array.
         let _ = &self.len;
         match self.resolved(i) {
             Some((values, place)) => values.own_slot(place),
@@ -476,7 +477,7 @@ impl Array {
         }
     }
 
-    // The value of slot `i`, which holds no index.
+    /// The value of slot `i`, which holds no index.
     #[inline(always)]
     fn own_slot(&self, i: usize) -> SlotValue<'_>
         requires inside { i < length self.now.raw }

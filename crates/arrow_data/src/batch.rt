@@ -1,4 +1,4 @@
-//! Batches: columns of equal lengths, of the types that a schema names.
+//! Batches: columns of equal lengths, with the types of a schema's fields.
 
 ghost use Rattle.std.specs.Prelude.{◌≡◌, ◌↔◌, ◌<◌, length, IsTrue, slice_get, Some};
 ghost use Rattle.arrow_types.specs.View.{fields_view, type_view};
@@ -21,10 +21,10 @@ pub enum BatchFault {
     ColumnType,
     /// A column has more or fewer slots than the batch has rows.
     ColumnLength,
-    /// An index has no value in its dictionary. No array brings it, since none is made with such an
-    /// index.
+    /// An index has no value in its dictionary. This never occurs, since no array is made with such
+    /// an index.
     IndexRange,
-    /// A growth was refused. None is asked for.
+    /// An allocation failed. This never occurs, since nothing is allocated.
     Memory,
 }
 
@@ -64,11 +64,11 @@ impl fmt::Display for BatchFault {
 
 impl Error for BatchFault {}
 
-/// Rows of a schema, kept as one column for each of its fields (`Message.fbs`, table
+/// Rows of a schema, stored as a column for each of its fields (`Message.fbs`, table
 /// `RecordBatch`).
 ///
-/// Each column has the type and the encoding of its field and a slot for each row. Nobody who holds
-/// a batch has to test that again. Batches share their schema.
+/// Each column has the type and the encoding of its field and a slot for each row. Code that holds
+/// a batch never has to test that again. Batches share their schema.
 #[derive(Drop)]
 pub struct Batch {
     schema: Rc<Schema>,
@@ -94,7 +94,7 @@ impl Batch {
     /// The batch of these columns, or the fault with the least number of those that apply.
     ///
     /// Columns have no names of their own: the types, the encodings and the lengths are compared. A
-    /// batch without columns has `rows` rows all the same. Takes no memory.
+    /// batch without columns has `rows` rows all the same. Nothing is allocated.
     #[tactic(auto, using(crate::proofs::Batches::batches))]
     pub fn new(schema: Rc<Schema>, columns: Vec<Array>, rows: usize) -> Result<Batch, BatchFault>
         ensures { Judges result schema.value columns.items rows }
@@ -116,15 +116,15 @@ impl Batch {
         })
     }
 
-    /// The batch of these columns, which are known to be those of the schema and to have `rows`
-    /// slots each, as those of a body that was looked at are. Nothing is compared.
+    /// The batch of these columns. The caller knows that they are those of the schema and have
+    /// `rows` slots each, as the columns of a checked body are and do. Nothing is compared.
     pub fn new_unchecked(schema: Rc<Schema>, columns: Vec<Array>, rows: usize) -> Batch
         requires typed { AreOf schema.value.fields columns.items }
         requires long { HaveRows rows columns.items }
         ensures { result
             ≡ record { schema = schema.value; columns = columns.items; rows = rows } }
     {
-        // Called for what it says of every schema.
+        // Called for its guarantee about every schema.
         schema.fields();
         Batch {
             schema,
@@ -133,7 +133,7 @@ impl Batch {
         }
     }
 
-    /// The schema in the memory that holds it, of which a clone takes none.
+    /// The schema in the memory that holds it; a clone of it allocates nothing.
     pub fn shared_schema(&self) -> &Rc<Schema>
         ensures { result.now.value ≡ self.now.schema }
     {
@@ -172,7 +172,8 @@ impl Batch {
     }
 }
 
-// Whether the columns, as many as fields, have their types and encodings.
+/// Whether the columns have the types and encodings of the fields; there are as many columns as
+/// fields.
 pub(crate) fn are_of(fields: &[Field], columns: &[Array]) -> bool
     requires { length columns.now ≡ length fields.now }
     ensures { IsTrue result ↔ AreOf (fields_view fields.now) columns.now }
@@ -185,7 +186,7 @@ pub(crate) fn are_of(fields: &[Field], columns: &[Array]) -> bool
     true
 }
 
-// Whether the column has the type and the encoding of the field.
+/// Whether the column has the type and the encoding of the field.
 pub(crate) fn is_of(field: &Field, column: &Array) -> bool
     ensures { IsTrue result ↔ (column.now.data_type ≡ type_view field.now.data_type)
         × (column.now.encoding ≡ field.now.dictionary) }
@@ -201,7 +202,7 @@ pub(crate) fn is_of(field: &Field, column: &Array) -> bool
     }
 }
 
-// Whether each column has `rows` slots.
+/// Whether each column has `rows` slots.
 fn have_rows(columns: &[Array], rows: usize) -> bool
     ensures { IsTrue result ↔ HaveRows rows columns.now }
 {

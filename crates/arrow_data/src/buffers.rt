@@ -15,14 +15,14 @@ use crate::form::OffsetWidth;
 use crate::slot;
 use crate::view::{NumberBuffers, StringBuffers};
 
-// The slots from `start` up to `stop`.
+/// The slots from `start` up to `stop`.
 #[derive(Clone, Copy)]
 pub(crate) struct SlotRange {
     pub(crate) start: usize,
     pub(crate) stop: usize,
 }
 
-// The bytes of a range of `len` slots that have `width` bytes each.
+/// The bytes of a range of `len` slots that have `width` bytes each.
 #[tactic(auto, using(crate::proofs::Shown::parts_inside))]
 fn cells(values: &[u8], width: usize, len: usize, slots: SlotRange) -> &[u8]
     requires order { slots.start ≤ slots.stop }
@@ -33,7 +33,7 @@ fn cells(values: &[u8], width: usize, len: usize, slots: SlotRange) -> &[u8]
     &values[width * slots.start..width * slots.stop]
 }
 
-// Truth values: bit j is that of slot j.
+/// Truth values: bit j is that of slot j.
 #[derive(Clone, Copy)]
 pub(crate) struct Bools {
     pub(crate) validity: ByteRange,
@@ -41,7 +41,7 @@ pub(crate) struct Bools {
 }
 
 impl Bools {
-    // The truth value of slot `i` of `len`, where it is valid.
+    /// The truth value of slot `i` of `len`, if it is valid.
     pub(crate) fn at(self, body: &[u8], len: usize, i: usize) -> Option<bool>
         requires slot { i < len }
         requires lies { AreBools len body.now self }
@@ -56,9 +56,9 @@ impl Bools {
     }
 }
 
-// Numbers of `width` bytes: those of a column of numbers, or of indices into a dictionary. Width and
-// sign lie in one word: a sign in a word of its own leaves seven bytes that are moved with the array
-// in two parts which overlap, and each such move waits for the one before.
+/// Numbers of `width` bytes: those of a column of numbers, or of indices into a dictionary. Width
+/// and sign lie in one word: with the sign in a word of its own, seven bytes are moved with the
+/// array in two parts that overlap, and each such move waits for the one before.
 #[derive(Clone, Copy)]
 pub(crate) struct Ints {
     pub(crate) width: u32,
@@ -69,7 +69,7 @@ pub(crate) struct Ints {
 
 #[tactic(auto, using(crate::proofs::Shown::shown))]
 impl Ints {
-    // The number of slot `i` of `len`, where it is valid.
+    /// The number of slot `i` of `len`, if it is valid.
     pub(crate) fn at(self, body: &[u8], len: usize, i: usize) -> Option<i128>
         requires slot { i < len }
         requires lies { AreInts len body.now self }
@@ -79,7 +79,7 @@ impl Ints {
         NumberBuffers::of(self, body).number_at(i)
     }
 
-    // The bytes of the numbers of a range of the `len` slots.
+    /// The bytes of the numbers of a range of the `len` slots.
     pub(crate) fn part(self, body: &[u8], len: usize, slots: SlotRange) -> &[u8]
         requires order { slots.start ≤ slots.stop }
         requires inside { slots.stop ≤ len }
@@ -91,7 +91,7 @@ impl Ints {
     }
 }
 
-// Byte strings of `width` bytes each.
+/// Byte strings of `width` bytes each.
 #[derive(Clone, Copy)]
 pub(crate) struct Fixed {
     pub(crate) width: usize,
@@ -101,7 +101,7 @@ pub(crate) struct Fixed {
 
 #[tactic(auto, using(crate::proofs::Shown::shown))]
 impl Fixed {
-    // The byte string of slot `i` of `len`, where it is valid.
+    /// The byte string of slot `i` of `len`, if it is valid.
     pub(crate) fn at(self, body: &[u8], len: usize, i: usize) -> Option<&[u8]>
         requires slot { i < len }
         requires lies { AreFixed len body.now self }
@@ -116,7 +116,7 @@ impl Fixed {
         )
     }
 
-    // The byte strings of a range of the `len` slots.
+    /// The byte strings of a range of the `len` slots.
     pub(crate) fn part(self, body: &[u8], len: usize, slots: SlotRange) -> &[u8]
         requires order { slots.start ≤ slots.stop }
         requires inside { slots.stop ≤ len }
@@ -128,8 +128,8 @@ impl Fixed {
     }
 }
 
-// Byte strings or texts behind offsets of a width: slot j is `bytes` from offset j up to offset
-// j + 1.
+/// Byte strings or texts, given by offsets of a width: slot j is `bytes` from offset j up to offset
+/// j + 1.
 #[derive(Clone, Copy)]
 pub(crate) struct Strings {
     pub(crate) width: OffsetWidth,
@@ -139,7 +139,7 @@ pub(crate) struct Strings {
 }
 
 impl Strings {
-    // The byte string of slot `i` of `len`, where it is valid.
+    /// The byte string of slot `i` of `len`, if it is valid.
     pub(crate) fn binary_at(self, body: &[u8], len: usize, i: usize) -> Option<&[u8]>
         requires slot { i < len }
         requires lies { AreStrings len body.now self }
@@ -149,7 +149,7 @@ impl Strings {
         StringBuffers::of(self, body).binary_at(len, i)
     }
 
-    // The text of slot `i` of `len`, where it is valid.
+    /// The text of slot `i` of `len`, if it is valid.
     pub(crate) fn text_at(self, body: &[u8], len: usize, i: usize) -> Option<&str>
         requires slot { i < len }
         requires lies { AreStrings len body.now self }
@@ -161,7 +161,7 @@ impl Strings {
         StringBuffers::of(self, body).text_at(len, i)
     }
 
-    // The bytes of a range of the `len` slots, one slot after another, without regard to nulls.
+    /// The bytes of a range of the `len` slots, one slot after another, regardless of nulls.
     pub(crate) fn part(self, body: &[u8], len: usize, slots: SlotRange) -> &[u8]
         requires order { slots.start < slots.stop }
         requires inside { slots.stop ≤ len }

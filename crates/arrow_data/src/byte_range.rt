@@ -6,9 +6,9 @@ ghost use Rattle.arrow_data.specs.Node.{bytes_of, AreBytes, IsInside};
 /// The bytes of a body from `start` up to `end`, counted from its first byte.
 #[derive(Clone, Copy, Debug)]
 pub struct ByteRange {
-    /// The place of the first byte.
+    /// The offset of the first byte.
     pub start: usize,
-    /// The place behind the last one.
+    /// The offset after the last byte.
     pub end: usize,
 }
 
@@ -17,10 +17,10 @@ impl ByteRange {
     pub const EMPTY: ByteRange = ByteRange { start: 0, end: 0 };
 }
 
-// It has no bytes, and lies inside of every body.
+/// It has no bytes, and lies inside every body.
 const _: () = prove!(ByteRange::EMPTY.start == 0 && ByteRange::EMPTY.end == 0);
 
-// The bytes of a range.
+/// The bytes of a range.
 #[inline(always)]
 pub(crate) fn bytes_in(body: &[u8], range: ByteRange) -> &[u8]
     requires { IsInside body.now range }
@@ -29,7 +29,7 @@ pub(crate) fn bytes_in(body: &[u8], range: ByteRange) -> &[u8]
     &body[range.start..range.end]
 }
 
-// What every slice of bytes holds.
+/// Every element of a slice of bytes is a byte.
 #[inline(always)]
 pub(crate) fn hold_bytes(bytes: &[u8])
     ensures { AreBytes bytes.now }

@@ -1,4 +1,4 @@
-//! Decimal numbers, which columns hold as whole numbers or as bytes.
+//! Decimal numbers, which columns store as whole numbers or as bytes.
 
 ghost use Rattle.std.specs.Prelude.{◌≡◌, length, Some, None, if◌then◌else◌};
 ghost use Rattle.arrow_bits.specs.Numbers.{number_at};
@@ -11,16 +11,16 @@ use arrow_bits::int_at;
 /// to the power of minus `scale`. 1.25 is the whole number 125 and the scale 2.
 #[derive(Debug, Clone, Copy, PartialEq, Eq)]
 pub struct Decimal {
-    /// The whole number without its lowest 128 bits; below 0 where the number is.
+    /// The whole number without its lowest 128 bits; negative if the number is.
     pub high: i128,
     /// Its lowest 128 bits.
     pub low: u128,
-    /// How many of its digits are after the point; below 0, how many zeros follow the digits.
+    /// How many of its digits are after the point; if negative, how many zeros follow the digits.
     pub scale: i8,
 }
 
 impl Decimal {
-    /// The whole number that is to be scaled, if 128 bits with a sign have it.
+    /// The whole number that is to be scaled, if it fits into 128 bits with a sign.
     pub fn unscaled(self) -> Option<i128>
         ensures { result
             ≡ (if has_128_bits (unscaled_of self) then Some (unscaled_of self) else None) }
@@ -34,8 +34,8 @@ impl Decimal {
     }
 }
 
-/// The decimal of this scale whose whole number is a number of at most 128 bits, as columns of 32,
-/// 64 and 128 bits have it.
+/// The decimal of this scale whose whole number has at most 128 bits, as in columns of 32, 64 and
+/// 128 bits.
 pub fn of_number(scale: i8, number: i128) -> Decimal
     ensures { result ≡ decimal_of_number scale number }
 {
@@ -46,8 +46,8 @@ pub fn of_number(scale: i8, number: i128) -> Decimal
     }
 }
 
-/// The decimal of this scale whose whole number is given by its 32 bytes, as columns of 256 bits
-/// have it. None of another count of bytes.
+/// The decimal of this scale whose whole number is given by its 32 bytes, as in columns of 256
+/// bits. None if there are not 32 bytes.
 pub fn of_bytes(scale: i8, bytes: &[u8]) -> Option<Decimal>
     ensures { result ≡ decimal_of_bytes scale bytes.now }
 {
@@ -62,7 +62,7 @@ pub fn of_bytes(scale: i8, bytes: &[u8]) -> Option<Decimal>
     }
 }
 
-// The number of the first sixteen bytes, without a sign.
+/// The number of the first sixteen bytes, without a sign.
 fn low_bits(bytes: &[u8]) -> u128
     requires { length bytes.now ≡ 32 }
     ensures { result ≡ number_at bytes.now 0 16 }

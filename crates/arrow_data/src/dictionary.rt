@@ -19,10 +19,10 @@ use std::alloc::{AllocError, Global};
 use std::marker::Model;
 use std::rc::Rc;
 
-// How many segments a block has.
+/// How many segments a block has.
 const BLOCK: usize = 64;
 
-// Values that came together, and the number of the first of them in the dictionary.
+/// Values that were added together, and the number of the first of them in the dictionary.
 #[cycle(arrays)]
 #[derive(Drop)]
 pub(crate) struct Segment {
@@ -30,7 +30,7 @@ pub(crate) struct Segment {
     pub(crate) array: Rc<Array>,
 }
 
-// Segments that no longer change, and the number of the first value of the first of them.
+/// Segments that no longer change, and the number of the first value of the first of them.
 #[cycle(arrays)]
 #[derive(Drop)]
 pub(crate) struct Block {
@@ -41,8 +41,8 @@ pub(crate) struct Block {
 /// A list of values of one type (Columnar Format, "Dictionary-encoded Layout"). A value may be
 /// null.
 ///
-/// It is kept as the arrays that brought its values, one after another. Copies share these arrays,
-/// so that a copy, and a dictionary that grows, cost nothing for the values that are there. They
+/// It is stored as the arrays that contain its values, one after another. Copies share these
+/// arrays, so copying or extending a dictionary costs nothing for the values that are there. They
 /// also share the lists of the arrays, 64 at a time: a copy takes a step for every 64 arrays, and
 /// one for each of the last ones.
 #[cycle(arrays)]
@@ -80,7 +80,7 @@ impl Model for Dictionary {
 
 #[tactic(auto, using(crate::proofs::Segments::segments))]
 impl Dictionary {
-    // The dictionary without values, of values of this type, on no level of which is an encoding.
+    /// The dictionary without values, for values of this type, which has no encoding on any level.
     pub(crate) fn empty(alloc: Global, data_type: DataType) -> Dictionary
         requires { has_encoding (type_view data_type).children ≡ false }
         ensures { result ≡ record { data_type = type_view data_type; values = [] } }
@@ -93,7 +93,7 @@ impl Dictionary {
         }
     }
 
-    /// The dictionary of the values of an array, which has an encoding on no level. No value is
+    /// The dictionary of the values of an array, which has no encoding on any level. No value is
     /// copied.
     pub fn from_array(alloc: Global, values: Array) -> Result<Dictionary, AllocError>
         requires plain { values.encoding ≡ None }
@@ -138,8 +138,8 @@ impl Dictionary {
         self.len == 0
     }
 
-    /// Where value `i` stands: an array and a place there, behind which the values that follow stand
-    /// up to the array's end. The array is found by binary search.
+    /// The array and the index in it that hold value `i`; later values follow in the same array, up
+    /// to its end. The array is found by binary search.
     pub fn value(&self, i: usize) -> (&Array, usize)
         requires { i < length self.now.values }
         ensures { HasValue self.now i result.0.now result.1 }
@@ -149,8 +149,8 @@ impl Dictionary {
         (&segment.array, i - segment.start)
     }
 
-    /// Puts the values of the array behind those that are there, of which none is copied. Where a
-    /// growth is refused nothing changes.
+    /// Appends the values of the array to those that are there. No value is copied. If an
+    /// allocation fails, nothing changes.
     pub fn append(&mut self, alloc: Global, values: Array) -> Result<(), AllocError>
         requires typed { values.data_type ≡ self.now.data_type }
         requires plain { values.encoding ≡ None }
@@ -170,9 +170,9 @@ impl Dictionary {
         Ok(())
     }
 
-    /// Whether the values of this dictionary are the first ones of another. The segments of both are
-    /// walked beside each other: one search for each run of values that lies in one segment of
-    /// both. No memory is taken.
+    /// Whether the values of this dictionary are the first ones of another. The segments of both
+    /// are walked in parallel: one search for each run of values that lies in one segment of both.
+    /// Nothing is allocated.
     pub fn begins(&self, other: &Dictionary) -> bool
         ensures { IsTrue result ↔ Begins self.now.values other.now.values }
     {
@@ -202,8 +202,8 @@ impl Dictionary {
         true
     }
 
-    /// An equal dictionary of the same type, which shares the values, or `AllocError` where a
-    /// growth was refused.
+    /// An equal dictionary of the same type, which shares the values, or `AllocError` if an
+    /// allocation failed.
     pub fn copy(&self, alloc: Global) -> Result<Dictionary, AllocError>
         ensures { IfOk result (λ d. d ≡ self.now) }
     {
@@ -216,8 +216,8 @@ impl Dictionary {
     }
 }
 
-/// Dictionaries are equal where their values are, one by one, whatever their types and segments. No
-/// memory is taken.
+/// Dictionaries are equal if their values are, one by one, whatever their types and segments.
+/// Nothing is allocated.
 impl PartialEq for Dictionary {
     ghost use Rattle.arrow_data.specs.Same.{same_values, same_values_laws};
 
@@ -233,14 +233,14 @@ impl PartialEq for Dictionary {
     }
 }
 
-// Whether the values are equal, one by one.
+/// Whether the values are equal, one by one.
 fn have_same_values(one: &Dictionary, other: &Dictionary) -> bool
     ensures { IsTrue result ↔ (one.now.values ≡ other.now.values) }
 {
     one.len() == other.len() && one.begins(other)
 }
 
-// Those segments of a block, or those last ones, among which value `i` stands.
+/// The segments of a block, or the last ones, that contain value `i`.
 fn part_with<'a>(older: &'a [Rc<Block>], last: &'a [Segment], i: usize) -> &'a [Segment]
     requires inside { i < length (joined (columns_of
         (block_segments (map rc_value older.now) ++ last.now))) }
@@ -255,7 +255,7 @@ fn part_with<'a>(older: &'a [Rc<Block>], last: &'a [Segment], i: usize) -> &'a [
     &block.segments
 }
 
-// Whether there are segments, of which the first begins at value `i` or before it.
+/// Whether there are segments and the first of them begins at or before value `i`.
 fn begin_before(segments: &[Segment], i: usize) -> bool
     ensures { IsTrue result ↔ ((0 < length segments.now)
         × (get_or (starts_of segments.now) 0 0 ≤ i)) }
@@ -266,7 +266,7 @@ fn begin_before(segments: &[Segment], i: usize) -> bool
     }
 }
 
-// The last segment that begins at value `i` or before it.
+/// The last segment that begins at or before value `i`.
 fn segment_before(segments: &[Segment], i: usize) -> usize
     requires { Between (starts_of segments.now) 0 (length segments.now) i }
     ensures { Between (starts_of segments.now) result (result + 1) i }
@@ -284,7 +284,7 @@ fn segment_before(segments: &[Segment], i: usize) -> usize
     low
 }
 
-// The last block that begins at value `i` or before it.
+/// The last block that begins at or before value `i`.
 fn block_before(blocks: &[Rc<Block>], i: usize) -> usize
     requires { Between (block_starts (map rc_value blocks.now)) 0 (length blocks.now) i }
     ensures { Between (block_starts (map rc_value blocks.now)) result (result + 1) i }
@@ -302,8 +302,8 @@ fn block_before(blocks: &[Rc<Block>], i: usize) -> usize
     low
 }
 
-// Makes a block of the last segments where they are as many as one has. Where a growth is refused
-// nothing changes.
+/// Makes a block of the last segments if there are enough to fill one. If an allocation fails,
+/// nothing changes.
 fn close_full(
     alloc: Global,
     older: &mut Vec<Rc<Block>>,
@@ -324,8 +324,8 @@ fn close_full(
     }
 }
 
-// Makes a block of the last segments, behind the older ones. Where a growth is refused nothing
-// changes.
+/// Makes a block of the last segments, after the older ones. If an allocation fails, nothing
+/// changes.
 fn close(
     alloc: Global,
     older: &mut Vec<Rc<Block>>,
@@ -352,7 +352,7 @@ fn close(
     Ok(())
 }
 
-// The same blocks once more.
+/// A copy of the list, which shares the blocks.
 fn shared_blocks(alloc: Global, blocks: &[Rc<Block>]) -> Result<Vec<Rc<Block>>, AllocError>
     ensures { IfOk result (λ v. map rc_value v.items ≡ map rc_value blocks.now) }
 {
@@ -363,7 +363,7 @@ fn shared_blocks(alloc: Global, blocks: &[Rc<Block>]) -> Result<Vec<Rc<Block>>, 
     Ok(copies)
 }
 
-// The same arrays once more.
+/// A copy of the segments, which shares the arrays.
 fn shared(alloc: Global, segments: &[Segment]) -> Result<Vec<Segment>, AllocError>
     ensures arrays { IfOk result (λ v. columns_of v.items ≡ columns_of segments.now) }
     ensures starts { IfOk result (λ v. starts_of v.items ≡ starts_of segments.now) }

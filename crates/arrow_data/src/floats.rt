@@ -1,4 +1,4 @@
-//! Floating-point numbers, which columns hold as bits.
+//! Floating-point numbers, which columns store as bits.
 
 ghost use Rattle.std.specs.Prelude.{◌≡◌};
 ghost use Rattle.arrow_data.specs.Floats.{bits_in, number_of};
@@ -7,7 +7,7 @@ use crate::half;
 use arrow_types::Precision;
 use std::num::{f32_from_bits_with_nan, f64_from_bits_with_nan};
 
-/// The number of these bits, one of 16 or 32 bits widened; of what is no number a NaN.
+/// The number with these bits, widened if it has 16 or 32 bits; a NaN for a NaN.
 pub fn number_of(precision: Precision, bits: i128) -> f64
     ensures { result ≡ number_of precision (bits_in bits) }
 {
@@ -19,7 +19,7 @@ pub fn number_of(precision: Precision, bits: i128) -> f64
     }
 }
 
-/// A number as bits, of which there are 64 at most.
+/// A number as at most 64 bits.
 pub fn bits_in(number: i128) -> u64
     ensures { result ≡ bits_in number }
 {

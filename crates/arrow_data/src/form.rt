@@ -48,10 +48,10 @@ impl OffsetWidth {
     }
 }
 
-/// Which numbers the slots of a node hold, in two's complement where they have a sign.
+/// Which numbers the slots of a node hold, in two's complement if they have a sign.
 #[derive(Clone, Copy, Debug, PartialEq, Eq)]
 pub enum NumberForm {
-    /// Numbers of 8 to 64 bits, with a sign or without one.
+    /// Numbers of 8 to 64 bits, with or without a sign.
     Int { bits: BitWidth, signed: bool },
     /// Numbers of 128 bits with a sign.
     Int128,
@@ -98,13 +98,13 @@ impl NumberForm {
 pub enum ListForm {
     /// From an offset up to the next one (Columnar Format, "Variable-size List Layout").
     Offsets(OffsetWidth),
-    /// So many for each list, one list after the other (Columnar Format, "Fixed-Size List Layout").
+    /// That many for each list, one list after the other (Columnar Format, "Fixed-Size List
+    /// Layout").
     Fixed(u32),
 }
 
 impl ListForm {
-    /// How many buffers a node of lists has: that of validity, and that of the offsets where these
-    /// are stored.
+    /// How many buffers a node of lists has: the validity, and the offsets if they are stored.
     #[inline(always)]
     pub fn buffers(self) -> usize
         ensures { result ≡ list_buffers self }
@@ -125,11 +125,11 @@ pub enum Form {
     Bits,
     /// A number for each slot.
     Numbers(NumberForm),
-    /// Byte strings behind offsets.
+    /// Byte strings, given by offsets.
     Bytes(OffsetWidth),
-    /// Texts behind offsets.
+    /// Texts, given by offsets.
     Texts(OffsetWidth),
-    /// So many bytes for each slot.
+    /// That many bytes for each slot.
     FixedBytes(u32),
     /// Lists, with their items in a child.
     Lists(ListForm),
@@ -194,16 +194,16 @@ pub fn form_of(data_type: &DataType) -> Form
     }
 }
 
-/// Says of every type that it has just the fields below it that its form asks for. It is called for
-/// that alone: nothing is left of a call, while a copy of `form_of` in its place would make its
-/// caller too large to be inlined.
+/// Guarantees for every type that the fields below it are exactly those that its form requires. It
+/// is called only for that: nothing remains of a call in the code, while a copy of `form_of` in its
+/// place would make its caller too large to be inlined.
 pub fn has_own_fields(data_type: &DataType)
     ensures { HasFieldsOf (form_of (type_view data_type.now).tag) (type_view data_type.now).children }
 {
     form_of(data_type);
 }
 
-// The form of intervals, which are leaves.
+/// The form of intervals, which are leaves.
 #[inline(always)]
 fn interval_form(unit: IntervalUnit) -> Form
     ensures same { result ≡ interval_form unit }
@@ -216,7 +216,7 @@ fn interval_form(unit: IntervalUnit) -> Form
     }
 }
 
-// The form of decimals, which are leaves.
+/// The form of decimals, which are leaves.
 #[inline(always)]
 fn decimal_form(width: DecimalWidth) -> Form
     ensures same { result ≡ decimal_form width }
@@ -230,7 +230,7 @@ fn decimal_form(width: DecimalWidth) -> Form
     }
 }
 
-// Numbers of this width with a sign.
+/// Numbers of this width with a sign.
 #[inline(always)]
 fn signed(bits: BitWidth) -> Form
     ensures { result ≡ forms.Numbers (numbers.Int bits true) }
@@ -238,7 +238,7 @@ fn signed(bits: BitWidth) -> Form
     Form::Numbers(NumberForm::Int { bits, signed: true })
 }
 
-// Numbers of this width without a sign.
+/// Numbers of this width without a sign.
 #[inline(always)]
 fn unsigned(bits: BitWidth) -> Form
     ensures { result ≡ forms.Numbers (numbers.Int bits false) }

@@ -8,8 +8,8 @@ ghost use Rattle.arrow_data.specs.Half.{is_past};
 
 use std::num::f32_from_bits_with_nan;
 
-/// The number of these bits: a sign, five of an exponent and ten of digits. Each such number is one
-/// of 32 bits.
+/// The number with these bits: a sign, five bits of an exponent and ten of digits. Each such number
+/// is one of 32 bits.
 pub fn to_single(bits: u16) -> f32
     ensures { result ≡ half_number bits }
 {
@@ -24,7 +24,7 @@ pub fn to_single(bits: u16) -> f32
 }
 
 /// The bits of the number that is nearest to this one, of two the even one, with its sign; from the
-/// middle after the greatest finite number on the infinite one. Of what is no number they are 0x7e00.
+/// middle after the greatest finite number on, the infinite one. For NaN they are 0x7e00.
 pub fn nearest(number: f64) -> u16
     ensures { IsNearestHalf number result }
 {
@@ -39,7 +39,7 @@ pub fn nearest(number: f64) -> u16
     }
 }
 
-// The pattern without a sign that is nearest to a size.
+/// The pattern without a sign that is nearest to a size.
 fn nearest_size(size: f64) -> u16
     ensures { IsNearestSize size result }
 {
@@ -55,7 +55,7 @@ fn nearest_size(size: f64) -> u16
     low
 }
 
-// Whether a size is nearer to a later number than to that of this pattern.
+/// Whether a size is nearer to a later number than to that of this pattern.
 fn is_past(size: f64, bits: u16) -> bool
     requires { bits < 0x7c00 }
     ensures { result ≡ is_past size bits }
@@ -64,7 +64,7 @@ fn is_past(size: f64, bits: u16) -> bool
     middle < size || middle == size && bits % 2 == 1
 }
 
-// The number in the middle between that of this pattern and the next.
+/// The number in the middle between that of this pattern and the next.
 fn middle(bits: u16) -> f64
     requires { bits < 0x7c00 }
     ensures { result ≡ half_middle bits }
@@ -76,7 +76,7 @@ fn middle(bits: u16) -> f64
     })
 }
 
-// An infinite number, or what is no number.
+/// An infinite number or NaN.
 fn special(negative: bool, digits: u32) -> f32
     ensures { result ≡ (if digits == 0 then inf negative else nan) }
 {
@@ -89,7 +89,7 @@ fn special(negative: bool, digits: u32) -> f32
     }
 }
 
-// `digits * 2^(exponent - 25)`, with a sign.
+/// `digits * 2^(exponent - 25)`, with a sign.
 fn scaled(negative: bool, digits: u32, exponent: u32) -> f32
     requires digits { digits < 4096 }
     requires exponent { exponent ≤ 30 }

@@ -1,4 +1,4 @@
-//! Intervals of the calendar, which columns hold as numbers of months or as bytes.
+//! Intervals of the calendar, which columns store as numbers of months or as bytes.
 
 ghost use Rattle.std.specs.Prelude.{◌≡◌, ◌+◌, ◌*◌, ◌≤◌, length};
 ghost use Rattle.arrow_bits.specs.Numbers.{signed_at};
@@ -8,20 +8,20 @@ ghost use Rattle.arrow_data.specs.Intervals.{month_day_nano_in, unit_of};
 use arrow_bits::int_at;
 use arrow_types::IntervalUnit;
 
-/// An interval of the calendar (`Schema.fbs`, enum `IntervalUnit`). Its numbers have signs of their
-/// own, and none is counted in another's unit: months and days have no fixed length.
+/// An interval of the calendar (`Schema.fbs`, enum `IntervalUnit`). Each of its numbers has its own
+/// sign, and none is converted into another's unit: months and days have no fixed length.
 #[derive(Debug, Clone, Copy, PartialEq, Eq)]
 pub enum Interval {
-    /// So many months.
+    /// A number of months.
     YearMonth {
         months: i32,
     },
-    /// So many days, and so many milliseconds.
+    /// A number of days and a number of milliseconds.
     DayTime {
         days: i32,
         milliseconds: i32,
     },
-    /// So many months, so many days, and so many nanoseconds.
+    /// A number of months, a number of days and a number of nanoseconds.
     MonthDayNano {
         months: i32,
         days: i32,
@@ -42,8 +42,8 @@ impl Interval {
     }
 }
 
-/// The interval that a number is in a column of this unit: of so many months. None in the units
-/// whose intervals are bytes, and of a number that has no 32 bits, which no column holds.
+/// The interval of a number in a column of this unit: that many months. None in the units whose
+/// intervals are bytes, and for a number that does not fit into 32 bits, which no column holds.
 pub fn of_number(unit: IntervalUnit, number: i128) -> Option<Interval>
     ensures { result ≡ interval_of_number unit number }
 {
@@ -56,8 +56,9 @@ pub fn of_number(unit: IntervalUnit, number: i128) -> Option<Interval>
     }
 }
 
-/// The interval that bytes are in a column of this unit: 8 bytes of days and milliseconds, or 16 of
-/// months, days and nanoseconds. None of another count of bytes, and of the unit of months alone.
+/// The interval that bytes encode in a column of this unit: 8 bytes of days and milliseconds, or 16
+/// of months, days and nanoseconds. None for another number of bytes, and for the unit that has
+/// only months.
 pub fn of_bytes(unit: IntervalUnit, bytes: &[u8]) -> Option<Interval>
     ensures { result ≡ interval_of_bytes unit bytes.now }
 {
@@ -69,7 +70,7 @@ pub fn of_bytes(unit: IntervalUnit, bytes: &[u8]) -> Option<Interval>
     }
 }
 
-// Days, then milliseconds.
+/// Days, then milliseconds.
 fn day_time(bytes: &[u8]) -> Interval
     requires { length bytes.now ≡ 8 }
     ensures { result ≡ day_time_in bytes.now }
@@ -80,7 +81,7 @@ fn day_time(bytes: &[u8]) -> Interval
     }
 }
 
-// Months, then days, then nanoseconds.
+/// Months, then days, then nanoseconds.
 fn month_day_nano(bytes: &[u8]) -> Interval
     requires { length bytes.now ≡ 16 }
     ensures { result ≡ month_day_nano_in bytes.now }
@@ -92,7 +93,7 @@ fn month_day_nano(bytes: &[u8]) -> Interval
     }
 }
 
-// The signed number in slot `i` of numbers of 32 bits.
+/// The signed number in slot `i` of numbers of 32 bits.
 fn i32_at(bytes: &[u8], i: usize) -> i32
     requires { 4 * i + 4 ≤ length bytes.now }
     ensures { result ≡ signed_at bytes.now (4 * i) 4 }
@@ -100,7 +101,7 @@ fn i32_at(bytes: &[u8], i: usize) -> i32
     int_at(bytes, 4, true, i) as i32
 }
 
-// The signed number in slot `i` of numbers of 64 bits.
+/// The signed number in slot `i` of numbers of 64 bits.
 fn i64_at(bytes: &[u8], i: usize) -> i64
     requires { 8 * i + 8 ≤ length bytes.now }
     ensures { result ≡ signed_at bytes.now (8 * i) 8 }

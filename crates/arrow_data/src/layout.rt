@@ -1,9 +1,8 @@
-//! Whether buffers hold the slots of a node: exact tests of what arrays ask for where they are
-//! made.
+//! Whether buffers hold the slots of a node: exact tests of what is required when an array is made.
 //!
-//! A buffer is given by its bytes. An empty validity bitmap stands for none, and for no slots the
-//! offsets may be left out. Nothing here takes memory. The tests of offsets, texts and indices look
-//! at each slot, the others at the lengths.
+//! A buffer is given by its bytes. An empty validity bitmap means that there is none, and if there
+//! are no slots, the offsets may be left out. Nothing here allocates. The tests of offsets, texts
+//! and indices read each slot, the others only the lengths.
 
 ghost use Rattle.std.specs.Prelude.{◌≡◌, ◌↔◌, ◌≤◌, ◌<◌, ◌*◌, ◌^◌, ℕ, pos, [], length, map};
 ghost use Rattle.std.specs.Prelude.{if◌then◌else◌, IsTrue};
@@ -55,7 +54,7 @@ pub fn has_fixed(len: usize, width: usize, validity: &[u8], values: &[u8]) -> bo
         }
 }
 
-/// Whether there is a range of the bytes, behind the offsets, for each of `len` slots.
+/// Whether the offsets give a range of the bytes for each of `len` slots.
 #[inline(always)]
 pub fn has_strings(len: usize, strings: StringBuffers<'_>) -> bool
     ensures { IsTrue result ↔ HasStrings strings.entry.width len strings.entry.validity.now
@@ -73,7 +72,7 @@ pub fn has_lists(validity: &[u8], places: ItemPlaces<'_>) -> bool
     has_bits(places.len, validity) && has_item_places(places)
 }
 
-// Whether the items of all lists lie inside the child.
+/// Whether the items of all lists lie inside the child.
 #[inline(always)]
 fn has_item_places(places: ItemPlaces<'_>) -> bool
     ensures { IsTrue result ↔ HasItemPlaces places.entry.form places.entry.len places.entry.top
@@ -97,7 +96,7 @@ pub fn has_offsets(offsets: OffsetBuffer<'_>) -> bool
     (offsets.len == 0 && offsets.bytes.is_empty()) || are_offsets(offsets)
 }
 
-// The same where the offsets are not left out.
+/// The same if the offsets are not left out.
 fn are_offsets(offsets: OffsetBuffer<'_>) -> bool
     ensures { IsTrue result ↔ AreOffsetsOf (offset_bytes offsets.entry.width)
         offsets.entry.bytes.now offsets.entry.len offsets.entry.top }
@@ -109,7 +108,7 @@ fn are_offsets(offsets: OffsetBuffer<'_>) -> bool
     }
 }
 
-/// Whether each valid slot of `len` is UTF-8, where the buffers hold as many slots (`has_strings`).
+/// Whether each valid slot of `len` is UTF-8, if the buffers hold that many slots (`has_strings`).
 pub fn are_texts(len: usize, strings: StringBuffers<'_>) -> bool
     requires { HasStrings strings.width len strings.validity.now strings.offsets.now
         strings.bytes.now }
@@ -119,12 +118,12 @@ pub fn are_texts(len: usize, strings: StringBuffers<'_>) -> bool
     are_slots_utf8(strings, len)
 }
 
-/// Whether each valid slot of `len` has an index to one of `count` values, where the buffers hold
-/// as many slots (`has_fixed`).
+/// Whether each valid slot of `len` has an index to one of `count` values, if the buffers hold that
+/// many slots (`has_fixed`).
 ///
-/// All slots are looked at first, 64 bytes of indices at once, as if none were null: mostly null
-/// slots hold an index too, as 0. Only where that fails and there is a bitmap, the valid ones are
-/// looked at one after another.
+/// All slots are tested first, 64 bytes of indices at once, as if none were null: null slots mostly
+/// hold an index too, such as 0. Only if that fails and there is a bitmap are the valid slots
+/// tested one after another.
 pub fn are_indices(len: usize, indices: NumberBuffers<'_>, count: usize) -> bool
     requires width { IsWidth indices.width }
     requires laid { HasFixed len indices.width indices.validity.now indices.values.now }
@@ -135,7 +134,7 @@ pub fn are_indices(len: usize, indices: NumberBuffers<'_>, count: usize) -> bool
         || (!indices.validity.is_empty() && are_indices_one_by_one(len, indices, count))
 }
 
-// The same of `len` indices, one slot after another.
+/// The same for `len` indices, one slot after another.
 fn are_indices_one_by_one(len: usize, indices: NumberBuffers<'_>, count: usize) -> bool
     requires width { IsWidth indices.width }
     requires laid { HasFixed len indices.width indices.validity.now indices.values.now }
@@ -153,8 +152,8 @@ fn are_indices_one_by_one(len: usize, indices: NumberBuffers<'_>, count: usize) 
     true
 }
 
-// The same of `len` indices that all are looked at, also those of null slots. They are compared
-// without a sign: a negative one is then above the rest.
+/// The same for `len` indices, testing all of them, including those of null slots. They are compared
+/// without a sign, so that a negative one is above the others.
 fn are_all_indices(len: usize, indices: NumberBuffers<'_>, count: usize) -> bool
     requires width { IsWidth indices.width }
     requires inside { indices.width * len ≤ length indices.values.now }
@@ -164,14 +163,14 @@ fn are_all_indices(len: usize, indices: NumberBuffers<'_>, count: usize) -> bool
     if count == 0 {
         return len == 0;
     }
-    // Called for what it says of every slice of bytes.
+    // Called for its guarantee about every slice of bytes.
     hold_bytes(indices.values);
     let last = last_index(indices.width, indices.signed, count);
     are_at_most(indices.values, indices.width, len, last)
 }
 
-// The last index of this width to one of `count` values. A number of the width is an index, by its
-// sign or without one, where it is not above this one, both read without a sign.
+/// The last index of this width to one of `count` values. A number of the width, with or without a
+/// sign, is an index exactly if it is not above this one, both read without a sign.
 fn last_index(width: usize, signed: bool, count: usize) -> u64
     requires width { IsWidth width }
     requires some { 0 < count }
@@ -182,15 +181,15 @@ fn last_index(width: usize, signed: bool, count: usize) -> u64
         1 => u8::MAX as u64,
         2 => u16::MAX as u64,
         4 => u32::MAX as u64,
-        // 8, the width that is left
+        // 8, the remaining width
         _ => u64::MAX,
     };
     let top = if signed { greatest / 2 } else { greatest };
     (count as u64 - 1).min(top)
 }
 
-/// Whether the buffers of a node of this type and encoding, and children of so many slots, hold its
-/// slots.
+/// Whether the buffers of a node of this type and encoding, and children with that many slots, hold
+/// its slots.
 #[inline(always)]
 pub fn is_laid(
     data_type: &DataType,
@@ -243,7 +242,7 @@ pub fn is_laid(
     }
 }
 
-// Whether no count is below `len`.
+/// Whether no count is below `len`.
 fn are_longer(len: usize, counts: &[usize]) -> bool
     ensures { IsTrue result ↔ AllByRecursion (λ count. len ≤ count) counts.now }
 {
@@ -255,7 +254,7 @@ fn are_longer(len: usize, counts: &[usize]) -> bool
     true
 }
 
-// The bytes of buffer `k`.
+/// The bytes of buffer `k`.
 #[inline(always)]
 fn buffer<'a>(body: &'a [u8], buffers: &[ByteRange], k: usize) -> &'a [u8]
     requires there { k < length buffers.now }
@@ -265,7 +264,7 @@ fn buffer<'a>(body: &'a [u8], buffers: &[ByteRange], k: usize) -> &'a [u8]
     bytes_in(body, buffers[k])
 }
 
-// The offsets of a node of lists, none where none are stored.
+/// The offsets of a node of lists, empty if none are stored.
 #[inline(always)]
 fn offsets_of<'a>(form: ListForm, body: &'a [u8], buffers: &[ByteRange]) -> &'a [u8]
     requires there { list_buffers form ≤ length buffers.now }

@@ -1,4 +1,4 @@
-//! The offsets of a node, as a buffer has them, and where the items of lists lie.
+//! The offsets of a node, as stored in a buffer, and where the items of lists lie.
 
 ghost use Rattle.std.specs.Prelude.{◌≡◌, ◌+◌, ◌*◌, ◌<◌, ◌≤◌, MatchOption, true, false};
 ghost use Rattle.std.specs.List.Sorted.{IsNonDecreasing};
@@ -11,8 +11,8 @@ use crate::form::{ListForm, OffsetWidth};
 use crate::slot::is_valid;
 use arrow_bits::{LargeOffsets, Offsets};
 
-/// The offsets of the slots of a node: what slot j holds lies from offset j up to offset j + 1, of
-/// the bytes of the node or of the slots of its child (Columnar Format, "Variable-size Binary
+/// The offsets of the slots of a node: the content of slot j lies from offset j up to offset j + 1,
+/// in the bytes of the node or the slots of its child (Columnar Format, "Variable-size Binary
 /// Layout").
 #[derive(Clone, Copy)]
 pub struct OffsetBuffer<'a> {
@@ -20,14 +20,14 @@ pub struct OffsetBuffer<'a> {
     pub width: OffsetWidth,
     /// How many slots there are.
     pub len: usize,
-    /// The offset that none may pass: how many bytes, or slots of the child, there are.
+    /// The greatest offset allowed: how many bytes, or slots of the child, there are.
     pub top: usize,
-    /// The offsets, one more than there are slots; where there is no slot, it may be empty.
+    /// The offsets, one more than there are slots; if there is no slot, it may be empty.
     pub bytes: &'a [u8],
 }
 
 impl OffsetBuffer<'_> {
-    // Offset `i` and offset `k`.
+    /// Offset `i` and offset `k`.
     #[inline(always)]
     #[tactic(auto, using(crate::proofs::Cuts::offsets))]
     pub(crate) fn places_at(self, i: usize, k: usize) -> (usize, usize)
@@ -54,7 +54,7 @@ impl OffsetBuffer<'_> {
         }
     }
 
-    // Where what slot `i` holds begins and ends, where the slot is valid.
+    /// Where the content of slot `i` begins and ends, if the slot is valid.
     #[inline(always)]
     pub(crate) fn range_at(self, validity: &[u8], i: usize) -> Option<(usize, usize)>
         requires slot { i < self.len }
@@ -78,18 +78,18 @@ impl OffsetBuffer<'_> {
 /// Layout", "Fixed-Size List Layout").
 #[derive(Clone, Copy)]
 pub struct ItemPlaces<'a> {
-    /// Whether offsets tell it, or each list has as many items.
+    /// Whether offsets give this, or each list has the same number of items.
     pub form: ListForm,
     /// How many lists there are.
     pub len: usize,
     /// How many slots the child has.
     pub top: usize,
-    /// The offsets; of fixed-size lists they are not looked at.
+    /// The offsets; for fixed-size lists they are not read.
     pub offsets: &'a [u8],
 }
 
 impl<'a> ItemPlaces<'a> {
-    // The offsets, where they have this width.
+    /// The offsets, if they have this width.
     #[inline(always)]
     pub(crate) fn of_width(self, width: OffsetWidth) -> OffsetBuffer<'a>
         ensures width { result.width ≡ width }
@@ -105,7 +105,7 @@ impl<'a> ItemPlaces<'a> {
         }
     }
 
-    // Where the items of list `i` begin and end, where the slot is valid.
+    /// Where the items of list `i` begin and end, if the slot is valid.
     #[inline(always)]
     pub(crate) fn range_at(self, validity: &[u8], i: usize) -> Option<(usize, usize)>
         requires slot { i < self.len }
@@ -127,7 +127,7 @@ impl<'a> ItemPlaces<'a> {
     }
 }
 
-// Where the items of list `i` of `len` begin and end, each of which has `size`.
+/// Where the items of list `i` of `len` begin and end, if each list has `size` items.
 #[inline(always)]
 #[tactic(auto, using(crate::proofs::Shown::items_inside))]
 fn fixed_range(size: usize, i: usize, len: usize, top: usize) -> (usize, usize)

@@ -1,4 +1,4 @@
-//! Arrays out of the parts of a node: its buffers in a body, its children, its dictionary.
+//! Arrays made from the parts of a node: its buffers in a body, its children, its dictionary.
 
 ghost use Rattle.std.specs.Prelude.{◌≡◌, ◌≤◌, IfOk, List, None, Some, length, map, false, [], ◌∷◌};
 ghost use Rattle.std.specs.Prelude.{slice_index_or};
@@ -32,27 +32,27 @@ pub struct NodeBuffers<'a> {
     pub len: usize,
     /// The body.
     pub body: &'a SharedBody,
-    /// Where each buffer lies in the body, in the order of the format. An empty range stands for an
-    /// absent validity bitmap, and for the offsets of no slots.
+    /// Where each buffer lies in the body, in the order of the format. An empty range means an
+    /// absent validity bitmap, or the offsets of no slots.
     pub ranges: &'a [ByteRange],
 }
 
 /// The arrays that a node refers to.
 #[derive(Drop)]
 pub struct ChildData {
-    /// Those of its children, in their order.
+    /// The arrays of its children, in their order.
     pub children: Vec<Array>,
-    /// The dictionary of a dictionary-encoded node; without one, the empty dictionary is meant.
+    /// The dictionary of a dictionary-encoded node; None means the empty dictionary.
     pub dictionary: Option<Dictionary>,
 }
 
 impl Array {
-    /// The array of one node: slots of the field's type, out of its buffers, its children, and for
-    /// a dictionary-encoded field its dictionary.
+    /// The array of one node: slots of the field's type, from its buffers, its children, and for a
+    /// dictionary-encoded field its dictionary.
     ///
-    /// The body is shared and nothing of it is copied; `AllocError` where another growth was
-    /// refused. That the buffers hold the slots, that texts are UTF-8 and indices have their
-    /// values, is known by the caller, and not tested.
+    /// The body is shared and nothing of it is copied; `AllocError` if another allocation failed.
+    /// The caller knows that the buffers hold the slots, that texts are UTF-8 and that indices have
+    /// their values; this is not tested.
     pub fn from_parts(
         alloc: Global,
         field: &Field,
@@ -82,7 +82,7 @@ impl Array {
         Array::from_shared_parts(alloc, &shared, node, below)
     }
 
-    /// As `from_parts`, of a type of which no copy is made: the array shares it.
+    /// As `from_parts`, for a type that is not copied: the array shares it.
     #[inline(always)]
     pub fn from_shared_parts(
         alloc: Global,
@@ -126,7 +126,7 @@ impl Array {
         }
     }
 
-    /// As `from_shared_parts`, of a type of this form that has no fields below it, and whose slots
+    /// As `from_shared_parts`, for a type of this form that has no fields below it, and whose slots
     /// hold the values themselves: the node has no children and no dictionary.
     #[inline(always)]
     pub fn from_leaf_parts(
@@ -149,14 +149,14 @@ impl Array {
     {
         let shared = shared.data_type();
         let data_type: &DataType = shared;
-        // Called for what it says of every type.
+        // Called for its guarantee about every type.
         has_own_fields(data_type);
         let ranges = leaf_ranges(data_type, form, node);
         of_ranges(shared, None, node, ranges)
     }
 }
 
-// The array of these ranges.
+/// The array of these ranges.
 #[inline(always)]
 fn of_ranges(
     data_type: &Rc<DataType>,
@@ -170,7 +170,7 @@ fn of_ranges(
     ensures { IfOk result (λ a. a ≡ column_by (type_view data_type.now.value) encoding
         node.entry.len node.entry.body.now ranges) }
 {
-    // Called for what they say of every slice of bytes and of every type.
+    // Called for their guarantees about every slice of bytes and every type.
     hold_bytes(node.body.as_slice());
     has_own_fields(data_type);
     Ok(Array {
@@ -182,7 +182,7 @@ fn of_ranges(
     })
 }
 
-// The dictionary, or the empty one where there is none.
+/// The dictionary, or the empty one if there is none.
 fn or_empty(
     alloc: Global,
     data_type: &DataType,
@@ -198,12 +198,12 @@ fn or_empty(
         Some(dictionary) => dictionary,
         None => Dictionary::empty(alloc, data_type.copy(alloc)?),
     };
-    // Called for what it says of every dictionary.
+    // Called for its guarantee about every dictionary.
     dictionary.data_type();
     Ok(dictionary)
 }
 
-// The buffers of numbers of this form.
+/// The buffers of numbers of this form.
 #[inline(always)]
 fn numbers(form: NumberForm, buffers: &[ByteRange]) -> Ints
     requires { 2 ≤ length buffers.now }
@@ -219,7 +219,7 @@ fn numbers(form: NumberForm, buffers: &[ByteRange]) -> Ints
     }
 }
 
-// The buffers of byte strings of this width.
+/// The buffers of byte strings of this width.
 #[inline(always)]
 fn fixed(width: u32, buffers: &[ByteRange]) -> Fixed
     requires { 2 ≤ length buffers.now }
@@ -234,7 +234,7 @@ fn fixed(width: u32, buffers: &[ByteRange]) -> Fixed
     }
 }
 
-// The buffers of truth values.
+/// The buffers of truth values.
 #[inline(always)]
 fn bools(buffers: &[ByteRange]) -> Bools
     requires { 2 ≤ length buffers.now }
@@ -247,7 +247,7 @@ fn bools(buffers: &[ByteRange]) -> Bools
     }
 }
 
-// The buffers of texts, and of bytes, behind offsets of this width.
+/// The buffers of texts or byte strings, given by offsets of this width.
 #[inline(always)]
 fn strings(width: OffsetWidth, buffers: &[ByteRange]) -> Strings
     requires { 3 ≤ length buffers.now }
@@ -264,7 +264,7 @@ fn strings(width: OffsetWidth, buffers: &[ByteRange]) -> Strings
     }
 }
 
-// Where the offsets of lists lie: nowhere where no offsets are stored.
+/// Where the offsets of lists lie: nowhere if no offsets are stored.
 #[inline(always)]
 fn list_range(form: ListForm, buffers: &[ByteRange]) -> ByteRange
     requires { list_buffers form ≤ length buffers.now }
@@ -276,7 +276,7 @@ fn list_range(form: ListForm, buffers: &[ByteRange]) -> ByteRange
     }
 }
 
-// The one array there is.
+/// The one array there is.
 fn only(mut arrays: Vec<Array>) -> Array
     requires { length arrays.items ≡ 1 }
     ensures { arrays.items ≡ result ∷ [] }
@@ -284,7 +284,7 @@ fn only(mut arrays: Vec<Array>) -> Array
     arrays.swap_remove(0)
 }
 
-// The ranges of a node of values.
+/// The ranges of a node of values.
 #[inline(always)]
 fn value_ranges(
     alloc: Global,
@@ -329,8 +329,9 @@ fn value_ranges(
     }
 }
 
-// The ranges of a node of values of this form that has no children. Nothing grows, and no list or
-// struct is made, so that where it is inlined the array is written where it stays.
+/// The ranges of a node of values of this form that has no children. Nothing is allocated, and no
+/// list or struct is made, so that where it is inlined the array is written directly to its final
+/// memory.
 #[inline(always)]
 fn leaf_ranges(data_type: &DataType, form: Form, node: NodeBuffers<'_>) -> Ranges
     requires form { form ≡ form_of (type_view data_type.now).tag }
@@ -360,7 +361,7 @@ fn leaf_ranges(data_type: &DataType, form: Form, node: NodeBuffers<'_>) -> Range
     }
 }
 
-// Goes over the arrays, so that what is known of each is known of all.
+/// Visits the arrays, so that what is known of each is known of all.
 #[inline(always)]
 fn opened(arrays: &[Array])
     ensures { AllByRecursion IsColumn arrays.now }

@@ -5,9 +5,9 @@ ghost use Rattle.arrow_data.specs.Column.{values_from, row_of};
 ghost use Rattle.arrow_data.specs.PlainValue.{value_at};
 ghost use Rattle.arrow_data.specs.Same.{HaveSlot};
 
-use crate::array::{Array, Seen};
+use crate::array::{Array, SlotRef};
 
-// The items in the slots of an array from `start` up to `end`.
+/// The items in the slots of an array from `start` up to `end`.
 #[derive(Clone, Copy)]
 pub(crate) struct Items<'a> {
     pub(crate) array: &'a Array,
@@ -18,7 +18,7 @@ pub(crate) struct Items<'a> {
 impl Array {
     /// Whether slot `i` and slot `j` of another array hold equal values, whatever the types of the
     /// two arrays are. Two nulls are equal. Lists and structs are compared value by value, wherever
-    /// their items lie. No memory is taken.
+    /// their items lie. Nothing is allocated.
     #[cycle(same)]
     pub fn same_slot(&self, i: usize, other: &Array, j: usize) -> bool
         requires here { i < length self.now.raw }
@@ -26,12 +26,12 @@ impl Array {
         ensures { IsTrue result ↔ (value_at self.now.raw i ≡ value_at other.now.raw j) }
     {
         match (self.seen(i), other.seen(j)) {
-            (Seen::Nothing, Seen::Nothing) => true,
-            (Seen::Truth(a), Seen::Truth(b)) => a == b,
-            (Seen::Number(a), Seen::Number(b)) => a == b,
-            (Seen::Binary(a), Seen::Binary(b)) => a == b,
-            (Seen::Text(a), Seen::Text(b)) => a == b,
-            (Seen::Items(start, end, items), Seen::Items(from, to, others)) => same_items(
+            (SlotRef::Nothing, SlotRef::Nothing) => true,
+            (SlotRef::Truth(a), SlotRef::Truth(b)) => a == b,
+            (SlotRef::Number(a), SlotRef::Number(b)) => a == b,
+            (SlotRef::Binary(a), SlotRef::Binary(b)) => a == b,
+            (SlotRef::Text(a), SlotRef::Text(b)) => a == b,
+            (SlotRef::Items(start, end, items), SlotRef::Items(from, to, others)) => same_items(
                 Items {
                     array: items,
                     start,
@@ -43,19 +43,21 @@ impl Array {
                     end: to,
                 },
             ),
-            (Seen::Parts(children), Seen::Parts(others)) => same_parts(children, i, others, j),
-            (Seen::Nothing, _)
-            | (Seen::Truth(_), _)
-            | (Seen::Number(_), _)
-            | (Seen::Binary(_), _)
-            | (Seen::Text(_), _)
-            | (Seen::Items(..), _)
-            | (Seen::Parts(_), _) => false,
+            (SlotRef::Parts(children), SlotRef::Parts(others)) => same_parts(
+                children, i, others, j,
+            ),
+            (SlotRef::Nothing, _)
+            | (SlotRef::Truth(_), _)
+            | (SlotRef::Number(_), _)
+            | (SlotRef::Binary(_), _)
+            | (SlotRef::Text(_), _)
+            | (SlotRef::Items(..), _)
+            | (SlotRef::Parts(_), _) => false,
         }
     }
 }
 
-// Whether the items are equal, one by one.
+/// Whether the items are equal, one by one.
 #[cycle(same)]
 pub(crate) fn same_items(items: Items<'_>, others: Items<'_>) -> bool
     requires order { items.start ≤ items.end }
@@ -79,7 +81,7 @@ pub(crate) fn same_items(items: Items<'_>, others: Items<'_>) -> bool
     true
 }
 
-// Whether slot `i` of some columns and slot `j` of others hold equal values, column by column.
+/// Whether slot `i` of some columns and slot `j` of others hold equal values, column by column.
 #[cycle(same)]
 fn same_parts(children: &[Array], i: usize, others: &[Array], j: usize) -> bool
     requires inside { HaveSlot i children.now }

@@ -9,8 +9,8 @@ use std::rc::Rc;
 
 /// The bytes of a body, which the arrays of its nodes share. A clause sees them as a list.
 ///
-/// Shares are counted here, within one thread, and not by [`Bytes`]: a count that all threads may
-/// change costs an array more than all else that it keeps.
+/// References are counted here, within one thread, and not by [`Bytes`]: a count that all threads
+/// may change costs an array more than everything else that it stores.
 #[derive(Drop)]
 pub struct SharedBody {
     bytes: Rc<Bytes>,
@@ -25,7 +25,7 @@ impl Model for SharedBody {
 }
 
 impl SharedBody {
-    /// A body of these bytes, of which no copy is made. `AllocError` where a growth was refused.
+    /// A body with these bytes, which are not copied. `AllocError` if an allocation failed.
     pub fn new(alloc: Global, bytes: Bytes) -> Result<SharedBody, AllocError>
         ensures { IfOk result (λ body. body ≡ bytes) }
     {

@@ -9,10 +9,10 @@ use std::alloc::{AllocError, Global};
 use std::marker::Model;
 use std::rc::Rc;
 
-/// The type of a field, and how it refers to a dictionary, where its columns can share them.
+/// The type of a field, and how it refers to a dictionary, in a form that its columns can share.
 ///
-/// A reader makes it once for each field of a schema, at every level: no batch has a copy of its own
-/// then.
+/// A reader makes it once for each field of a schema, at every level, so that no batch has its own
+/// copy.
 #[derive(Drop)]
 pub struct SharedType {
     data_type: Rc<DataType>,
@@ -32,7 +32,7 @@ impl Model for SharedType {
 }
 
 impl SharedType {
-    /// That of the field. `AllocError` where a growth was refused.
+    /// The shared type of the field. `AllocError` if an allocation failed.
     pub fn of(alloc: Global, field: &Field) -> Result<SharedType, AllocError>
         ensures { IfOk result
             (λ t. t ≡ node_type (field_view field.now).head (field_view field.now).children) }
@@ -43,14 +43,14 @@ impl SharedType {
         })
     }
 
-    // The type of the values.
+    /// The type of the values.
     pub(crate) fn data_type(&self) -> &Rc<DataType>
         ensures { type_view result.now.value ≡ self.now.data_type }
     {
         &self.data_type
     }
 
-    // How slots refer to a dictionary.
+    /// How slots refer to a dictionary.
     pub(crate) fn encoding(&self) -> Option<Encoding>
         ensures { result ≡ self.now.encoding }
     {
@@ -59,7 +59,7 @@ impl SharedType {
 }
 
 /// The types of the nodes that the fields take, one for each node, in the order of the nodes: depth
-/// first, and none below a dictionary-encoded field. `AllocError` where a growth was refused.
+/// first, and none below a dictionary-encoded field. `AllocError` if an allocation failed.
 pub fn shared_types(alloc: Global, fields: &[Field]) -> Result<Vec<SharedType>, AllocError>
     ensures { IfOk result (λ types. types.items ≡ node_types (fields_view fields.now)) }
 {
@@ -68,7 +68,7 @@ pub fn shared_types(alloc: Global, fields: &[Field]) -> Result<Vec<SharedType>, 
     Ok(types)
 }
 
-// Adds the types of the nodes that the fields take.
+/// Adds the types of the nodes that the fields take.
 #[cycle(types)]
 fn push_types(
     alloc: Global,

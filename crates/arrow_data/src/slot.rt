@@ -11,7 +11,7 @@ use crate::offsets::OffsetBuffer;
 use crate::view::{NumberBuffers, StringBuffers};
 use arrow_bits::{bit, first_unset, int_at};
 
-// Whether slot `i` is valid.
+/// Whether slot `i` is valid.
 #[inline(always)]
 pub(crate) fn is_valid(validity: &[u8], i: usize) -> bool
     requires { HasBits (i + 1) validity.now }
@@ -20,7 +20,7 @@ pub(crate) fn is_valid(validity: &[u8], i: usize) -> bool
     validity.is_empty() || bit(validity, i)
 }
 
-// The first slot from `start` up to `stop` that is not valid, `stop` where there is none.
+/// The first slot from `start` up to `stop` that is not valid, or `stop` if there is none.
 pub(crate) fn first_invalid(validity: &[u8], start: usize, stop: usize) -> usize
     requires order { start ≤ stop }
     requires bits { HasBits stop validity.now }
@@ -33,7 +33,7 @@ pub(crate) fn first_invalid(validity: &[u8], start: usize, stop: usize) -> usize
     }
 }
 
-// The truth value of slot `i`, where it is valid.
+/// The truth value of slot `i`, if it is valid.
 #[inline(always)]
 pub(crate) fn bool_at(validity: &[u8], values: &[u8], i: usize) -> Option<bool>
     requires bits { HasBits (i + 1) validity.now }
@@ -49,7 +49,7 @@ pub(crate) fn bool_at(validity: &[u8], values: &[u8], i: usize) -> Option<bool>
 }
 
 impl NumberBuffers<'_> {
-    // The number of slot `i`, where it is valid.
+    /// The number of slot `i`, if it is valid.
     #[inline(always)]
     pub(crate) fn number_at(self, i: usize) -> Option<i128>
         requires bits { HasBits (i + 1) self.validity.now }
@@ -70,7 +70,7 @@ impl NumberBuffers<'_> {
     }
 }
 
-// The bytes of slot `i`, where it is valid.
+/// The bytes of slot `i`, if it is valid.
 #[inline(always)]
 pub(crate) fn fixed_at<'a>(
     validity: &[u8],
@@ -92,7 +92,7 @@ pub(crate) fn fixed_at<'a>(
 }
 
 impl<'a> StringBuffers<'a> {
-    // The offsets of `len` slots.
+    /// The offsets of `len` slots.
     #[inline(always)]
     pub(crate) fn ranges(self, len: usize) -> OffsetBuffer<'a>
         ensures width { result.width ≡ self.entry.width }
@@ -108,7 +108,7 @@ impl<'a> StringBuffers<'a> {
         }
     }
 
-    // The byte string of slot `i` of `len`, where it is valid.
+    /// The byte string of slot `i` of `len`, if it is valid.
     #[inline(always)]
     pub(crate) fn binary_at(self, len: usize, i: usize) -> Option<&'a [u8]>
         requires slot { i < len }
@@ -122,7 +122,7 @@ impl<'a> StringBuffers<'a> {
         Some(&self.bytes[start..end])
     }
 
-    // The text of slot `i` of `len`, where it is valid.
+    /// The text of slot `i` of `len`, if it is valid.
     #[inline(always)]
     pub(crate) fn text_at(self, len: usize, i: usize) -> Option<&'a str>
         requires slot { i < len }

@@ -1,4 +1,4 @@
-//! The slots of an array, whose form is looked at once for many of them.
+//! The slots of an array, whose form is determined once for many of them.
 
 ghost use Rattle.std.specs.Prelude.{◌≡◌, ◌<◌, length, MatchOption};
 ghost use Rattle.arrow_data.specs.Shown.{HoldsValue};
@@ -9,8 +9,8 @@ use crate::slot::{bool_at, fixed_at};
 use crate::view::Buffers;
 use std::marker::Model;
 
-/// The slots of an array, for whoever reads many of them: where its buffers lie is looked up when
-/// this is made, and not for each slot. It copies nothing and takes no memory.
+/// The slots of an array, for callers that read many of them: where its buffers lie is looked up
+/// when this is made, and not for each slot. It copies nothing and allocates nothing.
 #[derive(Drop)]
 pub struct Slots<'a> {
     array: &'a Array,
@@ -32,7 +32,7 @@ impl<'a> Model for Slots<'a> {
 }
 
 impl Array {
-    /// The slots of the array, with the form looked at once.
+    /// The slots of the array, with the form determined once.
     pub fn slots(&self) -> Slots<'_>
         ensures { result ≡ self.now }
     {
@@ -94,7 +94,7 @@ impl<'a> Slots<'a> {
     }
 
     /// The index in slot `i` of a dictionary-encoded column: the number of its value in the
-    /// column's dictionary. None where the slot is null, or the column is not dictionary-encoded.
+    /// column's dictionary. None if the slot is null, or the column is not dictionary-encoded.
     #[inline(always)]
     pub fn entry(&self, i: usize) -> Option<usize>
         requires { i < length self.now.raw }

@@ -1,9 +1,9 @@
 //! Whether slots hold texts.
 //!
-//! The bytes of all slots are looked at together. Where they are ASCII, each slot is a text,
-//! wherever it begins. Where they are another text, a slot of them is one exactly where it begins
-//! and ends between characters: mostly all slots do, which is looked at first, null or not. Where
-//! the bytes are no text, as null slots may hide any bytes, each slot is looked at by itself.
+//! The bytes of all slots are tested together. If they are ASCII, each slot is a text, wherever it
+//! begins. If they are another text, a slot is a text exactly when it begins and ends between
+//! characters: mostly all slots do, null or not, so this is tested first. If the bytes are not a
+//! text, since null slots may contain any bytes, each slot is tested by itself.
 
 ghost use Rattle.std.specs.Prelude.{◌≡◌, ◌↔◌, ◌-◌, ◌+◌, ◌≤◌, ◌<◌, length, slice_range, true};
 ghost use Rattle.std.specs.Prelude.{IsTrue, IsUtf8, IsCharBoundary};
@@ -18,7 +18,7 @@ use crate::offsets::OffsetBuffer;
 use crate::slot::is_valid;
 use crate::view::StringBuffers;
 
-// Whether each valid slot of `len` is UTF-8.
+/// Whether each valid slot of `len` is UTF-8.
 pub(crate) fn are_slots_utf8(strings: StringBuffers<'_>, len: usize) -> bool
     requires { HasStrings strings.width len strings.validity.now strings.offsets.now
         strings.bytes.now }
@@ -38,7 +38,7 @@ pub(crate) fn are_slots_utf8(strings: StringBuffers<'_>, len: usize) -> bool
     }
 }
 
-// The bytes of all slots, whether these are valid or not.
+/// The bytes of all slots, whether these are valid or not.
 #[tactic(auto, using(crate::proofs::Cuts::offsets))]
 fn all_slots(strings: StringBuffers<'_>, len: usize) -> &[u8]
     requires slots { 0 < len }
@@ -56,8 +56,8 @@ fn all_slots(strings: StringBuffers<'_>, len: usize) -> &[u8]
     &strings.bytes[start..end]
 }
 
-// Whether the text, which is the bytes of all slots, may be cut where each slot ends. (A slot
-// begins where the one before ends.)
+/// Whether the text, which is the bytes of all slots, may be cut at the end of each slot. (A slot
+/// begins where the one before ends.)
 fn are_cuts(offsets: OffsetBuffer<'_>, text: &str) -> bool
     requires slots { 0 < offsets.len }
     requires rising { HasOffsets offsets.width offsets.len offsets.top offsets.bytes.now }
@@ -73,7 +73,7 @@ fn are_cuts(offsets: OffsetBuffer<'_>, text: &str) -> bool
     true
 }
 
-// Whether each valid slot of `len` is UTF-8, where the bytes of all slots are the text.
+/// Whether each valid slot of `len` is UTF-8, if the bytes of all slots are the text.
 fn are_parts(strings: StringBuffers<'_>, len: usize, text: &str) -> bool
     requires laid { HasStrings strings.width len strings.validity.now strings.offsets.now
         strings.bytes.now }
@@ -92,7 +92,7 @@ fn are_parts(strings: StringBuffers<'_>, len: usize, text: &str) -> bool
     true
 }
 
-// Whether slot `j` is null or UTF-8, where the bytes of all slots are the text.
+/// Whether slot `j` is null or UTF-8, if the bytes of all slots are the text.
 fn is_part(strings: StringBuffers<'_>, len: usize, text: &str, j: usize) -> bool
     requires slot { j < len }
     requires laid { HasStrings strings.width len strings.validity.now strings.offsets.now
@@ -112,7 +112,7 @@ fn is_part(strings: StringBuffers<'_>, len: usize, text: &str, j: usize) -> bool
     is_text(text, start, end)
 }
 
-// Where slot `j` begins and ends in the bytes of all slots.
+/// Where slot `j` begins and ends in the bytes of all slots.
 #[tactic(auto, using(crate::proofs::Cuts::offsets))]
 fn places_of(offsets: OffsetBuffer<'_>, j: usize) -> (usize, usize)
     requires slot { j < offsets.len }
@@ -133,7 +133,7 @@ fn places_of(offsets: OffsetBuffer<'_>, j: usize) -> (usize, usize)
     (start - first, end - first)
 }
 
-// Whether the bytes from `start` up to `end` are UTF-8.
+/// Whether the bytes from `start` up to `end` are UTF-8.
 fn is_text(text: &str, start: usize, end: usize) -> bool
     requires order { start ≤ end }
     requires inside { end ≤ length text.now }
@@ -145,14 +145,14 @@ fn is_text(text: &str, start: usize, end: usize) -> bool
     is_cut(text, start, end)
 }
 
-// Whether the text may be cut in both places.
+/// Whether the text may be cut at both offsets.
 fn is_cut(text: &str, start: usize, end: usize) -> bool
     ensures { IsTrue result ↔ IsCharBoundary text.now start × IsCharBoundary text.now end }
 {
     text.is_char_boundary(start) && text.is_char_boundary(end)
 }
 
-// Whether each valid slot of `len` is UTF-8, one after another.
+/// Whether each valid slot of `len` is UTF-8, one after another.
 fn are_utf8_one_by_one(strings: StringBuffers<'_>, len: usize) -> bool
     requires { HasStrings strings.width len strings.validity.now strings.offsets.now
         strings.bytes.now }

@@ -1,4 +1,4 @@
-//! Values by themselves, outside of any column.
+//! Values by themselves, outside any column.
 
 ghost use Rattle.std.specs.Prelude.{◌≡◌, ◌↔◌, IsTrue, IfOk};
 ghost use Rattle.arrow_data.specs.Decimals.{wide_decimal_value};
@@ -30,7 +30,7 @@ pub enum Value {
     Bool(bool),
     /// A number of type Int, Date, Time, Timestamp or Duration, the bits of one of type
     /// FloatingPoint (see [`Value::float`]), the whole number of a decimal of at most 128 bits, the
-    /// months of an interval of nothing else, or an index.
+    /// months of an interval that has only months, or an index.
     Int(i128),
     /// A byte string, an interval of several numbers (see [`Value::interval`]), or a decimal of 256
     /// bits (see [`Value::wide_decimal`]).
@@ -39,14 +39,14 @@ pub enum Value {
     Text(String),
     /// The items of a list, in their order.
     List(Vec<Value>),
-    /// The values of a struct, one of each field, in their order.
+    /// The values of a struct, one for each field, in their order.
     Struct(Vec<Value>),
 }
 
 impl Value {
-    /// The value of a number in a column of this precision: the nearest number that it has, of two
-    /// the one with an even last digit. All that is no number is one value; who has bits to keep
-    /// makes a `Value::Int` of them.
+    /// The value of a number in a column of this precision: the nearest number that the precision
+    /// has, of two the one with an even last digit. All NaNs become one value; to keep particular
+    /// bits, make a `Value::Int` of them.
     pub fn float(precision: Precision, number: f64) -> Value
         ensures { IsFloatValue precision number (value_view result) }
     {
@@ -59,8 +59,9 @@ impl Value {
         })
     }
 
-    /// The value of an interval in a column of its unit: of months their number, else the bytes of
-    /// its numbers, 8 or 16 of them. The only error is `AllocError`, if an allocation failed.
+    /// The value of an interval in a column of its unit: the number of months for months, else the
+    /// bytes of its numbers, 8 or 16 of them. The only error is `AllocError`, if an allocation
+    /// failed.
     pub fn interval(alloc: Global, interval: Interval) -> Result<Value, AllocError>
         ensures { IfOk result (λ v. value_view v ≡ interval_value interval) }
     {
@@ -96,7 +97,7 @@ impl Value {
         Ok(Value::Bytes(bytes))
     }
 
-    /// An equal value in memory of its own, or `AllocError` where a growth was refused.
+    /// An equal value with its own memory, or `AllocError` if an allocation failed.
     #[cycle(copy)]
     pub fn copy(&self, alloc: Global) -> Result<Value, AllocError>
         ensures { IfOk result (λ v. value_view v ≡ value_view self.now) }
@@ -113,7 +114,7 @@ impl Value {
     }
 }
 
-// Equal values in memory of their own.
+/// Equal values with their own memory.
 #[cycle(copy)]
 fn copy_values(alloc: Global, values: &[Value]) -> Result<Vec<Value>, AllocError>
     ensures { IfOk result (λ v. values_view v.items ≡ values_view values.now) }
@@ -125,7 +126,7 @@ fn copy_values(alloc: Global, values: &[Value]) -> Result<Vec<Value>, AllocError
     Ok(copies)
 }
 
-// Whether the values are equal.
+/// Whether the values are equal.
 #[cycle(same)]
 fn same_value(one: &Value, other: &Value) -> bool
     ensures { IsTrue result ↔ (value_view one.now ≡ value_view other.now) }
@@ -148,7 +149,7 @@ fn same_value(one: &Value, other: &Value) -> bool
     }
 }
 
-// Whether the values are as many, and equal one by one.
+/// Whether there are equally many values on both sides, and they are equal one by one.
 #[cycle(same)]
 fn same_list(values: &[Value], others: &[Value]) -> bool
     ensures { IsTrue result ↔ (values_view values.now ≡ values_view others.now) }
@@ -164,7 +165,7 @@ fn same_list(values: &[Value], others: &[Value]) -> bool
     true
 }
 
-/// Values are equal where they are of one kind and hold equal things. No memory is taken.
+/// Values are equal if they are of one kind and hold equal contents. Nothing is allocated.
 impl PartialEq for Value {
     ghost eq = { on value_view (is_equal value_code) };
 

@@ -1,5 +1,5 @@
-//! The buffers of a column as the Columnar Format has them ("Physical Memory Layout"), for whoever
-//! reads them without a call for each slot.
+//! The buffers of a column as in the Columnar Format ("Physical Memory Layout"), for callers that
+//! read them without a call for each slot.
 
 ghost use Rattle.std.specs.Prelude.{◌≡◌};
 ghost use Rattle.arrow_data.specs.Node.{IsInside, bytes_of};
@@ -15,9 +15,9 @@ use crate::form::{ListForm, OffsetWidth};
 /// the message body: nothing is copied.
 ///
 /// Bit i of `validity` says whether slot i has a value, counted from the lowest bit of the first
-/// byte; where `validity` is empty, each slot has one ("Validity bitmaps"). Numbers and offsets are
-/// little-endian. A slice has the bytes that its slots take, and may have more behind them. What
-/// stands in a slot without a value says nothing.
+/// byte; if `validity` is empty, each slot has one ("Validity bitmaps"). Numbers and offsets are
+/// little-endian. A slice has the bytes that its slots take, and may have more after them. The
+/// content of a slot without a value is meaningless.
 #[derive(Clone, Copy)]
 pub enum Buffers<'a> {
     /// No buffer: no slot has a value ("Null Layout").
@@ -30,9 +30,9 @@ pub enum Buffers<'a> {
     /// The numbers of a column of type Int, FloatingPoint (their bits), Date, Time, Timestamp, Duration,
     /// Decimal of at most 128 bits, or Interval of months.
     Numbers(NumberBuffers<'a>),
-    /// Byte strings behind offsets.
+    /// Byte strings, given by offsets.
     Binaries(StringBuffers<'a>),
-    /// Texts behind offsets, in UTF-8.
+    /// Texts in UTF-8, given by offsets.
     Texts(StringBuffers<'a>),
     /// Byte strings of `width` bytes: that of slot i begins at byte `width * i`.
     FixedBytes {
@@ -40,9 +40,9 @@ pub enum Buffers<'a> {
         validity: &'a [u8],
         values: &'a [u8],
     },
-    /// Lists: the items of slot i are the slots of `child` from offset i up to offset i + 1, or, of a
-    /// fixed size, from `size * i` on. Where there is no slot `offsets` may be empty, and it is of
-    /// lists of a fixed size.
+    /// Lists: the items of slot i are the slots of `child` from offset i up to offset i + 1, or,
+    /// for lists of a fixed size, from `size * i` on. `offsets` may be empty if there is no slot,
+    /// and it is empty for lists of a fixed size.
     Lists {
         form: ListForm,
         validity: &'a [u8],
@@ -61,7 +61,7 @@ pub enum Buffers<'a> {
 /// Numbers of one width: that of slot i begins at byte `width * i` ("Fixed-size Primitive Layout").
 #[derive(Clone, Copy)]
 pub struct NumberBuffers<'a> {
-    /// How many bytes a number takes: 1, 2, 4, 8 or, of numbers with a sign, 16.
+    /// How many bytes a number takes: 1, 2, 4, 8 or, for numbers with a sign, 16.
     pub width: usize,
     /// Whether the numbers have a sign, as two's complement.
     pub signed: bool,
@@ -72,7 +72,7 @@ pub struct NumberBuffers<'a> {
 }
 
 impl<'a> NumberBuffers<'a> {
-    // The numbers whose buffers are these ranges of a body.
+    /// The numbers whose buffers are these ranges of a body.
     #[inline(always)]
     pub(crate) fn of(ints: Ints, body: &'a [u8]) -> NumberBuffers<'a>
         requires validity { IsInside body.now ints.validity }
@@ -99,14 +99,14 @@ pub struct StringBuffers<'a> {
     pub width: OffsetWidth,
     /// A bit for each slot, or empty.
     pub validity: &'a [u8],
-    /// The offsets, one more than there are slots; where there is no slot, it may be empty.
+    /// The offsets, one more than there are slots; if there is no slot, it may be empty.
     pub offsets: &'a [u8],
     /// The bytes.
     pub bytes: &'a [u8],
 }
 
 impl<'a> StringBuffers<'a> {
-    // The byte strings whose buffers are these ranges of a body.
+    /// The byte strings whose buffers are these ranges of a body.
     #[inline(always)]
     pub(crate) fn of(strings: Strings, body: &'a [u8]) -> StringBuffers<'a>
         requires validity { IsInside body.now strings.validity }
@@ -127,7 +127,7 @@ impl<'a> StringBuffers<'a> {
 }
 
 impl Array {
-    /// The buffers of the column, with its children or its dictionary. No memory is taken.
+    /// The buffers of the column, with its children or its dictionary. Nothing is allocated.
     pub fn buffers(&self) -> Buffers<'_>
         ensures { AreBuffersOf self.now result }
     {

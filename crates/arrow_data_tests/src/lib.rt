@@ -1,4 +1,5 @@
-//! Tests of `arrow_data`: columns, dictionaries and batches against answers that are written out.
+//! Tests of `arrow_data`: columns, dictionaries and batches against expected results that are
+//! written out.
 #![tactic(auto)]
 
 #[cfg(test)]

@@ -1,4 +1,4 @@
-//! Columns, dictionaries and batches against answers that are written out.
+//! Columns, dictionaries and batches against expected results that are written out.
 
 mod batches;
 mod buffers;
@@ -11,6 +11,6 @@ mod full;
 mod indices;
 mod intervals;
 mod making;
-mod told;
+mod reported;
 mod utf8;
 mod values;

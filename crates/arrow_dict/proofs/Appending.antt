@@ -1,4 +1,4 @@
--- What becomes of values for an id that has a dictionary.
+-- What happens to values for an id that has a dictionary.
 use Rattle.std.proofs.Common.{◌≡◌, ◌≤◌, ◌<◌, ℕ, ℤ, List, get_or, set, sym, ap, ◌∙◌, subst}
 use Rattle.arrow_data.specs.Column.{Column, ValueList}
 use Rattle.arrow_data.specs.Listed.{listed}
@@ -9,7 +9,7 @@ use Rattle.arrow_dict.proofs.Placing.{rising_placed}
 use Rattle.arrow_dict.proofs.Places.{id_found, found, placed_found, unchanged}
 
 module _ (ds old : List (ℤ × ValueList)) (id : ℤ) (i : ℕ) (e : ℤ × ValueList) (values : Column) (rising : IsRising ds) (at : IsAt ds id i) (is : e ≡ get_or ds i e) (view : ds ≡ old) where
-  -- they would be too many
+  -- the values would be too many
   pub too_long : 2147483647 < count_with e.1 values → IsTooLong old id values (set ds i (e.0, e.1))
   too_long many = record {
     base = e.1;
@@ -18,7 +18,7 @@ module _ (ds old : List (ℤ × ValueList)) (id : ℤ) (i : ℕ) (e : ℤ × Val
     same = unchanged ds id i e rising at is ∙ view;
   }
 
-  -- a growth was refused
+  -- an allocation failed
   pub refused : (d : ValueList) → count_with e.1 values ≤ 2147483647 → d ≡ e.1 → IsRefused old id values (set ds i (e.0, d))
   refused d few same = record {
     base = e.1;
@@ -27,7 +27,7 @@ module _ (ds old : List (ℤ × ValueList)) (id : ℤ) (i : ℕ) (e : ℤ × Val
     same = ap (λ x. set ds i (e.0, x)) same ∙ unchanged ds id i e rising at is ∙ view;
   }
 
-  -- they stand behind the others
+  -- the values are appended to the others
   pub appended : (d : ValueList) → count_with e.1 values ≤ 2147483647 → d ≡ with_values e.1 values → IsAppended old id values (set ds i (e.0, d))
   appended d few grown = record {
     base = e.1;

@@ -1,4 +1,4 @@
--- What the kept fields say, as they are looked up and as one more comes.
+-- What the kept fields say, when they are looked up and when one more is added.
 use Rattle.std.proofs.Common.{◌≡◌, ℤ, Bool, true, false, cond, List, [], ◌∷◌, ◌++◌, map, Option, Some, None, Ordering, Less, Equal, Greater, option_map, is_some, refl, sym, ap, ◌∙◌}
 use Rattle.std.specs.BTreeMap.{is_at, insert_entry}
 use Rattle.std.specs.List.{AllByRecursion}
@@ -46,18 +46,18 @@ shown_kept : (es : List (ℤ × FieldShape)) (id : ℤ) → AllByRecursion IsVal
 shown_kept [] id all = refl
 shown_kept (e ∷ es) id all = shown_cond (int_eq id e.0) e.1 (kept_for id es) all.0 (shown_kept es id all.1)
 
--- a field that was looked up says what the kept one says
+-- a field that was looked up is equal to the kept one
 copied : (r : Option (Bor FieldShape)) → option_map (λ (f : Bor FieldShape). f.now) r ≡ option_copied r
 copied None = refl
 copied (Some f) = refl
 
--- what is answered for an id
+-- what is returned for an id
 pub answered : (es : List (ℤ × FieldShape)) (id x : ℤ) (r : Option (Bor FieldShape)) → AllByRecursion IsValueField es → x ≡ id → option_copied r ≡ kept_for x es
     → option_map (λ (f : Bor FieldShape). f.now) r ≡ option_map value_field (value_type_of (map named es) id)
 answered es id x r all passed is =
     copied r ∙ is ∙ ap (λ y. kept_for y es) passed ∙ shown_kept es id all ∙ ap (option_map value_field) (sym (named_kept es id))
 
--- where a field is kept for the id, one more of that id changes nothing
+-- if a field is kept for the id, one more of that id changes nothing
 there_kept : (ds : List DictionaryField) (d : DictionaryField) (o : Option FieldShape) → value_type_of ds d.id ≡ option_map type_in o → true ≡ is_some o → NameSame ds (ds ++ d ∷ [])
 there_kept ds d None is some = cc
 there_kept ds d (Some f) is some = same_old ds d (type_in f) is
@@ -66,7 +66,7 @@ there_kept ds d (Some f) is some = same_old ds d (type_in f) is
 pub kept_old : (es : List (ℤ × FieldShape)) (d : DictionaryField) (x : ℤ) → x ≡ d.id → true ≡ is_some (kept_for x es) → NameSame (map named es) (map named es ++ d ∷ [])
 kept_old es d x passed some = there_kept (map named es) d (kept_for d.id es) (named_kept es d.id) (some ∙ ap (λ y. is_some (kept_for y es)) passed)
 
--- where none is kept, no type is named
+-- if no field is kept, no type is named
 not_kept : (o : Option FieldShape) → false ≡ is_some o → option_map type_in o ≡ None
 not_kept None none = refl
 not_kept (Some f) none = cc
@@ -82,7 +82,7 @@ kept_new es fs d x f passed typed none step =
     ∙ ap (λ t. cond (int_eq d.id q) (Some t) (option_map type_in (kept_for q es))) typed
     ∙ ap (λ o. cond (int_eq d.id q) (Some d.value_type) o) (sym (named_kept es q)))
 
--- what holds of all three holds of the one that an order chooses
+-- a proposition that holds of all three lists holds of the one that an order chooses
 by_ordering : (P : List (ℤ × FieldShape) → Type 0) (o : Ordering) (a b c : List (ℤ × FieldShape)) → P a → P b → P c → P (match_ordering o a b c)
 by_ordering P Less a b c less equal greater = less
 by_ordering P Equal a b c less equal greater = equal

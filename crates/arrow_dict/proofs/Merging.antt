@@ -3,39 +3,39 @@ use Rattle.std.proofs.Common.{◌≡◌, ◌<ℤ◌, ℤ, List, [], ◌∷◌, �
 use Rattle.std.proofs.lemmas.Int.{ints}
 use Rattle.arrow_data.specs.Column.{ValueList}
 use Rattle.arrow_dict.specs.Dictionaries.{placed}
-use Rattle.arrow_dict.proofs.Placing.{by_order, placed_before, placed_over, placed_behind}
+use Rattle.arrow_dict.proofs.Placing.{by_order, placed_before, placed_over, placed_after}
 use Rattle.arrow_dict.specs.Tracking.{merged}
 
--- the later of two for one id
+-- of two dictionaries for one id the later one remains
 pub placed_twice : (id : ℤ) (d e : ValueList) (ds : List (ℤ × ValueList)) → placed id d (placed id e ds) ≡ placed id d ds
 placed_twice id d e [] = placed_over id d (id, e) [] refl
 placed_twice id d e (x ∷ xs) =
     by_order id x.0
     (λ is less. ap (placed id d) (placed_before id e x xs less) ∙ placed_over id d (id, e) (x ∷ xs) refl ∙ sym (placed_before id d x xs less))
     (λ is same. ap (placed id d) (placed_over id e x xs same) ∙ placed_over id d (id, e) xs refl ∙ sym (placed_over id d x xs same))
-    (λ is greater. ap (placed id d) (placed_behind id e x xs greater) ∙ placed_behind id d x (placed id e xs) greater ∙ ap (λ ys. x ∷ ys) (placed_twice id d e xs) ∙ sym (placed_behind id d x xs greater))
+    (λ is greater. ap (placed id d) (placed_after id e x xs greater) ∙ placed_after id d x (placed id e xs) greater ∙ ap (λ ys. x ∷ ys) (placed_twice id d e xs) ∙ sym (placed_after id d x xs greater))
 
--- what is placed before the first entry, where another one is placed behind that
+-- a dictionary placed before the first entry, when another one is placed after that
 placed_low : (x y : ℤ) (a b : ValueList) (e : ℤ × ValueList) (es : List (ℤ × ValueList)) → x <ℤ y → x <ℤ e.0 → placed x a (placed y b (e ∷ es)) ≡ (x, a) ∷ placed y b (e ∷ es)
 placed_low x y a b e es less low =
     by_order y e.0
     (λ is h. ap (placed x a) (placed_before y b e es h) ∙ placed_before x a (y, b) (e ∷ es) less ∙ ap (λ ys. (x, a) ∷ ys) (sym (placed_before y b e es h)))
     (λ is h. ap (placed x a) (placed_over y b e es h) ∙ placed_before x a (y, b) es less ∙ ap (λ ys. (x, a) ∷ ys) (sym (placed_over y b e es h)))
-    (λ is h. ap (placed x a) (placed_behind y b e es h) ∙ placed_before x a e (placed y b es) low ∙ ap (λ ys. (x, a) ∷ ys) (sym (placed_behind y b e es h)))
+    (λ is h. ap (placed x a) (placed_after y b e es h) ∙ placed_before x a e (placed y b es) low ∙ ap (λ ys. (x, a) ∷ ys) (sym (placed_after y b e es h)))
 
 -- two ids in either order
 pub placed_swap : (x y : ℤ) (a b : ValueList) (ds : List (ℤ × ValueList)) → x <ℤ y → placed x a (placed y b ds) ≡ placed y b (placed x a ds)
-placed_swap x y a b [] less = placed_before x a (y, b) [] less ∙ sym (placed_behind y b (x, a) [] less)
+placed_swap x y a b [] less = placed_before x a (y, b) [] less ∙ sym (placed_after y b (x, a) [] less)
 placed_swap x y a b (e ∷ es) less =
     by_order x e.0
-    (λ is h. placed_low x y a b e es less h ∙ sym (placed_behind y b (x, a) (e ∷ es) less) ∙ ap (placed y b) (sym (placed_before x a e es h)))
+    (λ is h. placed_low x y a b e es less h ∙ sym (placed_after y b (x, a) (e ∷ es) less) ∙ ap (placed y b) (sym (placed_before x a e es h)))
     (λ is h.
     let above : e.0 <ℤ y = omega (arith, ints) in
-    ap (placed x a) (placed_behind y b e es above) ∙ placed_over x a e (placed y b es) h ∙ sym (placed_behind y b (x, a) es less) ∙ ap (placed y b) (sym (placed_over x a e es h)))
+    ap (placed x a) (placed_after y b e es above) ∙ placed_over x a e (placed y b es) h ∙ sym (placed_after y b (x, a) es less) ∙ ap (placed y b) (sym (placed_over x a e es h)))
     (λ is h.
     let above : e.0 <ℤ y = omega (arith, ints) in
-    ap (placed x a) (placed_behind y b e es above) ∙ placed_behind x a e (placed y b es) h ∙ ap (λ ys. e ∷ ys) (placed_swap x y a b es less)
-    ∙ sym (placed_behind y b e (placed x a es) above) ∙ ap (placed y b) (sym (placed_behind x a e es h)))
+    ap (placed x a) (placed_after y b e es above) ∙ placed_after x a e (placed y b es) h ∙ ap (λ ys. e ∷ ys) (placed_swap x y a b es less)
+    ∙ sym (placed_after y b e (placed x a es) above) ∙ ap (placed y b) (sym (placed_after x a e es h)))
 
 -- one more that is staged is one more that is placed
 pub merged_placed : (id : ℤ) (d : ValueList) (es ds : List (ℤ × ValueList)) → merged (placed id d es) ds ≡ placed id d (merged es ds)
@@ -44,14 +44,14 @@ merged_placed id d (e ∷ es) ds =
     by_order id e.0
     (λ is less. ap (λ xs. merged xs ds) (placed_before id d e es less))
     (λ is same. ap (λ xs. merged xs ds) (placed_over id d e es same) ∙ sym (placed_twice id d e.1 (merged es ds)) ∙ ap (λ x. placed id d (placed x e.1 (merged es ds))) same)
-    (λ is greater. ap (λ xs. merged xs ds) (placed_behind id d e es greater) ∙ ap (placed e.0 e.1) (merged_placed id d es ds) ∙ placed_swap e.0 id e.1 d (merged es ds) greater)
+    (λ is greater. ap (λ xs. merged xs ds) (placed_after id d e es greater) ∙ ap (placed e.0 e.1) (merged_placed id d es ds) ∙ placed_swap e.0 id e.1 d (merged es ds) greater)
 
--- the last one first
+-- the last staged one may be placed first
 pub merged_last : (es ds : List (ℤ × ValueList)) (e : ℤ × ValueList) → merged (es ++ e ∷ []) ds ≡ merged es (placed e.0 e.1 ds)
 merged_last [] ds e = refl
 merged_last (x ∷ es) ds e = ap (placed x.0 x.1) (merged_last es ds e)
 
--- what follows of an answer
+-- what follows from a result
 pub on_ok : {A B X Y : Type 0} (r : Result X Y) → (A → B) → OnOk r A → OnOk r B
 on_ok (Ok x) f a = f a
 on_ok (Err y) f a = a

@@ -1,4 +1,4 @@
--- What stands at the place of an id among rising ones.
+-- The entry at the index of an id among rising ids.
 use Rattle.std.proofs.Common.{◌≡◌, ◌≢◌, ◌<◌, ◌+◌, ◌<ℤ◌, ℕ, zero, suc, ℤ, false, List, [], ◌∷◌, length, get_or, set, Some, None, Result, Ok, Err, MatchResult, ⊎_elim, refl, sym, ap, ◌∙◌, subst, arith}
 use Rattle.std.specs.List.{insert}
 use Rattle.std.specs.List.Sorted.{IsSearchInRange, IsBinarySearchResult, IsNonDecreasingBy}
@@ -16,20 +16,20 @@ use Rattle.arrow_data.specs.Listed.{listed}
 use Rattle.arrow_data.proofs.Listing.{listed_absent, listed_at}
 use Rattle.arrow_dict.specs.Dictionaries.{IsRising, placed}
 use Rattle.arrow_dict.specs.Places.{IsAt, IsGap}
-use Rattle.arrow_dict.proofs.Placing.{by_order, lesser_other, placed_before, placed_behind, placed_over, rising_placed}
+use Rattle.arrow_dict.proofs.Placing.{by_order, lesser_other, placed_before, placed_after, placed_over, rising_placed}
 
--- ids rise from place to place
+-- ids rise from index to index
 rises : (ds : List (ℤ × ValueList)) (i j : ℕ) (e : ℤ × ValueList) → IsRising ds → i < j → j < length ds → (get_or ds i e).0 <ℤ (get_or ds j e).0
 rises [] i j e rising less h = absurd (omega arith)
 rises (d ∷ ds) i zero e rising less h = absurd (omega arith)
 rises (d ∷ ds) zero (suc j) e rising less h = All-from_recursion (λ (f : ℤ × ValueList). d.0 <ℤ f.0) ds rising.0 j e (omega arith)
 rises (d ∷ ds) (suc i) (suc j) e rising less h = rises ds i j e rising.1 (omega arith) (omega arith)
 
--- what is greater is not less
+-- a greater id is not less
 not_less : (x y : ℤ) → y <ℤ x → is_lt (int_cmp x y) ≡ false
 not_less x y greater = by_order x y (λ is less. absurd (omega (arith, ints))) (λ is same. ap is_lt is) (λ is h. ap is_lt is)
 
--- so a binary search may look for one
+-- so a binary search may search for one
 searchable : (ds : List (ℤ × ValueList)) (id : ℤ) → IsRising ds → IsNonDecreasingBy (λ (e : ℤ × ValueList). ordering_index (int_cmp e.0 id)) ds
 searchable ds id rising =
     searchable_from_sorted int_cmp_total (λ (e : ℤ × ValueList). e.0) ds id
@@ -47,20 +47,20 @@ searched ds id (Err i) rising inside parted =
       above = λ k e h l. let greater : id <ℤ (get_or ds k e).0 = int_ranked (get_or ds k e).0 id _ (sym (parts.1 k e h l)) in greater;
     }
 
--- the entry that stands at the place of its id is listed for it
+-- the entry at the index of its id is listed for it
 entry_listed : (ds : List (ℤ × ValueList)) (i : ℕ) (e : ℤ × ValueList) → IsRising ds → i < length ds → listed ds (get_or ds i e).0 ≡ Some (get_or ds i e).1
 entry_listed ds i e rising h =
     listed_at ds (get_or ds i e).0 i e (λ k l. lesser_other (get_or ds k e).0 (get_or ds i e).0 (rises ds k i e rising l h)) h refl
 
--- an entry that is put in place of it
+-- an entry that replaces it
 pub placed_at : (ds : List (ℤ × ValueList)) (i : ℕ) (e : ℤ × ValueList) (v : ValueList) → IsRising ds → i < length ds → placed (get_or ds i e).0 v ds ≡ set ds i ((get_or ds i e).0, v)
 placed_at [] i e v rising h = absurd (omega arith)
 placed_at (d ∷ ds) zero e v rising h = placed_over d.0 v d ds refl
 placed_at (d ∷ ds) (suc i) e v rising h =
-    placed_behind (get_or ds i e).0 v d ds (All-from_recursion (λ (f : ℤ × ValueList). d.0 <ℤ f.0) ds rising.0 i e (omega arith))
+    placed_after (get_or ds i e).0 v d ds (All-from_recursion (λ (f : ℤ × ValueList). d.0 <ℤ f.0) ds rising.0 i e (omega arith))
     ∙ ap (λ es. d ∷ es) (placed_at ds i e v rising.1 (omega arith))
 
--- no entry has an id that stands in a gap
+-- no entry has an id that is in a gap
 not_in_gap : (ds : List (ℤ × ValueList)) (id : ℤ) (i k : ℕ) (e : ℤ × ValueList) → IsGap ds id i → k < length ds → (get_or ds k e).0 ≢ id
 not_in_gap ds id i k e gap h same =
     ⊎_elim
@@ -83,9 +83,9 @@ placed_gap (d ∷ ds) id (suc i) v gap =
       below = λ k e h. gap.below (suc k) e (omega arith);
       above = λ k e h l. gap.above (suc k) e (omega arith) (omega arith);
     } in
-    placed_behind id v d ds (gap.below 0 d (omega arith)) ∙ ap (λ es. d ∷ es) (placed_gap ds id i v rest)
+    placed_after id v d ds (gap.below 0 d (omega arith)) ∙ ap (λ es. d ∷ es) (placed_gap ds id i v rest)
 
--- the entry at the place of an id is what is listed for it
+-- the entry at the index of an id is what is listed for it
 pub found_at : (ds : List (ℤ × ValueList)) (id : ℤ) (i : ℕ) (e : ℤ × ValueList) → IsRising ds → IsAt ds id i → listed ds id ≡ Some (get_or ds i e).1
 found_at ds id i e rising at = ap (λ x. listed ds x) (sym (at.has e)) ∙ entry_listed ds i e rising at.inside
 
@@ -107,7 +107,7 @@ module _ (ds : List (ℤ × ValueList)) (id : ℤ) (i : ℕ) (e : ℤ × ValueLi
   pub unchanged : set ds i (e.0, e.1) ≡ ds
   unchanged = ap (λ (x : ℤ × ValueList). set ds i x) is ∙ set-get_or ds i e
 
--- a place of an id as a call passes it
+-- the index of an id as a call passes it
 pub at_passed : (ds old : List (ℤ × ValueList)) (id : ℤ) (i : ℕ) → ds ≡ old → SFits w64 id → IsAt old (to_z w64 (of_z w64 id)) i → IsAt ds id i
 at_passed ds old id i view fits at = subst (λ x. IsAt x id i) (sym view) (subst (λ x. IsAt old x i) (to_z-of_z w64 id fits) at)
 
@@ -116,18 +116,18 @@ pub gap_passed : (ds old : List (ℤ × ValueList)) (id : ℤ) (i : ℕ) → ds 
 gap_passed ds old id i view fits gap = subst (λ x. IsGap x id i) (sym view) (subst (λ x. IsGap old x i) (to_z-of_z w64 id fits) gap)
 
 module _ (ds old : List (ℤ × ValueList)) (id x : ℤ) (i : ℕ) (v : ValueList) (rising : IsRising ds) (view : ds ≡ old) (passed : x ≡ id) where
-  -- a dictionary that is written at the place of its id
+  -- a dictionary that is written at the index of its id
   pub written : (e : ℤ × ValueList) → IsAt ds id i → e ≡ get_or ds i e → set ds i (x, v) ≡ placed id v old
   written e at is = ap (λ y. set ds i (y, v)) passed ∙ sym (placed_found ds id i e rising at is v) ∙ ap (placed id v) view
 
-  -- the ids go on rising
+  -- the ids still rise
   pub written_rises : (e : ℤ × ValueList) → IsAt ds id i → e ≡ get_or ds i e → IsRising (set ds i (x, v))
   written_rises e at is = subst IsRising (sym (written e at is)) (rising_placed old id v (subst IsRising view rising))
 
-  -- one that is put into the gap
+  -- a dictionary that is put into the gap
   pub put_in : IsGap ds id i → insert ds i (x, v) ≡ placed id v old
   put_in gap = ap (λ y. insert ds i (y, v)) passed ∙ sym (placed_gap ds id i v gap) ∙ ap (placed id v) view
 
-  -- the ids go on rising
+  -- the ids still rise
   pub put_in_rises : IsGap ds id i → IsRising (insert ds i (x, v))
   put_in_rises gap = subst IsRising (sym (put_in gap)) (rising_placed old id v (subst IsRising view rising))

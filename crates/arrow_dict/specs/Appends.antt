@@ -1,4 +1,5 @@
--- What becomes of values that are to go behind those of a dictionary (Message.fbs, table "DictionaryBatch", field "isDelta").
+-- What happens to values that are to be appended to a dictionary (Message.fbs, table "DictionaryBatch", field
+-- "isDelta").
 use Rattle.std.specs.Prelude.{◌≡◌, ◌≤◌, ◌<◌, ◌+◌, ℕ, ℤ, List, ◌++◌, length, Some, None, Result, Ok, Err, codes}
 use Rattle.arrow_data.specs.Column.{Column, ValueList}
 use Rattle.arrow_data.specs.Listed.{listed}
@@ -10,32 +11,32 @@ use Rattle.arrow_dict.specs.declared.store.StoreFault.TheVariants.{NoBase, TooLo
 abbrev pub count_with : ValueList → Column → ℕ
 count_with d c = length d.values + length c.raw
 
--- the dictionary with the values of the column behind its own
+-- the dictionary with the values of the column after its own
 abbrev pub with_values : ValueList → Column → ValueList
 with_values d c = record d { values = d.values ++ c.raw }
 
--- they stand behind those of the id's dictionary, which has at most as many as a signed 32-bit number counts
+-- the values follow those of the id's dictionary, which then has at most as many as a signed 32-bit number counts
 pub record IsAppended (old : List (ℤ × ValueList)) (id : ℤ) (values : Column) (new : List (ℤ × ValueList)) : Type 0 where
   pub base : ValueList
   pub there : listed old id ≡ Some base
   pub few : count_with base values ≤ 2147483647
   pub grown : new ≡ placed id (with_values base values) old
 
--- there is a dictionary of the id, they would be too many, and nothing changes
+-- there is a dictionary of the id, the values would be too many, and nothing changes
 pub record IsTooLong (old : List (ℤ × ValueList)) (id : ℤ) (values : Column) (new : List (ℤ × ValueList)) : Type 0 where
   pub base : ValueList
   pub there : listed old id ≡ Some base
   pub many : 2147483647 < count_with base values
   pub same : new ≡ old
 
--- there is a dictionary of the id, they would not be too many, and nothing changes
+-- there is a dictionary of the id, the values would not be too many, and nothing changes
 pub record IsRefused (old : List (ℤ × ValueList)) (id : ℤ) (values : Column) (new : List (ℤ × ValueList)) : Type 0 where
   pub base : ValueList
   pub there : listed old id ≡ Some base
   pub few : count_with base values ≤ 2147483647
   pub same : new ≡ old
 
--- an answer to values for an id
+-- a result for values for an id
 abbrev pub Appends : List (ℤ × ValueList) → ℤ → Column → Result (Unit {0}) StoreFault → List (ℤ × ValueList) → Type 0
 Appends old id values (Ok done) new = IsAppended old id values new
 Appends old id values (Err NoBase) new = (listed old id ≡ None) × (new ≡ old)

@@ -9,12 +9,12 @@ use Rattle.arrow_data.specs.Column.{ValueList, value_list_code}
 abbrev pub entries_code : Coded (List (ℤ × ValueList))
 entries_code = coded_list (coded× coded_ℤ value_list_code)
 
--- each id is less than those of all entries behind it, so that none comes twice
+-- each id is less than those of all entries after it, so that no id comes twice
 abbrev pub IsRising : List (ℤ × ValueList) → Type 0
 IsRising [] = ⊤
 IsRising (e ∷ es) = AllByRecursion (λ (f : ℤ × ValueList). e.0 <ℤ f.0) es × IsRising es
 
--- the dictionaries with this one for the id: in place of the one that was there, else put in by rising id
+-- the dictionaries with this one for the id: it replaces the one that was there, or else is inserted by rising id
 abbrev pub placed : ℤ → ValueList → List (ℤ × ValueList) → List (ℤ × ValueList)
 placed id d [] = (id, d) ∷ []
 placed id d (e ∷ es) = match_ordering (int_cmp id e.0) ((id, d) ∷ e ∷ es) ((id, d) ∷ es) (e ∷ placed id d es)

@@ -6,7 +6,8 @@ use Rattle.arrow_data.specs.Column.{ValueList}
 use Rattle.arrow_dict.specs.Dictionaries.{IsRising, placed, entries_code}
 use Rattle.arrow_dict.specs.declared.tracker.Tracker.TheInside.{Inside}
 
--- What a tracker is to contracts: the dictionaries that were sent, and those that will have been once the staged ones are.
+-- A tracker in contracts: the dictionaries that were sent, and those that will have been sent once the staged ones
+-- are.
 pub record Tracked : Type 0 where
   pub sent : List (ℤ × ValueList)
   pub next : List (ℤ × ValueList)
@@ -16,16 +17,16 @@ abbrev pub tracked_code : Coded Tracked
 tracked_code = code_by (List (ℤ × ValueList) × List (ℤ × ValueList)) (coded× entries_code entries_code)
     (λ t. (t.sent, t.next)) (λ p. record { sent = p.0; next = p.1 }) (λ _. refl)
 
--- the dictionaries with the staged ones in their places
+-- the dictionaries with the staged ones placed among them
 abbrev pub merged : List (ℤ × ValueList) → List (ℤ × ValueList) → List (ℤ × ValueList)
 merged [] ds = ds
 merged (e ∷ es) ds = placed e.0 e.1 (merged es ds)
 
--- what a tracker is to contracts, by its two lists
+-- a tracker in contracts, from its two lists
 abbrev pub tracked_by : Inside → Tracked
 tracked_by v = record { sent = v.sent.items; next = merged v.staged.items v.sent.items }
 
--- the ids of both lists rise, and the sent one has room for the staged ones
+-- the ids of both lists rise, and the sent one has capacity for the staged ones
 pub record IsTracker (v : Inside) : Type 0 where
   pub sent : IsRising v.sent.items
   pub staged : IsRising v.staged.items

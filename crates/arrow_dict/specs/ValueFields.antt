@@ -15,7 +15,7 @@ named e = record { id = e.0; value_type = type_of e.1 }
 abbrev pub named_types : Inside → List DictionaryField
 named_types v = map named v.fields.entries
 
--- a kept field is one of values
+-- a kept field is a field of values
 abbrev pub IsValueField : ℤ × FieldShape → Type 0
 IsValueField e = e.1 ≡ value_field (type_of e.1)
 

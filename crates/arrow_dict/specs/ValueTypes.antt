@@ -16,7 +16,7 @@ abbrev pub value_type_of : List DictionaryField → ℤ → Option TypeShape
 value_type_of [] id = None
 value_type_of (d ∷ ds) id = if int_eq d.id id then Some d.value_type else value_type_of ds id
 
--- of each id the fields name the same type, or neither names one
+-- for each id both lists of fields name the same type, or neither names one
 abbrev pub NameSame : List DictionaryField → List DictionaryField → Type 0
 NameSame ds es = (id : ℤ) → value_type_of ds id ≡ value_type_of es id
 

@@ -10,7 +10,7 @@ ghost use Rattle.arrow_dict.specs.Places.{IsAt, IsGap};
 use arrow_data::Dictionary;
 use std::alloc::AllocError;
 
-// Where the id stands, or where it would stand. It is found by binary search.
+/// The index of the id, or the index at which it belongs. It is found by binary search.
 pub(crate) fn place_of(entries: &[(i64, Dictionary)], id: i64) -> Result<usize, usize>
     requires { IsRising entries.now }
     ensures { MatchResult result (IsAt entries.now id) (IsGap entries.now id) }
@@ -18,7 +18,7 @@ pub(crate) fn place_of(entries: &[(i64, Dictionary)], id: i64) -> Result<usize, 
     entries.binary_search_by_key(&id, |entry| entry.0)
 }
 
-// The dictionary of the id, None where there is none.
+/// The dictionary of the id, None if there is none.
 pub(crate) fn find(entries: &[(i64, Dictionary)], id: i64) -> Option<&Dictionary>
     requires { IsRising entries.now }
     ensures { option_map (λ d. d.now) result ≡ listed entries.now id }
@@ -29,8 +29,8 @@ pub(crate) fn find(entries: &[(i64, Dictionary)], id: i64) -> Option<&Dictionary
     }
 }
 
-// Takes the dictionary for the id, in place of the one that was there. Memory may be asked for only
-// where there was none and no room; where it is refused nothing changes.
+/// Takes the dictionary for the id, and replaces the one that was there. It may allocate only if
+/// there was none and no spare capacity; if the allocation fails, nothing changes.
 pub(crate) fn place(
     entries: &mut Vec<(i64, Dictionary)>,
     id: i64,

@@ -1,4 +1,4 @@
-//! Laws of the definitions alone: a store is a finite map from ids to dictionaries, and of a schema
+//! Laws of only the definitions: a store is a finite map from ids to dictionaries, and in a schema
 //! each id has one type.
 
 ghost use Rattle.arrow_dict.specs.Laws.{NamesEach, PlacedElsewhere, PlacedHere, StaysRising};
@@ -8,18 +8,18 @@ pub fn placed_here()
     ensures { PlacedHere }
 {}
 
-/// What is listed for other ids stays as it was.
+/// What is listed for other ids is unchanged.
 pub fn placed_elsewhere()
     ensures { PlacedElsewhere }
 {}
 
-/// Ids that rise go on rising.
+/// Rising ids still rise.
 pub fn stays_rising()
     ensures { StaysRising }
 {}
 
-/// Of a schema's fields, each dictionary-encoded one has the type that is named for its id, and not
-/// the first alone.
+/// Each dictionary-encoded field of a schema, and not only the first one, has the type that is
+/// named for its id.
 pub fn names_each()
     ensures { NamesEach }
 {}

@@ -21,7 +21,7 @@ pub enum StoreFault {
     NoBase,
     /// The dictionary would have more values than `Store::MAX_VALUES`.
     TooLong,
-    /// A growth was refused. None of the other faults applies.
+    /// An allocation failed. None of the other faults applies.
     Memory,
 }
 
@@ -55,7 +55,7 @@ impl fmt::Display for StoreFault {
 
 impl Error for StoreFault {}
 
-/// The dictionaries of a stream as they stand, at most one for each id, by rising id.
+/// The current dictionaries of a stream, at most one for each id, by rising id.
 #[derive(Drop)]
 pub struct Store {
     entries: Vec<(i64, Dictionary)>,
@@ -79,7 +79,7 @@ impl Store {
     /// The greatest number of values of a dictionary: as many as a signed 32-bit number counts.
     pub const MAX_VALUES: usize = 2_147_483_647;
 
-    /// The store without dictionaries. Takes no memory.
+    /// The store without dictionaries. Allocates nothing.
     pub fn new(alloc: Global) -> Store
         ensures { result ≡ [] }
     {
@@ -88,7 +88,7 @@ impl Store {
         }
     }
 
-    /// The dictionary of the id, None where there is none. It is found by binary search.
+    /// The dictionary of the id, None if there is none. It is found by binary search.
     pub fn get(&self, id: i64) -> Option<&Dictionary>
         ensures { option_map (λ d. d.now) result ≡ listed self.now id }
     {
@@ -103,8 +103,8 @@ impl Store {
         &self.entries
     }
 
-    /// Takes the dictionary for the id, in place of the one that was there. Memory may be asked for
-    /// only where there was none; where it is refused nothing changes.
+    /// Takes the dictionary for the id, and replaces the one that was there. It may allocate only
+    /// if there was none; if the allocation fails, nothing changes.
     pub fn replace(&mut self, id: i64, dictionary: Dictionary) -> Result<(), AllocError>
         ensures ok { OnOk result (self.new ≡ placed id dictionary self.old) }
         ensures err { OnErr result (self.new ≡ self.old) }
@@ -113,8 +113,8 @@ impl Store {
         place(&mut self.entries, id, dictionary)
     }
 
-    /// Puts the values of the array behind those of the id's dictionary, of which none is copied
-    /// (Columnar Format, "Dictionary Messages", of delta dictionaries). After a fault nothing has
+    /// Appends the values of the array to those of the id's dictionary; none of these is copied
+    /// (Columnar Format, "Dictionary Messages", on delta dictionaries). After a fault nothing has
     /// changed.
     pub fn append(&mut self, alloc: Global, id: i64, values: Array) -> Result<(), StoreFault>
         requires typed { (d : ValueList)
@@ -135,7 +135,7 @@ impl Store {
         }
     }
 
-    /// Lets all dictionaries go, as where a stream begins anew. Takes no memory.
+    /// Drops all dictionaries, as when a stream is restarted. Allocates nothing.
     pub fn clear(&mut self)
         ensures { self.new ≡ [] }
     {

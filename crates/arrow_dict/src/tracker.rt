@@ -13,8 +13,8 @@ use std::alloc::{AllocError, Global};
 use std::marker::Model;
 
 /// The dictionaries that were sent on a connection, and those that are staged, which are about to
-/// be: at most one of each for an id, by rising id. They share their values with the dictionaries
-/// that they were copied from.
+/// be sent: at most one of each for an id, by rising id. They share their values with the
+/// dictionaries that they were copied from.
 #[derive(Drop)]
 pub struct Tracker {
     sent: Vec<(i64, Dictionary)>,
@@ -34,7 +34,7 @@ impl Model for Tracker {
 }
 
 impl Tracker {
-    /// The tracker of a connection on which no dictionary was sent. Takes no memory.
+    /// The tracker of a connection on which no dictionary was sent. Allocates nothing.
     pub fn new(alloc: Global) -> Tracker
         ensures { result ≡ record { sent = []; next = [] } }
     {
@@ -44,7 +44,7 @@ impl Tracker {
         }
     }
 
-    /// The dictionary that was sent last for the id, None where none was. It is found by binary
+    /// The dictionary that was sent last for the id, None if none was. It is found by binary
     /// search.
     pub fn sent(&self, id: i64) -> Option<&Dictionary>
         ensures { option_map (λ d. d.now) result ≡ listed self.now.sent id }
@@ -61,8 +61,8 @@ impl Tracker {
     }
 
     /// What is to be sent so that the id has this dictionary. Staged ones do not count. Values are
-    /// compared one by one, run by run of those that lie in one segment of both; none is copied, and
-    /// no memory is taken.
+    /// compared one by one, run by run of those that lie in one segment of both; none is copied,
+    /// and nothing is allocated.
     pub fn plan(&self, id: i64, dictionary: &Dictionary, updates: Updates) -> Update
         ensures { result ≡ choice updates
             (option_map (λ (d : ValueList). d.values) (listed self.now.sent id))
@@ -74,8 +74,9 @@ impl Tracker {
         }
     }
 
-    /// Stages a copy of the dictionary for the id, in place of one that was staged before. Room is
-    /// made for it among the sent ones too. Where a growth is refused nothing changes.
+    /// Stages a copy of the dictionary for the id, and replaces one that was staged before.
+    /// Capacity is reserved for it among the sent ones too. If an allocation fails, nothing
+    /// changes.
     pub fn stage(
         &mut self,
         alloc: Global,
@@ -91,7 +92,8 @@ impl Tracker {
         place(&mut self.staged, id, copy)
     }
 
-    /// Makes the staged dictionaries the sent ones. Takes no memory, since `stage` made the room.
+    /// Makes the staged dictionaries the sent ones. Allocates nothing, since `stage` reserved the
+    /// capacity.
     pub fn commit(&mut self)
         ensures sent { self.new.sent ≡ self.old.next }
         ensures next { self.new.next ≡ self.old.next }
@@ -101,7 +103,7 @@ impl Tracker {
         }
     }
 
-    /// Drops the staged dictionaries. Takes no memory.
+    /// Drops the staged dictionaries. Allocates nothing.
     pub fn discard(&mut self)
         ensures sent { self.new.sent ≡ self.old.sent }
         ensures next { self.new.next ≡ self.old.sent }
@@ -110,7 +112,7 @@ impl Tracker {
     }
 }
 
-// What is sent where another dictionary was sent.
+/// What is sent if another dictionary was sent.
 fn compared(old: &Dictionary, new: &Dictionary, updates: Updates) -> Update
     ensures { result ≡ choice updates (Some old.now.values) new.now.values }
 {

@@ -13,8 +13,8 @@ use std::marker::Model;
 use std::slice;
 
 /// A field of the type of a dictionary's values, as the message of a dictionary has one
-/// (Message.fbs, table `DictionaryBatch`), and the types of the nodes that it takes, which the values
-/// of all messages share. A clause sees the field.
+/// (Message.fbs, table `DictionaryBatch`), and the types of the nodes that it takes, which the
+/// values of all messages share. Contracts see the field.
 #[derive(Drop)]
 pub struct ValueField {
     field: Field,
@@ -38,7 +38,7 @@ impl Model for ValueField {
 }
 
 impl ValueField {
-    // That of values of the type.
+    /// The field of values of the type.
     pub(crate) fn of(alloc: Global, data_type: &DataType) -> Result<ValueField, AllocError>
         ensures { IfOk result (λ f. f ≡ value_field (type_view data_type.now)) }
     {
@@ -53,14 +53,14 @@ impl ValueField {
         Ok(ValueField { field, types })
     }
 
-    /// The field, as the one of a list. Takes no memory.
+    /// The field, as a list of one. Allocates nothing.
     pub fn fields(&self) -> &[Field]
         ensures { fields_view result.now ≡ fields_of (self.now ∷ []) }
     {
         slice::from_ref(&self.field)
     }
 
-    /// The types of the nodes that the field takes. Takes no memory.
+    /// The types of the nodes that the field takes. Allocates nothing.
     pub fn types(&self) -> &[SharedType]
         ensures { result.now ≡ node_types (fields_of (self.now ∷ [])) }
     {

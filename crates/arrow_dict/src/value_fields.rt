@@ -36,7 +36,7 @@ impl Model for ValueFields {
 
 impl ValueFields {
     /// The fields of the values of all dictionaries that the schema's fields refer to, on every
-    /// level. Where several fields share an id, the first one's type is taken, which in a schema is
+    /// level. If several fields share an id, the first one's type is taken, which in a schema is
     /// that of all. The time grows as n log n with the number of fields, and the type of each id is
     /// copied once.
     pub fn of(alloc: Global, schema: &Schema) -> Result<ValueFields, AllocError>
@@ -51,7 +51,7 @@ impl ValueFields {
     }
 
     /// The field of the values of the id's dictionary: of their type, without a name or an
-    /// encoding, and nullable. None where no field of the schema gives the id. Takes no memory.
+    /// encoding, and nullable. None if no field of the schema gives the id. Allocates nothing.
     pub fn get(&self, id: i64) -> Option<&ValueField>
         ensures { option_map (λ f. f.now) result
             ≡ option_map value_field (value_type_of self.now id) }
@@ -59,7 +59,7 @@ impl ValueFields {
         self.fields.get(&id)
     }
 
-    // Takes the type for the id, unless there is one already.
+    /// Takes the type for the id, unless there is one already.
     fn add(&mut self, alloc: Global, id: i64, data_type: &DataType) -> Result<(), AllocError>
         ensures { OnOk result (NameSame self.new
             (self.old ++ record { id = id; value_type = type_view data_type.now } ∷ [])) }
@@ -72,7 +72,7 @@ impl ValueFields {
     }
 }
 
-// Adds what the field says itself, if it is dictionary-encoded.
+/// Adds the id and type of the field itself, if it is dictionary-encoded.
 fn add_own(alloc: Global, field: &Field, found: &mut ValueFields) -> Result<(), AllocError>
     ensures { OnOk result (NameSame found.new
         (found.old ++ dictionary_of (field_view field.now).head (field_view field.now).children)) }
@@ -83,7 +83,7 @@ fn add_own(alloc: Global, field: &Field, found: &mut ValueFields) -> Result<(), 
     }
 }
 
-// Adds what the fields say, on all levels, in pre-order.
+/// Adds those of the fields, on all levels, in pre-order.
 #[cycle(named)]
 fn add_fields(alloc: Global, fields: &[Field], found: &mut ValueFields) -> Result<(), AllocError>
     ensures { OnOk result

@@ -1,4 +1,4 @@
-//! Stores, trackers and value fields against answers that are written out.
+//! Stores, trackers and value fields against results that are written out.
 
 mod making;
 mod played;

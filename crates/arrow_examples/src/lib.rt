@@ -1,5 +1,5 @@
 //! Callers of `arrowflow`, two of them as README shows them: two read a stream and use its columns,
-//! the other builds a batch and writes it. They are built with their tests alone.
+//! the other builds a batch and writes it. They are built only with their tests.
 #![tactic(auto)]
 
 #[cfg(test)]

@@ -1,17 +1,17 @@
-//! A stream read, and its columns used.
+//! Reads a stream, and uses its columns.
 
 use arrowflow::session::{Ending, receive};
 use arrowflow::{Array, Fault, Limits, StreamReader};
 use std::alloc::{AllocError, Global};
 use thiserror::Error;
 
-/// Why a stream has no answer.
+/// Why a stream has no result.
 #[derive(Debug, Drop, Error)]
 pub enum ReadError {
-    /// The stream is refused, or ends too early.
+    /// The stream is rejected, or ends too early.
     #[error(transparent)]
     Stream(#[from] Fault),
-    /// A growth was refused.
+    /// An allocation failed.
     #[error(transparent)]
     Memory(#[from(alloc)] AllocError),
 }
@@ -27,7 +27,7 @@ pub fn longest(alloc: Global, stream: &[u8]) -> Result<usize, ReadError> {
     Ok(columns.map(longest_in).max().unwrap_or(0))
 }
 
-/// The same of one column.
+/// The same for one column.
 fn longest_in(column: &Array) -> usize {
     let mut longest = 0;
     for row in 0..column.len() {

@@ -1,4 +1,4 @@
-//! A column of floating-point numbers read, and summed.
+//! Reads a column of floating-point numbers, and sums it.
 
 use crate::reading::ReadError;
 use arrowflow::session::{Ending, receive};
@@ -22,7 +22,7 @@ pub fn sum(alloc: Global, stream: &[u8]) -> Result<f64, ReadError> {
     Ok(sum)
 }
 
-/// The sum of one column, in which a null counts nothing.
+/// The sum of one column, in which a null counts as nothing.
 fn sum_of(column: &Array) -> f64 {
     let mut sum = 0.0;
     for row in 0..column.len() {

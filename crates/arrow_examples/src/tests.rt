@@ -1,4 +1,4 @@
-//! That both callers do what is said of them.
+//! The callers do what their documentation says.
 
 mod outside;
 

@@ -1,4 +1,4 @@
-//! A batch built, and written.
+//! Builds a batch, and writes it.
 
 use arrowflow::{
     ArrayBuilder, ArrayFault, Batch, BatchFault, BitWidth, Counted, DataType, Field, Limits,
@@ -11,7 +11,7 @@ use thiserror::Error;
 /// Why a column was not written.
 #[derive(Debug, Drop, Error)]
 pub enum WriteError {
-    /// A schema is refused.
+    /// A schema is rejected.
     #[error(transparent)]
     Schema(#[from] SchemaFault),
     /// A value does not fit its column.
@@ -20,13 +20,13 @@ pub enum WriteError {
     /// A column's dictionaries are missing.
     #[error(transparent)]
     Array(#[from] ArrayFault),
-    /// Columns make no batch.
+    /// The columns do not make a batch.
     #[error(transparent)]
     Batch(#[from] BatchFault),
-    /// The writer refused a batch, or its sink failed.
+    /// The writer rejected a batch, or its sink failed.
     #[error(transparent)]
     Write(#[from] WriteFault),
-    /// A growth was refused.
+    /// An allocation failed.
     #[error(transparent)]
     Memory(#[from(alloc)] AllocError),
 }

@@ -1,16 +1,17 @@
-//! Where the parts of a FlatBuffer are laid out, front to back, without memory.
+//! The positions at which the parts of a FlatBuffer are laid out, front to back, without
+//! allocating.
 //!
-//! All places count in bytes from the buffer's first, those of a table's fields from the table's.
-//! Each call takes the first free place and answers the first free place behind what it is named
-//! for, or where that stands (FlatBuffers internals, "Tables", "Strings", "Vectors"): a vtable
-//! stands at an even place, a table at a multiple of 8, a field at a multiple of its own size, a
-//! text at a multiple of 4. No call answers an error, since places are far below the greatest
-//! number.
+//! All positions count in bytes from the first byte of the buffer, those of a table's fields from
+//! the table's position. Each function takes the first free position and returns the first free
+//! position after the object in its name, or the position of that object (FlatBuffers internals,
+//! "Tables", "Strings", "Vectors"): a vtable is at an even position, a table at a multiple of 8, a
+//! field at a multiple of its own size, a text at a multiple of 4. No function returns an error,
+//! since positions are far below the greatest number.
 ghost use Rattle.std.specs.Prelude.{◌≡◌, ◌≤◌, ◌<◌, ◌+◌, ◌^◌, length};
 ghost use Rattle.arrow_flatbuf.specs.Layout.{width, gap, up, table_place};
 ghost use Rattle.arrow_flatbuf.specs.Layout.{slot_end, slots_end, entry_of, table_end};
 
-/// How many bytes a number takes.
+/// The number of bytes of a number.
 #[derive(Clone, Copy, Debug, Drop)]
 pub enum Width {
     One,
@@ -21,16 +22,16 @@ pub enum Width {
 
 /// A field of a table that is written.
 #[derive(Clone, Copy, Debug, Drop)]
-pub enum Slot {
+pub enum FieldValue {
     /// The vtable has the entry 0 for it.
     Absent,
-    /// A number. One with a sign comes as its bits.
+    /// A number. A signed one comes as its bits.
     Scalar(Width, u64),
-    /// An offset to what stands at a place.
+    /// An offset to the content at a position.
     Target(usize),
 }
 
-/// The first multiple of a width that is not below a place.
+/// The first multiple of a width that is not below a position.
 pub fn aligned(place: usize, size: Width) -> usize
     requires { place < 2 ^ 32 }
     ensures value { result ≡ up (width size) place }
@@ -39,8 +40,8 @@ pub fn aligned(place: usize, size: Width) -> usize
     place + gap(size, place)
 }
 
-/// Where a table of so many fields stands that is laid out from a place on. Its vtable, which has
-/// an entry for each of them, stands before it.
+/// The position of a table of `count` fields that is laid out from `place` on. Its vtable, which
+/// has an entry for each of them, comes before it.
 pub fn table_place(place: usize, count: usize) -> usize
     requires place { place < 2 ^ 31 }
     requires few { count ≤ 1000 }
@@ -50,10 +51,10 @@ pub fn table_place(place: usize, count: usize) -> usize
     aligned(aligned(place, Width::Two) + 4 + 2 * count, Width::Eight)
 }
 
-/// The first place behind a table of these fields that is laid out from a place on. What its
+/// The first position after a table of these fields that is laid out from `place` on. What its
 /// offsets name is not counted.
 #[tactic(auto, using(crate::proofs::Heads::slots_short))]
-pub fn table_end(place: usize, slots: &[Slot]) -> usize
+pub fn table_end(place: usize, slots: &[FieldValue]) -> usize
     requires place { place < 2 ^ 31 }
     requires few { length slots.now ≤ 1000 }
     ensures { result ≡ table_end place slots.now }
@@ -61,8 +62,8 @@ pub fn table_end(place: usize, slots: &[Slot]) -> usize
     table_place(place, slots.len()) + slots_end(4, slots)
 }
 
-/// The first place behind a string of these bytes that is laid out from a place on: behind the 0
-/// byte that follows its own.
+/// The first position after a string of these bytes that is laid out from `place` on: after the 0
+/// byte that follows its bytes.
 pub fn bytes_end(place: usize, bytes: &[u8]) -> usize
     requires { place < 2 ^ 32 }
     ensures { result ≡ up 4 place + 4 + length bytes.now + 1 }
@@ -70,8 +71,8 @@ pub fn bytes_end(place: usize, bytes: &[u8]) -> usize
     aligned(place, Width::Four) + 4 + bytes.len() + 1
 }
 
-/// The first place behind a text that is laid out from a place on: behind the 0 byte that follows
-/// its own.
+/// The first position after a text that is laid out from `place` on: after the 0 byte that follows
+/// its bytes.
 pub fn text_end(place: usize, text: &str) -> usize
     requires { place < 2 ^ 32 }
     ensures { result ≡ up 4 place + 4 + length text.now + 1 }
@@ -79,7 +80,7 @@ pub fn text_end(place: usize, text: &str) -> usize
     aligned(place, Width::Four) + 4 + text.len() + 1
 }
 
-/// How many bytes a number takes.
+/// The number of bytes of a number.
 pub(crate) fn byte_count(size: Width) -> usize
     ensures value { result ≡ width size }
     ensures low { 1 ≤ result }
@@ -93,8 +94,8 @@ pub(crate) fn byte_count(size: Width) -> usize
     }
 }
 
-/// How many bytes there are from a place to the next multiple of a width. Each width is divided by
-/// as a constant, which a processor does by a mask.
+/// The number of bytes from a position to the next multiple of a width. Each width is a constant
+/// divisor, for which a processor uses a mask.
 #[tactic(auto, unfolding(crate::specs::Layout::gap))]
 pub(crate) fn gap(size: Width, place: usize) -> usize
     ensures value { result ≡ gap (width size) place }
@@ -108,9 +109,9 @@ pub(crate) fn gap(size: Width, place: usize) -> usize
     }
 }
 
-/// The end of a table's fields, the first of which is laid out from a place on.
+/// The end of a table's fields, the first of which is laid out from `place` on.
 #[tactic(auto, using(crate::proofs::Heads::slots_grow, crate::proofs::Writing::slots_step))]
-pub(crate) fn slots_end(place: usize, slots: &[Slot]) -> usize
+pub(crate) fn slots_end(place: usize, slots: &[FieldValue]) -> usize
     requires { slots_end place slots.now < 2 ^ 16 }
     ensures { result ≡ slots_end place slots.now }
 {
@@ -122,25 +123,25 @@ pub(crate) fn slots_end(place: usize, slots: &[Slot]) -> usize
 }
 
 /// The end of a field.
-pub(crate) fn slot_end(place: usize, slot: Slot) -> usize
+pub(crate) fn slot_end(place: usize, slot: FieldValue) -> usize
     requires { place < 2 ^ 32 }
     ensures { result ≡ slot_end place slot }
 {
     match slot {
-        Slot::Absent => place,
-        Slot::Scalar(size, _) => place + gap(size, place) + byte_count(size),
-        Slot::Target(_) => place + gap(Width::Four, place) + 4,
+        FieldValue::Absent => place,
+        FieldValue::Scalar(size, _) => place + gap(size, place) + byte_count(size),
+        FieldValue::Target(_) => place + gap(Width::Four, place) + 4,
     }
 }
 
-/// What the vtable holds of a field: its place, or 0 where it is absent.
-pub(crate) fn entry_of(place: usize, slot: Slot) -> usize
+/// The vtable's entry for a field: its position, or 0 if it is absent.
+pub(crate) fn entry_of(place: usize, slot: FieldValue) -> usize
     requires { place < 2 ^ 32 }
     ensures { result ≡ entry_of place slot }
 {
     match slot {
-        Slot::Absent => 0,
-        Slot::Scalar(size, _) => place + gap(size, place),
-        Slot::Target(_) => place + gap(Width::Four, place),
+        FieldValue::Absent => 0,
+        FieldValue::Scalar(size, _) => place + gap(size, place),
+        FieldValue::Target(_) => place + gap(Width::Four, place),
     }
 }

@@ -1,20 +1,20 @@
 //! Tables, texts and vectors appended to bytes, front to back.
 //!
-//! What a caller appends stands from the first free place on, behind zero bytes up to where it is
-//! aligned. An offset is written before what it names, so a caller counts the places first (the
-//! calls of `layout`), and nothing that was written is changed. The only error is `AllocError`: a
-//! growth was refused, and the bytes are those of before. A writer with room for all that is
-//! appended grows no more.
+//! An appended object begins at the first free position, after zero bytes up to where it is
+//! aligned. An offset is written before what it names, so a caller computes the positions first
+//! (the functions of `layout`), and nothing that was written is changed. The only error is
+//! `AllocError`: an allocation failed, and the bytes are the same as before. A writer with room for
+//! all that is appended does not allocate any more.
 ghost use Rattle.std.specs.Prelude.{◌≡◌, ◌≤◌, ◌<◌, ◌+◌, ◌*◌, ◌-◌, ◌^◌, ◌++◌, ℕ, List, [], ◌∷◌};
 ghost use Rattle.std.specs.Prelude.{length, take, IsErr, OnOk, OnErr};
 ghost use Rattle.byteorder.specs.Endian.{little_bytes};
 ghost use Rattle.arrow_flatbuf.specs.Layout.{width, gap, zeros, vtable_size, slot_end, slots_end};
 ghost use Rattle.arrow_flatbuf.specs.Layout.{entries, slot_bytes, slots_bytes, table_end};
 ghost use Rattle.arrow_flatbuf.specs.Layout.{table_bytes};
-ghost use Rattle.arrow_flatbuf.specs.Stands.{SlotsFit, SlotFits};
+ghost use Rattle.arrow_flatbuf.specs.Placed.{SlotsFit, SlotFits};
 ghost use Rattle.arrow_flatbuf.specs.Nodes.{text_bytes, count_bytes, pairs_head, pair_bytes};
 
-use crate::layout::{Slot, Width, entry_of, gap, slot_end, slots_end};
+use crate::layout::{FieldValue, Width, entry_of, gap, slot_end, slots_end};
 use std::alloc::AllocError;
 use std::marker::Model;
 
@@ -33,7 +33,8 @@ impl Model for TableWriter {
 }
 
 impl TableWriter {
-    /// A writer of no bytes, which writes into the room of a list. What the list held is dropped.
+    /// A writer of no bytes, which writes into the room of a list. The contents of the list are
+    /// dropped.
     pub fn in_room(room: Vec<u8>) -> Self
         ensures { result ≡ [] }
     {
@@ -42,7 +43,7 @@ impl TableWriter {
         TableWriter { bytes }
     }
 
-    /// The first free place: how many bytes there are.
+    /// The first free position: the number of bytes so far.
     pub fn place(&self) -> usize
         ensures { result ≡ length self.now }
     {
@@ -64,8 +65,8 @@ impl TableWriter {
         bytes
     }
 
-    /// Appends an offset to what is to stand at a place (FlatBuffers internals, "Offsets"): the
-    /// number, in four bytes, of bytes from here to there.
+    /// Appends an offset to content that will be at `target` (FlatBuffers internals, "Offsets"):
+    /// the number, in four bytes, of bytes from here to there.
     pub fn offset(&mut self, target: usize) -> Result<(), AllocError>
         requires { length self.old ≤ target }
         ensures ok { OnOk result (self.new ≡ self.old ++ little_bytes 4 (target - length self.old)) }
@@ -75,13 +76,13 @@ impl TableWriter {
         self.number(Width::Four, (target - here) as u64)
     }
 
-    /// Appends a table behind its vtable (FlatBuffers internals, "Tables"). Its fields come in the
+    /// Appends a table after its vtable (FlatBuffers internals, "Tables"). Its fields come in the
     /// order of their numbers, each at the first free multiple of its size; the vtable has an entry
-    /// for each of them, and the size that it gives the table is where the last of them ends.
+    /// for each of them, and the size that it gives for the table is the end of the last of them.
     ///
-    /// Condition: each number fits its width, and each offset leads behind the table, to a place
-    /// that four bytes can name.
-    pub fn table(&mut self, slots: &[Slot]) -> Result<(), AllocError>
+    /// Condition: each number fits its width, and each offset leads past the end of the table, to a
+    /// position that four bytes can represent.
+    pub fn table(&mut self, slots: &[FieldValue]) -> Result<(), AllocError>
         requires few { length slots.now ≤ 1000 }
         requires fits { SlotsFit (table_end (length self.old) slots.now) slots.now }
         ensures ok { OnOk result (self.new ≡ self.old ++ table_bytes (length self.old) slots.now) }
@@ -103,7 +104,7 @@ impl TableWriter {
         self.bytes(text.as_bytes())
     }
 
-    /// Appends a string of any bytes, as [`TableWriter::text`] does those of a text.
+    /// Appends a string of any bytes, as [`TableWriter::text`] does for those of a text.
     pub fn bytes(&mut self, bytes: &[u8]) -> Result<(), AllocError>
         ensures ok { OnOk result (self.new ≡ self.old ++ text_bytes (length self.old) bytes.now) }
         ensures err { OnErr result (self.new ≡ self.old) }
@@ -115,7 +116,7 @@ impl TableWriter {
         }
     }
 
-    /// Appends the count of a vector of offsets, at a multiple of 4. The offsets stand behind it.
+    /// Appends the count of a vector of offsets, at a multiple of 4. The offsets follow it.
     pub fn count(&mut self, count: usize) -> Result<(), AllocError>
         ensures ok { OnOk result (self.new ≡ self.old ++ count_bytes (length self.old) count) }
         ensures err { OnErr result (self.new ≡ self.old) }
@@ -128,7 +129,7 @@ impl TableWriter {
         }
     }
 
-    /// Appends the count of a vector of pairs of numbers of eight bytes, which stand behind it at a
+    /// Appends the count of a vector of pairs of numbers of eight bytes, which follow it at a
     /// multiple of 8.
     #[tactic(auto, using(crate::proofs::Writing::pairs_begun))]
     pub fn count_pairs(&mut self, pairs: usize) -> Result<(), AllocError>
@@ -161,7 +162,7 @@ impl TableWriter {
         self.zeros(missing)
     }
 
-    /// Cuts the bytes back to the first so many, and hands the fault on.
+    /// Truncates the bytes to the first `before`, and returns the error.
     fn cut_back(&mut self, before: usize, fault: AllocError) -> Result<(), AllocError>
         ensures bytes { self.new ≡ take before self.old }
         ensures fault { IsErr result }
@@ -172,7 +173,7 @@ impl TableWriter {
 
     /// Appends a table and its vtable, part by part.
     #[tactic(auto, using(crate::proofs::Writing::table_done, crate::proofs::Heads::slots_short))]
-    fn table_parts(&mut self, slots: &[Slot]) -> Result<(), AllocError>
+    fn table_parts(&mut self, slots: &[FieldValue]) -> Result<(), AllocError>
         requires few { length slots.now ≤ 1000 }
         requires fits { SlotsFit (table_end (length self.old) slots.now) slots.now }
         ensures ok { OnOk result (self.new ≡ self.old ++ table_bytes (length self.old) slots.now) }
@@ -201,9 +202,9 @@ impl TableWriter {
         self.append(&[0])
     }
 
-    /// Appends what the vtable holds of the fields.
+    /// Appends the vtable's entries for the fields.
     #[tactic(auto, using(crate::proofs::Heads::slots_grow))]
-    fn entries(&mut self, slots: &[Slot]) -> Result<(), AllocError>
+    fn entries(&mut self, slots: &[FieldValue]) -> Result<(), AllocError>
         requires { slots_end 4 slots.now < 2 ^ 16 }
         ensures ok { OnOk result (self.new ≡ self.old ++ entries 4 slots.now) }
         ensures err { OnErr result (take (length self.old) self.new ≡ self.old) }
@@ -218,7 +219,7 @@ impl TableWriter {
 
     /// Appends the fields of a table that begins four bytes before.
     #[tactic(auto, using(crate::proofs::Heads::slots_grow))]
-    fn fields(&mut self, table: usize, slots: &[Slot]) -> Result<(), AllocError>
+    fn fields(&mut self, table: usize, slots: &[FieldValue]) -> Result<(), AllocError>
         requires place { length self.old ≡ table + 4 }
         requires low { slots_end 4 slots.now < 2 ^ 16 }
         requires fits { SlotsFit (table + slots_end 4 slots.now) slots.now }
@@ -233,8 +234,8 @@ impl TableWriter {
         Ok(())
     }
 
-    /// Appends a field of the table at a place, in which `end` is the first free place.
-    fn field(&mut self, table: usize, end: usize, slot: Slot) -> Result<(), AllocError>
+    /// Appends a field of the table at `table`, in which `end` is the first free position.
+    fn field(&mut self, table: usize, end: usize, slot: FieldValue) -> Result<(), AllocError>
         requires place { length self.old ≡ table + end }
         requires low { end < 2 ^ 16 }
         requires fits { SlotFits (table + slot_end end slot) slot }
@@ -242,12 +243,12 @@ impl TableWriter {
         ensures err { OnErr result (take (length self.old) self.new ≡ self.old) }
     {
         match slot {
-            Slot::Absent => Ok(()),
-            Slot::Scalar(size, number) => {
+            FieldValue::Absent => Ok(()),
+            FieldValue::Scalar(size, number) => {
                 self.zeros(gap(size, end))?;
                 self.number(size, number)
             }
-            Slot::Target(target) => {
+            FieldValue::Target(target) => {
                 let missing = gap(Width::Four, end);
                 self.zeros(missing)?;
                 self.number(Width::Four, (target - (table + (end + missing))) as u64)
@@ -292,7 +293,7 @@ impl TableWriter {
     }
 }
 
-// Two numbers of eight bytes, lowest byte first, one behind the other.
+/// Two numbers of eight bytes, lowest byte first, one after the other.
 fn pair_of(first: u64, second: u64) -> [u8; 16]
     ensures { result ≡ pair_bytes ((first, second) ∷ []) }
 {

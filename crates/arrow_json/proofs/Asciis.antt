@@ -61,7 +61,7 @@ all_ascii (b ∷ bytes) h = let both = and_parts (nat_lt b 128) (all_below bytes
 pub hex_utf8 : (bytes : List ℕ) → IsUtf8 (encode_lower bytes)
 hex_utf8 bytes = IsUtf8-from_ascii (encode_lower bytes) (IsAscii-encode_with lower_digits bytes (all_ascii lower_digits refl))
 
--- a digit is ASCII, and so are the digits of a number before a text that is
+-- a digit is ASCII, and so are the digits of a number before an ASCII text
 glyph_low : (b : Bool) (d : ℕ) → d < 10 → (if b then 48 + d else 87 + d) < 128
 glyph_low true d h = omega (arith, h)
 glyph_low false d h = omega (arith, h)
@@ -87,7 +87,7 @@ signed_ascii (negsuc n) = IsAscii-cons 45 (decimal (suc n)) (omega arith) (digit
 counted_utf8 : (z : ℤ) (unit : List ℕ) → all_below unit ≡ true → IsUtf8 (counted z unit)
 counted_utf8 z unit h = IsUtf8-from_ascii (counted z unit) (IsAscii-append (signed_decimal z) unit (signed_ascii z) (all_ascii unit h))
 
--- so many months
+-- a number of months
 pub months_utf8 : (months : ℤ) → IsUtf8 (months_text months)
 months_utf8 months = counted_utf8 months (codes "M") refl
 
@@ -100,6 +100,6 @@ interval_utf8 (MonthDayNano months days nanoseconds) =
     IsUtf8-append (months_text months ++ counted days (codes "d")) (counted nanoseconds (codes "ns"))
     (IsUtf8-append (months_text months) (counted days (codes "d")) (months_utf8 months) (counted_utf8 days (codes "d") refl)) (counted_utf8 nanoseconds (codes "ns") refl)
 
--- what holds of a text that was appended to nothing
+-- a property of a text holds of a list if the text was appended to the empty list
 pub in_room : (P : List ℕ → Type 0) (old new whole : List ℕ) → old ≡ [] → Appends (IsPlain (λ text. text ≡ whole)) old new → P whole → P new
 in_room P old new whole none put holds = subst P (sym (put.2 ∙ (λ i. none i ++ put.1.0 i))) holds

@@ -1,5 +1,5 @@
--- The text of a decimal is a number of JSON (RFC 8259, section 6): digits, maybe a fraction or an exponent, and no 0 in front of
--- other digits.
+-- The text of a decimal is a JSON number (RFC 8259, section 6): digits, possibly a fraction or an exponent, and no 0
+-- before other digits.
 use Rattle.std.proofs.Common.{◌≡◌, ◌<◌, ◌≤◌, ◌+◌, ◌-◌, ◌%◌, ℕ, ℤ, zero, suc, pos, negsuc, Bool, true, false, cond, ◌||◌, ◌==◌, List, [], ◌∷◌, ◌++◌, le-ltb, length, take, drop, replicate, get_or, codes, Some, None, option_and_then, unsigned_abs, inl, inr, refl, sym, ap, ap₂, ◌∙◌, subst, arith, append-nil, append_assoc, length-append, ◌/◌}
 use Rattle.std.proofs.lemmas.Bool.{and_from, cases_lt, eqb-true, le-leb, ne_eqb}
 use Rattle.std.proofs.lemmas.List.{drop_at, length-drop, length-replicate, length-take}
@@ -14,7 +14,7 @@ use Rattle.json.specs.Word.{after_digits, after_exponent, after_fraction, after_
 use Rattle.arrow_csv.specs.Decimals.{decimal_text, numeral, scaled, zero_filled}
 use Rattle.arrow_csv.proofs.LastDigits.{decimal_numeral, numeral_by_steps}
 
--- ---- digits are passed
+-- ---- digits are consumed
 
 digit_range : (d : ℕ) → digit_value d < 10 → (48 ≤ d) × (d ≤ 57)
 digit_range d h = grind arith
@@ -49,7 +49,7 @@ first_of_whole : (z : Bool) (d : ℕ) (ds rest : List ℕ) → (z ≡ true → l
 first_of_whole true d ds rest alone more = ap Some (lone_zero ds rest (alone refl))
 first_of_whole false d ds rest alone more = more
 
--- it is passed, and begins with no minus
+-- it is consumed, and does not begin with a minus
 whole_passed : (ds rest : List ℕ) → IsWhole ds → prefix_len is_ascii_digit rest ≡ 0 → (after_whole (ds ++ rest) ≡ Some rest) × ((head (ds ++ rest) == 45) ≡ false)
 whole_passed [] rest whole none = absurd (omega (arith, whole.some))
 whole_passed (d ∷ ds) rest whole none = (
@@ -107,7 +107,7 @@ first_kept : (xs : List ℕ) (y : ℕ) → 0 < length xs → get_or (xs ++ y ∷
 first_kept [] y h = absurd (omega (arith, h))
 first_kept (x ∷ xs) y h = refl
 
--- what is known of the digits of a number: also that only those of 0 begin with a 0
+-- the digits of a number, and that only those of 0 begin with a 0
 record IsNumeral (n : ℕ) (ds : List ℕ) : Type 0 where
   digits : AllDigits 10 ds
   some : 0 < length ds
@@ -167,7 +167,7 @@ before_point k ds whole =
       ];
     }
 
--- after it there are as many as there are places
+-- after it there are as many digits as there are places
 after_point : (k : ℕ) (ds : List ℕ) → 0 < length (drop (length (zero_filled (suc k + 1) ds) - suc k) (zero_filled (suc k + 1) ds))
 after_point k ds =
     let count = suc k + 1 in
@@ -186,7 +186,7 @@ scaled_number negative (negsuc k) ds whole =
     subst (λ t. IsNumber (sign_text negative ++ t)) (sym (append_assoc ds (codes "e") (numeral (suc k))))
     (number_of_parts negative ds (101 ∷ numeral (suc k)) whole (exponent_ends (numeral (suc k)) (numeral_digits (suc k)) (numeral_whole (suc k)).some))
 
--- each decimal's text is a number
+-- the text of each decimal is a JSON number
 pub decimal_is_number : (scale number : ℤ) → IsNumber (decimal_text scale number)
 decimal_is_number scale number = scaled_number (is_negative number) scale (numeral (unsigned_abs number)) (numeral_whole (unsigned_abs number))
 

@@ -9,7 +9,7 @@ use Rattle.json.specs.Token.{Token, begin_array, end_array, begin_object, end_ob
 use Rattle.json.specs.Tree.{items_tokens, json_tokens, members_tokens}
 use Rattle.json.specs.Value.{items_of}
 use Rattle.json.specs.Written.{Written}
-use Rattle.arrow_types.specs.Field.{Head, Fields, none, more, TypeShape}
+use Rattle.arrow_types.specs.Field.{FieldHeader, FieldTree, none, more, TypeShape}
 use Rattle.arrow_types.specs.View.{field_view, fields_view}
 use Rattle.arrow_types.specs.declared.field.Field.{Field}
 use Rattle.arrow_data.specs.Column.{Column, AreOf, resolved_row_of, values_from}
@@ -18,16 +18,16 @@ use Rattle.arrow_data.specs.Shown.{ListsItems}
 use Rattle.arrow_csv.specs.Texts.{Each}
 use Rattle.arrow_csv.proofs.Joining.{as_many, each_more}
 use Rattle.arrow_json.specs.Kinds.{kind_of}
-use Rattle.arrow_json.specs.declared.kind.Kind.{Kind}
+use Rattle.arrow_json.specs.declared.kind.JsonKind.{JsonKind}
 use Rattle.arrow_json.specs.Scalars.{IsNumberJson, bytes_json}
 use Rattle.arrow_json.specs.Values.{AreItems, AreMembers, IsArrayOf, IsJson, IsObjectOf, members_of}
 use Rattle.arrow_json.specs.Written.{Adds}
 
--- more is known of what was added
+-- a weaker fact about the value that was added
 pub adds_weaker : (P Q : Json → Type 0) (old new : Written) → ((json : Json) → P json → Q json) → Adds P old new → Adds Q old new
 adds_weaker P Q old new f h = (h.0, f h.0 h.1, h.2, h.3)
 
--- of a value that is known more is known
+-- a known value has every property that holds of it
 pub adds_same : (Q : Json → Type 0) (a : Json) (old new : Written) → Q a → Adds (λ json. json ≡ a) old new → Adds Q old new
 adds_same Q a old new q h = (h.0, subst Q (sym h.1) q, h.2, h.3)
 
@@ -42,13 +42,13 @@ items_end : (js : List Json) → items_tokens (items_of js) ≡ flat_map json_to
 items_end [] = refl
 items_end (j ∷ js) = ap (λ ts. json_tokens j ++ ts) (items_end js) ∙ sym (append_assoc (json_tokens j) (flat_map json_tokens js) (end_array ∷ []))
 
--- one item more
+-- one more item
 items_next : (js : List Json) (j : Json) → flat_map json_tokens (js ++ j ∷ []) ≡ flat_map json_tokens js ++ json_tokens j
 items_next js j = flat_map-append json_tokens js (j ∷ []) ∙ ap (λ ts. flat_map json_tokens js ++ ts) (append-nil (json_tokens j))
 
 -- the beginning of an array and the JSON of the values from `start` up to k were added
-abbrev pub ItemsStand : TypeShape → List PlainValue → ℕ → ℕ → Written → Written → Type 0
-ItemsStand type vs start k old new =
+abbrev pub ItemsWritten : TypeShape → List PlainValue → ℕ → ℕ → Written → Written → Type 0
+ItemsWritten type vs start k old new =
     (js : List Json) × Each (IsJson type) (values_from vs start k) js × (new.tokens ≡ old.tokens ++ begin_array ∷ flat_map json_tokens js) × (new.before ≡ old.before)
 
 values_next : (vs : List PlainValue) (start k : ℕ) → start ≤ k → k < length vs → values_from vs start (k + 1) ≡ values_from vs start k ++ value_at vs k ∷ []
@@ -61,38 +61,38 @@ values_next vs start k low high =
     ∙ ap (λ v. take (k - start) rest ++ v ∷ []) (get_or-drop start vs (k - start) null_value ∙ ap (value_at vs) place)
 
 -- none at first
-pub items_none : (type : TypeShape) (vs : List PlainValue) (start : ℕ) (old new : Written) → new.tokens ≡ old.tokens ++ begin_array ∷ [] → new.before ≡ old.before → ItemsStand type vs start start old new
+pub items_none : (type : TypeShape) (vs : List PlainValue) (start : ℕ) (old new : Written) → new.tokens ≡ old.tokens ++ begin_array ∷ [] → new.before ≡ old.before → ItemsWritten type vs start start old new
 items_none type vs start old new put before =
     let none : 0 ≡ start - start = omega arith in
     ([], subst (λ n. Each (IsJson type) (take n (drop start vs)) []) none tt, put, before)
 
--- one item more
-pub items_more : (type : TypeShape) (vs : List PlainValue) (start k : ℕ) (old out new : Written) → start ≤ k → k < length vs → ItemsStand type vs start k old out
-    → Adds (IsJson type (value_at vs k)) out new → ItemsStand type vs start (k + 1) old new
-items_more type vs start k old out new low high stand put =
-    let js = stand.0 in
+-- one more item
+pub items_more : (type : TypeShape) (vs : List PlainValue) (start k : ℕ) (old out new : Written) → start ≤ k → k < length vs → ItemsWritten type vs start k old out
+    → Adds (IsJson type (value_at vs k)) out new → ItemsWritten type vs start (k + 1) old new
+items_more type vs start k old out new low high written put =
+    let js = written.0 in
     let j = put.0 in
-    let each = subst (λ xs. Each (IsJson type) xs (js ++ j ∷ [])) (sym (values_next vs start k low high)) (each_more (IsJson type) (values_from vs start k) js (value_at vs k) j stand.1 put.1) in (
+    let each = subst (λ xs. Each (IsJson type) xs (js ++ j ∷ [])) (sym (values_next vs start k low high)) (each_more (IsJson type) (values_from vs start k) js (value_at vs k) j written.1 put.1) in (
       js ++ j ∷ [],
       each,
-      put.2 ∙ ap (λ ts. ts ++ json_tokens j) stand.2 ∙ append_assoc old.tokens (begin_array ∷ flat_map json_tokens js) (json_tokens j) ∙ ap (λ ts. old.tokens ++ begin_array ∷ ts) (sym (items_next js j)),
-      put.3 ∙ stand.3,
+      put.2 ∙ ap (λ ts. ts ++ json_tokens j) written.2 ∙ append_assoc old.tokens (begin_array ∷ flat_map json_tokens js) (json_tokens j) ∙ ap (λ ts. old.tokens ++ begin_array ∷ ts) (sym (items_next js j)),
+      put.3 ∙ written.3,
     )
 
 -- all items
-pub items_done : (type : TypeShape) (vs : List PlainValue) (start k end : ℕ) (old out new : Written) → k ≡ end → ItemsStand type vs start k old out → new.tokens ≡ out.tokens ++ end_array ∷ [] → new.before ≡ out.before
+pub items_done : (type : TypeShape) (vs : List PlainValue) (start k end : ℕ) (old out new : Written) → k ≡ end → ItemsWritten type vs start k old out → new.tokens ≡ out.tokens ++ end_array ∷ [] → new.before ≡ out.before
     → Adds (IsArrayOf type (values_from vs start end)) old new
-items_done type vs start k end old out new at stand put before =
-    let js = stand.0 in
-    let each = subst (λ n. Each (IsJson type) (values_from vs start n) js) at stand.1 in (
+items_done type vs start k end old out new at written put before =
+    let js = written.0 in
+    let each = subst (λ n. Each (IsJson type) (values_from vs start n) js) at written.1 in (
       array (items_of js),
       (js, each, refl),
-      put ∙ ap (λ ts. ts ++ end_array ∷ []) stand.2 ∙ append_assoc old.tokens (begin_array ∷ flat_map json_tokens js) (end_array ∷ []) ∙ ap (λ ts. old.tokens ++ begin_array ∷ ts) (sym (items_end js)),
-      before ∙ stand.3,
+      put ∙ ap (λ ts. ts ++ end_array ∷ []) written.2 ∙ append_assoc old.tokens (begin_array ∷ flat_map json_tokens js) (end_array ∷ []) ∙ ap (λ ts. old.tokens ++ begin_array ∷ ts) (sym (items_end js)),
+      before ∙ written.3,
     )
 
 -- the JSON of a list's items is that of its values, each by the child's type
-items_are : (fields : Fields) (child : Column) (vs : List PlainValue) (js : List Json) → AreOf fields (child ∷ []) → Each (IsJson child.data_type) vs js → AreItems fields (values_of vs) js
+items_are : (fields : FieldTree) (child : Column) (vs : List PlainValue) (js : List Json) → AreOf fields (child ∷ []) → Each (IsJson child.data_type) vs js → AreItems fields (values_of vs) js
 items_are none child vs js typed h = absurd typed
 items_are (more head children rest) child [] [] typed h = refl
 items_are (more head children rest) child [] (j ∷ js) typed h = absurd h
@@ -107,17 +107,17 @@ list_json c child i start stop json h list =
     subst (λ v. IsJson c.data_type v json) (sym h.same) is
 
 -- the JSON of the number is that of the value
-pub number_json : (type : TypeShape) (kind : Kind) (v : PlainValue) (z : ℤ) (json : Json) → v ≡ int_value z → kind ≡ kind_of type.tag → IsNumberJson kind z json → IsJson type v json
+pub number_json : (type : TypeShape) (kind : JsonKind) (v : PlainValue) (z : ℤ) (json : Json) → v ≡ int_value z → kind ≡ kind_of type.tag → IsNumberJson kind z json → IsJson type v json
 number_json type kind v z json holds same is =
     subst (λ w. IsJson type w json) (sym holds) (subst (λ k. IsNumberJson k z json) same is)
 
 -- the JSON of the bytes is that of the value
-pub binary_json : (type : TypeShape) (kind : Kind) (v : PlainValue) (bytes : List ℕ) (json : Json) → v ≡ binary_value bytes → kind ≡ kind_of type.tag → json ≡ bytes_json kind bytes → IsJson type v json
+pub binary_json : (type : TypeShape) (kind : JsonKind) (v : PlainValue) (bytes : List ℕ) (json : Json) → v ≡ binary_value bytes → kind ≡ kind_of type.tag → json ≡ bytes_json kind bytes → IsJson type v json
 binary_json type kind v bytes json holds same is =
     subst (λ w. IsJson type w json) (sym holds) (is ∙ ap (λ k. bytes_json k bytes) same)
 
 -- an object of the parts is the JSON of the struct
-pub struct_json : (type : TypeShape) (fields : Fields) (values : List PlainValue) (v : PlainValue) (json : Json) → v ≡ struct_value (values_of values) → fields ≡ type.children → IsObjectOf fields values json → IsJson type v json
+pub struct_json : (type : TypeShape) (fields : FieldTree) (values : List PlainValue) (v : PlainValue) (json : Json) → v ≡ struct_value (values_of values) → fields ≡ type.children → IsObjectOf fields values json → IsJson type v json
 struct_json type fields values v json holds same is =
     let own : IsJson type (struct_value (values_of values)) json = (is.0, subst (λ fs. AreMembers fs (values_of values) is.0) same is.1, is.2) in
     subst (λ w. IsJson type w json) (sym holds) own
@@ -137,12 +137,12 @@ members_next : (ms : List (List ℕ × Json)) (m : List ℕ × Json) → flat_ma
 members_next ms m = flat_map-append member_tokens ms (m ∷ []) ∙ ap (λ ts. flat_map member_tokens ms ++ ts) (append-nil (member_tokens m))
 
 -- the beginning of an object and the members of the first k fields were added
-abbrev pub PartsStand : List Field → List Column → ℕ → ℕ → Written → Written → Type 0
-PartsStand fs cs place k old new =
+abbrev pub PartsWritten : List Field → List Column → ℕ → ℕ → Written → Written → Type 0
+PartsWritten fs cs place k old new =
     (ms : List (List ℕ × Json)) × AreMembers (fields_view (take k fs)) (values_of (resolved_row_of (take k cs) place)) ms
     × (new.tokens ≡ old.tokens ++ begin_object ∷ flat_map member_tokens ms) × (new.before ≡ old.before)
 
-part_json : (head : Head) (children : Fields) (d c : Column) (place : ℕ) (json : Json) → d.data_type ≡ record { tag = head.tag; children = children } → c ≡ d → IsJson c.data_type (value_at c.resolved place) json
+part_json : (head : FieldHeader) (children : FieldTree) (d c : Column) (place : ℕ) (json : Json) → d.data_type ≡ record { tag = head.tag; children = children } → c ≡ d → IsJson c.data_type (value_at c.resolved place) json
     → IsJson (record { tag = head.tag; children = children }) (value_at d.resolved place) json
 part_json head children d c place json typed same is =
     subst (λ type. IsJson type (value_at d.resolved place) json) typed (subst (λ (x : Column). IsJson x.data_type (value_at x.resolved place) json) same is)
@@ -151,46 +151,46 @@ parts_next : (fs : List Field) (cs : List Column) (place k : ℕ) (f : Field) (c
     → AreMembers (fields_view (take k fs)) (values_of (resolved_row_of (take k cs) place)) ms
     → m.0 ≡ (field_view f).head.name → IsJson c.data_type (value_at c.resolved place) m.1
     → AreMembers (fields_view (take (suc k) fs)) (values_of (resolved_row_of (take (suc k) cs) place)) (ms ++ m ∷ [])
-parts_next [] [] place k f c ms m typed h p q stand named is = absurd (omega (arith, h))
-parts_next [] (d ∷ ds) place k f c ms m typed h p q stand named is = absurd typed
-parts_next (g ∷ gs) [] place k f c ms m typed h p q stand named is = absurd typed
-parts_next (g ∷ gs) (d ∷ ds) place zero f c [] m typed h p q stand named is =
+parts_next [] [] place k f c ms m typed h p q written named is = absurd (omega (arith, h))
+parts_next [] (d ∷ ds) place k f c ms m typed h p q written named is = absurd typed
+parts_next (g ∷ gs) [] place k f c ms m typed h p q written named is = absurd typed
+parts_next (g ∷ gs) (d ∷ ds) place zero f c [] m typed h p q written named is =
     (named ∙ ap (λ x. (field_view x).head.name) p, part_json (field_view g).head (field_view g).children d c place m.1 typed.0 q is, refl)
-parts_next (g ∷ gs) (d ∷ ds) place zero f c (n ∷ ms) m typed h p q stand named is = absurd (cc stand)
-parts_next (g ∷ gs) (d ∷ ds) place (suc k) f c [] m typed h p q stand named is = absurd stand
-parts_next (g ∷ gs) (d ∷ ds) place (suc k) f c (n ∷ ms) m typed h p q stand named is =
-    (stand.0, stand.1, parts_next gs ds place k f c ms m typed.2 (omega (arith, h)) p q stand.2 named is)
+parts_next (g ∷ gs) (d ∷ ds) place zero f c (n ∷ ms) m typed h p q written named is = absurd (cc written)
+parts_next (g ∷ gs) (d ∷ ds) place (suc k) f c [] m typed h p q written named is = absurd written
+parts_next (g ∷ gs) (d ∷ ds) place (suc k) f c (n ∷ ms) m typed h p q written named is =
+    (written.0, written.1, parts_next gs ds place k f c ms m typed.2 (omega (arith, h)) p q written.2 named is)
 
 -- none at first
-pub parts_none : (fs : List Field) (cs : List Column) (place : ℕ) (old new : Written) → new.tokens ≡ old.tokens ++ begin_object ∷ [] → new.before ≡ old.before → PartsStand fs cs place 0 old new
+pub parts_none : (fs : List Field) (cs : List Column) (place : ℕ) (old new : Written) → new.tokens ≡ old.tokens ++ begin_object ∷ [] → new.before ≡ old.before → PartsWritten fs cs place 0 old new
 parts_none fs cs place old new put before = ([], refl, put, before)
 
--- one member more: its name, and the JSON of its value
+-- one more member: its name, and the JSON of its value
 pub parts_more : (fs : List Field) (cs : List Column) (place k : ℕ) (f : Field) (c : Column) (name : List ℕ) (old out named new : Written) → AreOf (fields_view fs) cs → k < length cs → f ≡ get_or fs k f → c ≡ get_or cs k c
-    → PartsStand fs cs place k old out → name ≡ (field_view f).head.name → named.tokens ≡ out.tokens ++ key name ∷ [] → named.before ≡ out.before
-    → Adds (IsJson c.data_type (value_at c.resolved place)) named new → PartsStand fs cs place (k + 1) old new
-parts_more fs cs place k f c name old out named new typed h p q stand is put before added =
-    let ms = stand.0 in
+    → PartsWritten fs cs place k old out → name ≡ (field_view f).head.name → named.tokens ≡ out.tokens ++ key name ∷ [] → named.before ≡ out.before
+    → Adds (IsJson c.data_type (value_at c.resolved place)) named new → PartsWritten fs cs place (k + 1) old new
+parts_more fs cs place k f c name old out named new typed h p q written is put before added =
+    let ms = written.0 in
     let m : List ℕ × Json = (name, added.0) in
     let next : suc k ≡ k + 1 = omega arith in
-    let all = subst (λ n. AreMembers (fields_view (take n fs)) (values_of (resolved_row_of (take n cs) place)) (ms ++ m ∷ [])) next (parts_next fs cs place k f c ms m typed h p q stand.1 is added.1) in (
+    let all = subst (λ n. AreMembers (fields_view (take n fs)) (values_of (resolved_row_of (take n cs) place)) (ms ++ m ∷ [])) next (parts_next fs cs place k f c ms m typed h p q written.1 is added.1) in (
       ms ++ m ∷ [],
       all,
-      added.2 ∙ ap (λ ts. ts ++ json_tokens added.0) (put ∙ ap (λ ts. ts ++ key name ∷ []) stand.2) ∙ append_assoc (old.tokens ++ begin_object ∷ flat_map member_tokens ms) (key name ∷ []) (json_tokens added.0)
+      added.2 ∙ ap (λ ts. ts ++ json_tokens added.0) (put ∙ ap (λ ts. ts ++ key name ∷ []) written.2) ∙ append_assoc (old.tokens ++ begin_object ∷ flat_map member_tokens ms) (key name ∷ []) (json_tokens added.0)
           ∙ append_assoc old.tokens (begin_object ∷ flat_map member_tokens ms) (member_tokens m) ∙ ap (λ ts. old.tokens ++ begin_object ∷ ts) (sym (members_next ms m)),
-      added.3 ∙ before ∙ stand.3,
+      added.3 ∙ before ∙ written.3,
     )
 
 -- all members
-pub parts_done : (fs : List Field) (cs : List Column) (place k : ℕ) (old out new : Written) → AreOf (fields_view fs) cs → length cs ≤ k → PartsStand fs cs place k old out → new.tokens ≡ out.tokens ++ end_object ∷ [] → new.before ≡ out.before
+pub parts_done : (fs : List Field) (cs : List Column) (place k : ℕ) (old out new : Written) → AreOf (fields_view fs) cs → length cs ≤ k → PartsWritten fs cs place k old out → new.tokens ≡ out.tokens ++ end_object ∷ [] → new.before ≡ out.before
     → Adds (IsObjectOf (fields_view fs) (resolved_row_of cs place)) old new
-parts_done fs cs place k old out new typed h stand put before =
-    let ms = stand.0 in
+parts_done fs cs place k old out new typed h written put before =
+    let ms = written.0 in
     let fields = take_all k fs (omega (arith, h, as_many fs cs typed)) in
     let columns = take_all k cs h in
-    let are = subst (λ ds. AreMembers (fields_view fs) (values_of (resolved_row_of ds place)) ms) columns (subst (λ gs. AreMembers (fields_view gs) (values_of (resolved_row_of (take k cs) place)) ms) fields stand.1) in (
+    let are = subst (λ ds. AreMembers (fields_view fs) (values_of (resolved_row_of ds place)) ms) columns (subst (λ gs. AreMembers (fields_view gs) (values_of (resolved_row_of (take k cs) place)) ms) fields written.1) in (
       object (members_of ms),
       (ms, are, refl),
-      put ∙ ap (λ ts. ts ++ end_object ∷ []) stand.2 ∙ append_assoc old.tokens (begin_object ∷ flat_map member_tokens ms) (end_object ∷ []) ∙ ap (λ ts. old.tokens ++ begin_object ∷ ts) (sym (members_end ms)),
-      before ∙ stand.3,
+      put ∙ ap (λ ts. ts ++ end_object ∷ []) written.2 ∙ append_assoc old.tokens (begin_object ∷ flat_map member_tokens ms) (end_object ∷ []) ∙ ap (λ ts. old.tokens ++ begin_object ∷ ts) (sym (members_end ms)),
+      before ∙ written.3,
     )

@@ -14,7 +14,7 @@ use Rattle.arrow_json.proofs.ReadBack.{row_reads}
 
 -- ---- numbers
 
--- a byte that is none changes nothing
+-- a byte that is not a line feed changes nothing
 kept : (x : ℕ) (xs : List ℕ) → (x == 10) ≡ false → has_line_feed (x ∷ xs) ≡ has_line_feed xs
 kept x xs other = ap (λ b. b || has_line_feed xs) other
 
@@ -39,7 +39,7 @@ either_kept : (a b : ℕ) (t : List ℕ) → (a == 10) ≡ false → (b == 10) �
 either_kept a b t p q (inl e) = one_kept a t p e
 either_kept a b t p q (inr e) = one_kept b t q e
 
--- what a part of the grammar leaves has a line feed if the text before it had one
+-- the bytes that a part of the grammar leaves have a line feed exactly if the text before it had one
 abbrev Keeps : List ℕ → Option (List ℕ) → Type 0
 Keeps t None = Unit {0}
 Keeps t (Some r) = has_line_feed r ≡ has_line_feed t
@@ -52,7 +52,7 @@ then_keeps : (t : List ℕ) (o : Option (List ℕ)) (f : List ℕ → Option (Li
 then_keeps t None f h g = tt
 then_keeps t (Some r) f h g = moved t r (f r) h (g r)
 
--- one of two ways
+-- one of two branches
 by_test : (t : List ℕ) (b : Bool) (x y : Option (List ℕ)) → (b ≡ true → Keeps t x) → Keeps t y → Keeps t (cond b x y)
 by_test t true x y f g = f refl
 by_test t false x y f g = g

@@ -1,4 +1,5 @@
--- The JSON of a row nests no deeper than its schema, and its numbers are numbers: so its text reads back.
+-- The JSON of a row nests no deeper than its schema, and its numbers are JSON numbers: so its text parses as this
+-- JSON.
 use Rattle.std.proofs.Common.{◌≡◌, ◌≤◌, ◌+◌, ℕ, ℤ, pos, Bool, true, false, List, [], ◌∷◌, Option, None, Some, sym, subst, arith}
 use Rattle.std.specs.Bool.{MatchBool}
 use Rattle.std.specs.Float.{Format}
@@ -9,7 +10,7 @@ use Rattle.json.specs.Value.{items_of}
 use Rattle.json.proofs.Printed.Trees.{document-print}
 use Rattle.ryu.specs.Plain.{word_of}
 use Rattle.hex.specs.Hex.{encode_lower}
-use Rattle.arrow_types.specs.Field.{Fields, none, more, TypeShape, levels}
+use Rattle.arrow_types.specs.Field.{FieldTree, none, more, TypeShape, levels}
 use Rattle.arrow_data.specs.Batch.{IsTable, Table}
 use Rattle.arrow_data.specs.Column.{resolved_row_of}
 use Rattle.arrow_data.specs.Decimals.{decimal_of_bytes, unscaled_of}
@@ -19,8 +20,8 @@ use Rattle.arrow_data.specs.declared.decimals.Decimal.{Decimal as Wide}
 use Rattle.arrow_data.specs.declared.intervals.Interval.{Interval as Many}
 use Rattle.arrow_csv.specs.Decimals.{decimal_text}
 use Rattle.arrow_csv.specs.Intervals.{interval_text}
-use Rattle.arrow_json.specs.declared.kind.Kind.{Kind}
-use Rattle.arrow_json.specs.declared.kind.Kind.TheVariants.{Float, Decimal, Interval, Plain}
+use Rattle.arrow_json.specs.declared.kind.JsonKind.{JsonKind}
+use Rattle.arrow_json.specs.declared.kind.JsonKind.TheVariants.{Float, Decimal, Interval, Plain}
 use Rattle.arrow_json.specs.Kinds.{kind_of}
 use Rattle.arrow_json.specs.Laws.{RowReadsBack}
 use Rattle.arrow_json.specs.Lines.{IsRowJson, as_row}
@@ -28,7 +29,7 @@ use Rattle.arrow_json.specs.Scalars.{IsNumberJson, ReadsBack, bytes_json}
 use Rattle.arrow_json.specs.Values.{AreItems, AreMembers, IsJson, members_of}
 use Rattle.arrow_json.proofs.DecimalNumbers.{decimal_is_number}
 
--- its numbers are numbers, and it nests so deep at most
+-- its numbers are JSON numbers, and it nests at most this deep
 abbrev pub Reads : ℕ → Json → Type 0
 Reads n json = HasNumbers json × (depth json ≤ n)
 
@@ -38,7 +39,7 @@ float_reads : (b : Bool) (format : Format) (x : floats.Float) (n : ℕ) (json : 
 float_reads true format x n json h = subst (Reads n) (sym h.1) (h.2, omega arith)
 float_reads false format x n json h = subst (Reads n) (sym h) (tt, omega arith)
 
-number_reads : (kind : Kind) (z : ℤ) (n : ℕ) (json : Json) → IsNumberJson kind z json → Reads n json
+number_reads : (kind : JsonKind) (z : ℤ) (n : ℕ) (json : Json) → IsNumberJson kind z json → Reads n json
 number_reads (Float precision) z n json h = float_reads _ _ _ n json h
 number_reads (Decimal scale) z n json h = subst (Reads n) (sym h) (decimal_is_number scale z, omega arith)
 number_reads (Interval unit) z n json h = subst (Reads n) (sym h) (tt, omega arith)
@@ -52,7 +53,7 @@ many_reads : (o : Option Many) (bytes : List ℕ) (n : ℕ) → Reads n (elim o 
 many_reads None bytes n = (tt, omega arith)
 many_reads (Some interval) bytes n = (tt, omega arith)
 
-bytes_read : (kind : Kind) (bytes : List ℕ) (n : ℕ) → Reads n (bytes_json kind bytes)
+bytes_read : (kind : JsonKind) (bytes : List ℕ) (n : ℕ) → Reads n (bytes_json kind bytes)
 bytes_read (Float precision) bytes n = (tt, omega arith)
 bytes_read (Decimal scale) bytes n = wide_reads (decimal_of_bytes scale bytes) bytes n
 bytes_read (Interval unit) bytes n = many_reads (interval_of_bytes unit bytes) bytes n
@@ -80,7 +81,7 @@ mutual
       let inner = members_read type.children parts h.0 h.1 in
       subst (Reads (levels type.children + 1)) (sym h.2) (inner.0, omega (arith, inner.1))
 
-  items_read : (fields : Fields) (values : PlainValues) (js : List Json) → AreItems fields values js → ItemsRead (levels fields) js
+  items_read : (fields : FieldTree) (values : PlainValues) (js : List Json) → AreItems fields values js → ItemsRead (levels fields) js
   items_read none values js h = subst (ItemsRead 0) (sym h) (tt, omega arith)
   items_read (more head children rest) no_values js h = subst (ItemsRead (levels (more head children rest))) (sym h) (tt, omega arith)
   items_read (more head children rest) (more_values v vs) [] h = absurd h
@@ -89,7 +90,7 @@ mutual
       let others = items_read (more head children rest) vs js h.1 in
       ((own.0, others.0), omega (arith, own.1, others.1))
 
-  members_read : (fields : Fields) (values : PlainValues) (ms : List (List ℕ × Json)) → AreMembers fields values ms → MembersRead (levels fields) ms
+  members_read : (fields : FieldTree) (values : PlainValues) (ms : List (List ℕ × Json)) → AreMembers fields values ms → MembersRead (levels fields) ms
   members_read none values ms h = subst (MembersRead 0) (sym h) (tt, omega arith)
   members_read (more head children rest) no_values ms h = subst (MembersRead (levels (more head children rest))) (sym h) (tt, omega arith)
   members_read (more head children rest) (more_values v vs) [] h = absurd h
@@ -105,6 +106,6 @@ row_reads batch i json table h =
     let shallow = table.schema.bounded.shallow in
     subst (Reads 33) (sym h.2) (inner.0, omega (arith, inner.1, shallow))
 
--- its text reads back
+-- its text parses as this JSON
 pub row_reads_back : RowReadsBack
 row_reads_back batch i json table h = let reads = row_reads batch i json table h in document-print json reads.0 (omega (arith, reads.1))

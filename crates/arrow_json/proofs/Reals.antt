@@ -19,14 +19,14 @@ finite_added format x old new finite text before =
     let back : ReadsBack format x (number text.0) = (text.0, refl, IsNumber-plain text.0 text.2, text.3) in
     (number text.0, subst (λ b. MatchBool b (ReadsBack format x (number text.0)) (number text.0 ≡ string (word_of x))) (sym finite) back, text.1, before)
 
--- any other one as a string
+-- any other number as a string
 pub word_added : (format : Format) (x : Float) (old new : Written) (word : List ℕ) → float_is_finite x ≡ false → word ≡ word_of x
     → new.tokens ≡ old.tokens ++ tokens.string word ∷ [] → new.before ≡ old.before → Adds (IsFloatJson format x) old new
 word_added format x old new word infinite is put before =
     let text : string word ≡ string (word_of x) = ap string is in
     (string word, subst (λ b. MatchBool b (ReadsBack format x (string word)) (string word ≡ string (word_of x))) (sym infinite) text, put, before)
 
--- the same where the writing may have failed
+-- the same if the writing may have failed
 pub finite_written : {E : Type 0} (r : Result (Unit {0}) E) (format : Format) (x : Float) (old new : Written) → float_is_finite x ≡ true
     → OnOk r ((s : List ℕ) × (new.tokens ≡ old.tokens ++ tokens.number s ∷ []) × IsPlainNumber s × (parse_float format s ≡ Some x)) → new.before ≡ old.before → OnOk r (Adds (IsFloatJson format x) old new)
 finite_written r format x old new finite text before = on_ok_weaker r (λ t. finite_added format x old new finite t before) text

@@ -1,11 +1,11 @@
 -- How the numbers and the bytes of a type are shown.
-use Rattle.arrow_types.specs.DataType.{Tag}
+use Rattle.arrow_types.specs.DataType.{TypeId}
 use Rattle.arrow_types.specs.DataType as tags
-use Rattle.arrow_json.specs.declared.kind.Kind.{Kind}
-use Rattle.arrow_json.specs.declared.kind.Kind.TheVariants.{Float, Decimal, Interval, Plain}
+use Rattle.arrow_json.specs.declared.kind.JsonKind.{JsonKind}
+use Rattle.arrow_json.specs.declared.kind.JsonKind.TheVariants.{Float, Decimal, Interval, Plain}
 
 -- floating-point numbers, decimals and intervals as such; dates, times, timestamps and durations as the numbers of their units
-abbrev pub kind_of : Tag → Kind
+abbrev pub kind_of : TypeId → JsonKind
 kind_of (tags.floating_point precision) = Float precision
 kind_of (tags.decimal width precision scale) = Decimal scale
 kind_of (tags.interval unit) = Interval unit

@@ -1,4 +1,4 @@
--- Rows as lines of JSON, a value a line (RFC 8259, section 2; the lines are those of JSON Lines).
+-- Rows as lines of JSON, one value per line (RFC 8259, section 2; the lines are those of JSON Lines).
 use Rattle.std.specs.Prelude.{◌≡◌, ◌-◌, ◌++◌, ℕ, List, codes, map, take}
 use Rattle.std.specs.List.{flat_map, range_with_len}
 use Rattle.json.specs.Json.{Json}
@@ -42,7 +42,7 @@ line_of json = json_text json ++ codes "\n"
 abbrev pub AreLines : List Row → List ℕ → Type 0
 AreLines rows text = (js : List Json) × Each IsRowJson rows js × (text ≡ flat_map line_of js)
 
--- the lines of the first ones of these rows, so many or all of them
+-- the lines of some number of the first of these rows, possibly all
 abbrev pub AreFirstLines : List Row → List ℕ → Type 0
 AreFirstLines rows text = (count : ℕ) × AreLines (take count rows) text
 

@@ -1,4 +1,4 @@
--- What is written of values, token by token. Only the crate's private clauses cite these.
+-- How values are written, token by token. Only the crate's private contracts use these.
 use Rattle.std.specs.Prelude.{◌≡◌, ◌++◌}
 use Rattle.json.specs.Json.{Json}
 use Rattle.json.specs.Tree.{json_tokens}

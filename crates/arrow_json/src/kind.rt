@@ -8,7 +8,7 @@ use arrow_types::{DataType, IntervalUnit, Precision};
 
 /// How the numbers and the bytes of a type are shown.
 #[derive(Clone, Copy)]
-pub(crate) enum Kind {
+pub(crate) enum JsonKind {
     /// As floating-point numbers, which are given by their bits.
     Float(Precision),
     /// As decimals of this scale, which are given by whole numbers.
@@ -19,15 +19,15 @@ pub(crate) enum Kind {
     Plain,
 }
 
-impl Kind {
-    /// That of the values of a type.
-    pub(crate) fn of(data_type: &DataType) -> Kind
+impl JsonKind {
+    /// The kind of the values of a type.
+    pub(crate) fn of(data_type: &DataType) -> JsonKind
         ensures { result ≡ kind_of (type_view data_type.now).tag }
     {
         match data_type {
-            DataType::FloatingPoint(precision) => Kind::Float(*precision),
-            DataType::Decimal { scale, .. } => Kind::Decimal(*scale),
-            DataType::Interval(unit) => Kind::Interval(*unit),
+            DataType::FloatingPoint(precision) => JsonKind::Float(*precision),
+            DataType::Decimal { scale, .. } => JsonKind::Decimal(*scale),
+            DataType::Interval(unit) => JsonKind::Interval(*unit),
             DataType::Null
             | DataType::Bool
             | DataType::Int { .. }
@@ -44,7 +44,7 @@ impl Kind {
             | DataType::LargeList(_)
             | DataType::FixedSizeList(..)
             | DataType::Struct(_)
-            | DataType::Map(..) => Kind::Plain,
+            | DataType::Map(..) => JsonKind::Plain,
         }
     }
 }

@@ -1,15 +1,15 @@
-//! Laws over definitions alone.
+//! Laws that are only about definitions.
 
 ghost use Rattle.arrow_json.specs.Laws.{RowIsOneLine, RowReadsBack};
 
-/// The text of a row is one JSON value: it reads back as the JSON of the row, and its members in
-/// their order, whatever its columns are named and however its values nest, since a schema has at
-/// most 32 levels.
+/// The text of a row is one JSON value: it parses as the JSON of the row, with the members in their
+/// order, whatever the names of its columns and however its values nest, since a schema has at most
+/// 32 levels.
 pub fn row_reads_back()
     ensures reads { RowReadsBack }
 {}
 
-/// The text of a row has no line feed: so the lines of rows are parted by their line feeds alone.
+/// The text of a row has no line feed: so only line feeds separate the lines of rows.
 pub fn row_is_one_line()
     ensures one { RowIsOneLine }
 {}

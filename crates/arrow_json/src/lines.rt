@@ -10,7 +10,7 @@ use json::Writer;
 use std::alloc::{AllocError, Global};
 use std::ops::Range;
 
-/// The lines of these rows of a batch: of each an object with a member for each column, and a line
+/// The lines of these rows of a batch: for each an object with a member for each column, and a line
 /// feed.
 pub fn lines_of(alloc: Global, batch: &Batch, rows: Range<usize>) -> Result<Vec<u8>, AllocError>
     requires order { rows.start ≤ rows.end }
@@ -25,7 +25,8 @@ pub fn lines_of(alloc: Global, batch: &Batch, rows: Range<usize>) -> Result<Vec<
     Ok(text)
 }
 
-/// A text with the line of a row after it; and the room in which the texts of its values were made.
+/// A text with the line of a row appended, and the scratch buffer in which the texts of its values
+/// were made.
 fn with_line(
     text: Vec<u8>,
     room: Vec<u8>,

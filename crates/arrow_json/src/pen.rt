@@ -1,4 +1,4 @@
-//! A row on its way into text.
+//! A row that is being written as text.
 
 ghost use Rattle.std.specs.Prelude.{◌≡◌, OnOk, IsUtf8};
 ghost use Rattle.json.specs.Json.{number, string};
@@ -8,8 +8,8 @@ ghost use Rattle.arrow_json.specs.Written.{Adds};
 use json::Writer;
 use std::alloc::AllocError;
 
-/// A row on its way into text: its tokens so far, and the room in which the texts of decimals, of
-/// intervals and of bytes are made, one after another.
+/// A row that is being written as text: its tokens so far, and the scratch buffer in which the
+/// texts of decimals, of intervals and of bytes are made, one after another.
 #[derive(Drop)]
 pub(crate) struct Pen {
     pub(crate) writer: Writer,
@@ -17,7 +17,7 @@ pub(crate) struct Pen {
 }
 
 impl Pen {
-    /// Writes what is in the room as a number.
+    /// Writes the contents of the scratch buffer as a number.
     pub(crate) fn number(&mut self) -> Result<(), AllocError>
         requires number { IsNumber self.old.room.items }
         requires text { IsUtf8 self.old.room.items }
@@ -30,7 +30,7 @@ impl Pen {
         self.writer.number(text)
     }
 
-    /// Writes what is in the room as a string.
+    /// Writes the contents of the scratch buffer as a string.
     pub(crate) fn string(&mut self) -> Result<(), AllocError>
         requires { IsUtf8 self.old.room.items }
         ensures { OnOk result (Adds (λ json. json ≡ string self.old.room.items)

@@ -13,7 +13,7 @@ ghost use Rattle.arrow_csv.specs.Intervals.{interval_text, months_text};
 ghost use Rattle.arrow_json.specs.Scalars.{IsFloatJson, IsNumberJson, bytes_json};
 ghost use Rattle.arrow_json.specs.Written.{Adds};
 
-use crate::kind::Kind;
+use crate::kind::JsonKind;
 use crate::pen::Pen;
 use arrow_csv::{push_bytes, push_decimal, push_interval, push_months, push_wide_decimal};
 use arrow_data::floats::bits_in;
@@ -24,32 +24,32 @@ use std::alloc::AllocError;
 use std::num::{f32_from_bits_with_nan, f64_from_bits_with_nan};
 
 /// Writes a number of this kind.
-pub(crate) fn write_int(pen: &mut Pen, kind: Kind, number: i128) -> Result<(), AllocError>
+pub(crate) fn write_int(pen: &mut Pen, kind: JsonKind, number: i128) -> Result<(), AllocError>
     ensures { OnOk result (Adds (IsNumberJson kind number) pen.old.writer pen.new.writer) }
 {
     match kind {
-        Kind::Float(precision) => write_float(pen, precision, bits_in(number)),
-        Kind::Decimal(scale) => write_decimal(pen, scale, number),
-        Kind::Interval(_) => write_months(pen, number),
-        Kind::Plain => write_number(pen, number),
+        JsonKind::Float(precision) => write_float(pen, precision, bits_in(number)),
+        JsonKind::Decimal(scale) => write_decimal(pen, scale, number),
+        JsonKind::Interval(_) => write_months(pen, number),
+        JsonKind::Plain => write_number(pen, number),
     }
 }
 
 /// Writes bytes of this kind.
-pub(crate) fn write_bytes(pen: &mut Pen, kind: Kind, bytes: &[u8]) -> Result<(), AllocError>
+pub(crate) fn write_bytes(pen: &mut Pen, kind: JsonKind, bytes: &[u8]) -> Result<(), AllocError>
     ensures { OnOk result (Adds (λ json. json ≡ bytes_json kind bytes.now)
         pen.old.writer pen.new.writer) }
 {
     match kind {
-        Kind::Decimal(scale) => match decimals::of_bytes(scale, bytes) {
+        JsonKind::Decimal(scale) => match decimals::of_bytes(scale, bytes) {
             Some(decimal) => write_wide_decimal(pen, decimal),
             None => write_hex(pen, bytes),
         },
-        Kind::Interval(unit) => match intervals::of_bytes(unit, bytes) {
+        JsonKind::Interval(unit) => match intervals::of_bytes(unit, bytes) {
             Some(interval) => write_interval(pen, interval),
             None => write_hex(pen, bytes),
         },
-        Kind::Float(_) | Kind::Plain => write_hex(pen, bytes),
+        JsonKind::Float(_) | JsonKind::Plain => write_hex(pen, bytes),
     }
 }
 
@@ -64,7 +64,7 @@ fn write_number(pen: &mut Pen, whole: i128) -> Result<(), AllocError>
     }
 }
 
-/// Writes the decimal of this scale whose whole number is a number of at most 128 bits.
+/// Writes the decimal of this scale whose whole number has at most 128 bits.
 fn write_decimal(pen: &mut Pen, scale: i8, unscaled: i128) -> Result<(), AllocError>
     ensures { OnOk result (Adds (λ json. json ≡ number (decimal_text scale unscaled))
         pen.old.writer pen.new.writer) }
@@ -85,7 +85,7 @@ fn write_wide_decimal(pen: &mut Pen, decimal: Decimal) -> Result<(), AllocError>
     pen.number()
 }
 
-/// Writes so many months.
+/// Writes a number of months.
 fn write_months(pen: &mut Pen, months: i128) -> Result<(), AllocError>
     ensures { OnOk result (Adds (λ json. json ≡ string (months_text months))
         pen.old.writer pen.new.writer) }
@@ -115,7 +115,7 @@ fn write_hex(pen: &mut Pen, bytes: &[u8]) -> Result<(), AllocError>
     pen.string()
 }
 
-/// Writes the number of these bits: of 16 bits the equal number of 32 bits.
+/// Writes the number of these bits: for 16 bits the equal number of 32 bits.
 fn write_float(pen: &mut Pen, precision: Precision, bits: u64) -> Result<(), AllocError>
     ensures { OnOk result
         (Adds (IsFloatJson (text_format precision) (number_of precision bits))

@@ -9,14 +9,14 @@ ghost use Rattle.arrow_types.specs.View.{fields_view};
 ghost use Rattle.arrow_json.specs.Values.{IsArrayOf, IsJson, IsObjectOf};
 ghost use Rattle.arrow_json.specs.Written.{Adds};
 
-use crate::kind::Kind;
+use crate::kind::JsonKind;
 use crate::pen::Pen;
 use crate::scalars::{write_bytes, write_int};
 use arrow_data::{Array, SlotValue};
 use arrow_types::Field;
 use std::alloc::AllocError;
 
-/// Writes the value in slot `i`, which is at hand.
+/// Writes the value in slot `i`, passed as `value`.
 #[cycle(value)]
 fn write_value(
     pen: &mut Pen,
@@ -33,8 +33,8 @@ fn write_value(
     match value {
         SlotValue::Null => pen.writer.null(),
         SlotValue::Bool(truth) => pen.writer.boolean(truth),
-        SlotValue::Int(number) => write_int(pen, Kind::of(column.data_type()), number),
-        SlotValue::Bytes(bytes) => write_bytes(pen, Kind::of(column.data_type()), bytes),
+        SlotValue::Int(number) => write_int(pen, JsonKind::of(column.data_type()), number),
+        SlotValue::Bytes(bytes) => write_bytes(pen, JsonKind::of(column.data_type()), bytes),
         SlotValue::Text(text) => pen.writer.string(text),
         SlotValue::List(start, end, items) => write_items(pen, items, start, end),
         SlotValue::Struct(children, place) => {

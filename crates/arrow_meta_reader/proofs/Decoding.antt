@@ -1,4 +1,4 @@
--- What is judged of the tree that lies at the root of some bytes is decoded of the bytes.
+-- The result for the tree at the root of some bytes is the result for the bytes.
 use Rattle.std.proofs.Common.{ℕ, List, Result, Ok, Err, inr, refl, arith}
 use Rattle.arrow_types.specs.Limits.{LimitNumbers}
 use Rattle.arrow_meta_reader.specs.declared.fault.MetaFault.{MetaFault}
@@ -12,7 +12,7 @@ use Rattle.arrow_meta_reader.specs.Trees.{Tree, leaf, table, tables, none, more}
 use Rattle.arrow_meta_reader.proofs.Layers.{element_layer}
 use Rattle.arrow_meta_reader.proofs.Roots.{leads}
 
--- Reading the bytes of a message asks for memory: its version is kept.
+-- Reading the bytes of a message requests memory: its version is kept.
 tree_grows : (limits : LimitNumbers) (bytes : List ℕ) (x : Tree) → IsTreeOf bytes limits x →
     GrowsAtRoot limits bytes
 tree_grows limits bytes (leaf a) h = absurd h.lies.2
@@ -29,7 +29,7 @@ tree_grows limits bytes (table kind (more y ys)) h =
     }) in
     table_grows at refl (record { visits_paid = refl; entries_paid = refl; text_paid = omega arith }) kept
 
--- an answer to the tree
+-- a result for the tree is one for the bytes
 pub decoded : (r : Result Message MetaFault) (limits : LimitNumbers) (bytes : List ℕ) (x : Tree) →
     IsTreeOf bytes limits x → Judges r limits.max_body x → Decodes r limits bytes
 decoded (Ok m) limits bytes x h judged = (x, h, judged)

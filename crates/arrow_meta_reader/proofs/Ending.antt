@@ -1,6 +1,6 @@
--- Where the reading of a row ends, and where that of a spot does.
+-- Where reading a row ends, and where reading a spot ends.
 use Rattle.std.proofs.Common.{◌≡◌, ℕ, zero, suc, ◌-◌, ◌<◌, ◌≤◌, Bool, false, List, [], ◌∷◌, Option, Some, None, option_map, slice_get, refl, sym, ap, subst, ◌∙◌, arith}
-use Rattle.arrow_flatbuf.specs.Place.{behind}
+use Rattle.arrow_flatbuf.specs.Place.{past}
 use Rattle.arrow_flatbuf.specs.Table.{table_at}
 use Rattle.arrow_meta_reader.specs.Reads.{Ends, RowEnds, ends_unreadable, ends_long, ends_refused, ends_first, ends_unkept, ends_later, Faulty}
 use Rattle.arrow_meta_reader.specs.Grows.{TakesMemory}
@@ -16,7 +16,7 @@ use Rattle.arrow_meta_reader.specs.declared.kinds.TableKind.{TableKind}
 use Rattle.arrow_meta_reader.proofs.Layers.{layer_there}
 use Rattle.arrow_meta_reader.proofs.Rows.{Done, unspent}
 
--- what a tree leaves of a room
+-- the room that is left after a tree
 abbrev after : Room → Tree → Room
 after room x = record { visits = room.visits - visits x; entries = room.entries - entries x; text = room.text - text_bytes x }
 
@@ -43,7 +43,7 @@ later_done : (bytes : List ℕ) (r : Spot) (rs : List Spot) (most : ℕ) (old mi
     Done bytes rs most (after old y) mid i ys
 later_done bytes r rs most old mid i y ys d = record { lie = d.lie.1; deep = omega (arith, d.deep); paid = later_paid old mid y ys d.paid }
 
--- Where reading ends at the next spot, it ends there in the row.
+-- If reading ends at the next spot, it ends there in the row.
 pub row_ends : (bytes : List ℕ) (v : Bool) (e : MetaFault) (ss : List Spot) (most : ℕ) (old mid new : Room) (i : ℕ) (s : Spot) (xs : Trees) →
     Done bytes ss most old mid i xs → slice_get ss i ≡ Some s → Ends bytes v e s most mid new → RowEnds bytes v e ss most old new
 row_ends bytes v e [] most old mid new i s xs d at h = absurd (cc)
@@ -57,7 +57,7 @@ row_ends bytes v e (r ∷ rs) most old mid new (suc i) s (more y ys) d at h =
     ends_later y d.lie.0 (omega (arith, d.deep)) (first_paid old mid y ys d.paid)
     (row_ends bytes v e rs most (after old y) mid new i s ys (later_done bytes r rs most old mid i y ys d) at h)
 
--- Where a growth for the tree that was read is refused, reading ends in the row.
+-- If an allocation to keep the tree that was read fails, reading ends in the row.
 pub row_unkept : (bytes : List ℕ) (v : Bool) (ss : List Spot) (most : ℕ) (old new : Room) (i : ℕ) (s : Spot) (xs : Trees) →
     Done bytes ss most old new (suc i) xs → slice_get ss i ≡ Some s → RowEnds bytes v Memory ss most old new
 row_unkept bytes v [] most old new i s xs d at = absurd (cc)
@@ -73,13 +73,13 @@ row_unkept bytes v (r ∷ rs) most old new zero s (more y none) d at =
     })
 row_unkept bytes v (r ∷ rs) most old new zero s (more y (more z zs)) d at = absurd d.lie.1
 
--- a field of a form that is there, and unreadable
+-- a field of a form that is present and not readable
 pub ends_there : (bytes : List ℕ) (form : FieldForm) (place : Option ℕ) (most : ℕ) (room : Room) (p : ℕ) → place ≡ Some p → layer_at bytes form p ≡ None →
     Ends bytes false Metadata (record { form = form; place = place }) most room room
 ends_there bytes form place most room p e f = ends_unreadable (layer_there bytes form place p e ∙ f)
 
--- an opened table that is there, and unreadable
-pub ends_child : (bytes : List ℕ) (opens : Option TableKind) (kind : TableKind) (place : Option ℕ) (most : ℕ) (room : Room) (p : ℕ) → opens ≡ Some kind → place ≡ Some p → behind table_at bytes p ≡ None →
+-- an opened table that is present and not readable
+pub ends_child : (bytes : List ℕ) (opens : Option TableKind) (kind : TableKind) (place : Option ℕ) (most : ℕ) (room : Room) (p : ℕ) → opens ≡ Some kind → place ≡ Some p → past table_at bytes p ≡ None →
     Ends bytes false Metadata (opened opens place) most room room
 ends_child bytes opens kind place most room p o e f =
     let P : Option TableKind → Type 0 = λ k. Ends bytes false Metadata (opened k place) most room room in
@@ -94,10 +94,10 @@ ends_copy bytes s x n most old new Metadata long takes l short kept =
 ends_copy bytes s x n most old new Memory long takes l fits paid = ends_refused x l (takes (omega (arith, long, fits))) (subst (λ t. Spends old new 0 0 t) long paid)
 ends_copy bytes s x n most old new fault long takes l a b = absurd a
 
--- What takes no part of the room leaves it as it is.
+-- Spending nothing leaves the room as it is.
 pub nothing_spent : (room : Room) → Spends room room 0 0 0
 nothing_spent room = record { visits_paid = omega arith; entries_paid = omega arith; text_paid = omega arith }
 
--- the spot of an opened table that is there
+-- the spot of an opened table that is present
 pub opened_spot : (opens : Option TableKind) (kind : TableKind) (place : Option ℕ) (p : ℕ) → opens ≡ Some kind → place ≡ Some p → opened opens place ≡ record { form = forms.Table kind; place = Some p }
 opened_spot opens kind place p o e = rw (o, e) refl

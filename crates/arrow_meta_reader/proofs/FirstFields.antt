@@ -1,4 +1,4 @@
--- The first Field table of some tables, and how large what it leads to is.
+-- The first Field table of some tables, and the size of the trees below it.
 use Rattle.std.proofs.Common.{◌≡◌, ℕ, zero, suc, ◌+◌, ◌-◌, ◌<◌, ◌≤◌, List, [], ◌∷◌, length, take, drop, get_or, sym, ap, ◌∙◌, arith}
 use Rattle.std.proofs.lemmas.List.{length-drop, take_all}
 use Rattle.arrow_types.specs.declared.type_set.TypeSet.{TypeSet}
@@ -12,7 +12,7 @@ use Rattle.arrow_meta_reader.specs.Views.{plain, plain_all}
 use Rattle.arrow_meta_reader.proofs.Misfits.{size_nth}
 use Rattle.arrow_meta_reader.proofs.TableFields.{fields_at_nth}
 
--- the trees from one on are that one and those behind it
+-- the trees from index `i` on are tree `i` and those after it
 drop_at : (ts : List Built) (i : ℕ) (t : Built) → i < length ts → t ≡ get_or ts i t → plain_all (drop i ts) ≡ more (plain t) (plain_all (drop (i + 1) ts))
 drop_at [] i t h at = absurd (omega (arith, h))
 drop_at (x ∷ ts) zero t h at = ap (λ y. more (plain y) (plain_all ts)) (sym at)
@@ -20,13 +20,13 @@ drop_at (x ∷ ts) (suc i) t h at =
     let next : suc (i + 1) ≡ suc i + 1 = omega arith in
     drop_at ts i t (omega (arith, h)) at ∙ ap (λ n. more (plain t) (plain_all (drop n (x ∷ ts)))) next
 
--- The trees from one on have no more nodes than all.
+-- The trees from an index on have no more nodes than all of them.
 size_from : (ts : List Built) (i : ℕ) → size_all (plain_all (drop i ts)) ≤ size_all (plain_all ts)
 size_from ts zero = omega arith
 size_from [] (suc i) = omega arith
 size_from (t ∷ ts) (suc i) = omega (arith, size_from ts i)
 
--- The fields of a table and the trees behind it have fewer nodes than all.
+-- The fields of a table and the trees after it have fewer nodes than all the trees.
 pub smaller_at : (ts : List Built) (i : ℕ) (t : Built) (types : TypeSet) (xs : Trees) → i < length ts → t ≡ get_or ts i t → plain t ≡ table (kinds.Field types) xs
     → size_all xs + size_all (plain_all (take (length ts - (i + 1)) (drop (i + 1) ts))) + 1 < size_all (plain_all ts)
 smaller_at ts i t types xs h at is =
@@ -37,6 +37,6 @@ smaller_at ts i t types xs h at is =
 pub children_fields : (i : ℕ) (xs : Trees) (x : Tree) (below : Trees) → nth i xs ≡ x → fields_from below ≡ fields_in x → fields_from below ≡ fields_at i xs
 children_fields i xs x below at same = same ∙ ap fields_in (sym at) ∙ sym (fields_at_nth i xs)
 
--- what stands in a table has no more nodes than the table
+-- the trees in a field of a table have no more nodes than the fields of the table
 pub children_size : (i : ℕ) (xs : Trees) (x : Tree) (below : Trees) → nth i xs ≡ x → size_all below ≤ size x → size_all below ≤ size_all xs
 children_size i xs x below at fewer = omega (arith, fewer, size_nth i xs, ap size at)

@@ -1,8 +1,8 @@
--- Of fields that a tree says no fault applies to a type by itself, where no table of the tree is a misfit.
+-- If no table of a tree is a misfit, no fault of a type by itself applies to a field that the tree describes.
 use Rattle.std.proofs.Common.{◌≡◌, ℕ, zero, suc, Bool, true, false, not, nat_lt, if◌then◌else◌, Option, Some, None, refl, ap}
 use Rattle.std.specs.Option.{unwrap_or}
 use Rattle.std.proofs.lemmas.Bool.{or_from, or_parts}
-use Rattle.arrow_types.specs.Field.{Fields, width}
+use Rattle.arrow_types.specs.Field.{FieldTree, width}
 use Rattle.arrow_types.specs.Schema.{is_bad_decimal, is_flawed, is_wide, lacks_entries, some_flawed}
 use Rattle.arrow_types.specs.declared.schema.SchemaFault.{SchemaFault}
 use Rattle.arrow_types.specs.declared.schema.SchemaFault.TheVariants.{ByteWidth, MapEntries, DecimalRange}
@@ -17,7 +17,7 @@ use Rattle.arrow_meta_reader.specs.SchemaMeaning.{tag_by, fields_in, fields_from
 use Rattle.arrow_meta_reader.specs.Trees.{Tree, leaf, table, tables, Trees, none, more}
 use Rattle.arrow_meta_reader.proofs.Decimals.{of_table}
 
--- a number of bytes, or of values, is either none that a type has or within the limit
+-- a number of bytes, or of values, is either not a valid size or within the limit
 kept : (n : ℕ) (b : Bool) → nat_lt 2147483647 n ≡ b → nat_lt 2147483647 (unwrap_or (if b then None else Some n) 0) ≡ false
 kept n true h = refl
 kept n false h = h
@@ -29,8 +29,8 @@ narrow_tag (Some codes.FixedSizeList) xs = kept (number_at 0 0 xs) (nat_lt 21474
 narrow_tag (Some codes.Decimal) xs = of_table (λ tag. is_wide tag ≡ false) (λ width precision scale h. refl) xs
 narrow_tag (Some code) xs = refl
 
--- a type whose entries fit is no map without entries
-mapped_tag : (code : Option TypeCode) (xs : Trees) (children : Fields) → not (entries_fit code children) ≡ false → lacks_entries (tag_by code xs) children ≡ false
+-- a type whose entries fit is not a map without entries
+mapped_tag : (code : Option TypeCode) (xs : Trees) (children : FieldTree) → not (entries_fit code children) ≡ false → lacks_entries (tag_by code xs) children ≡ false
 mapped_tag None xs children h = refl
 mapped_tag (Some codes.Map) xs children h = h
 mapped_tag (Some codes.Decimal) xs children h = of_table (λ tag. lacks_entries tag children ≡ false) (λ width precision scale allowed. refl) xs
@@ -41,7 +41,7 @@ decimal_tag None xs = refl
 decimal_tag (Some codes.Decimal) xs = of_table (λ tag. is_bad_decimal tag ≡ false) (λ width precision scale h. ap not h) xs
 decimal_tag (Some code) xs = refl
 
-flawless_tag : (fault : SchemaFault) (code : Option TypeCode) (xs : Trees) (children : Fields) → not (entries_fit code children) ≡ false → is_flawed fault (tag_by code xs) children ≡ false
+flawless_tag : (fault : SchemaFault) (code : Option TypeCode) (xs : Trees) (children : FieldTree) → not (entries_fit code children) ≡ false → is_flawed fault (tag_by code xs) children ≡ false
 flawless_tag ByteWidth code xs children h = narrow_tag code xs
 flawless_tag MapEntries code xs children h = mapped_tag code xs children h
 flawless_tag DecimalRange code xs children h = decimal_tag code xs
@@ -60,7 +60,7 @@ mutual
       let both = or_parts (any is_misfit x) (any_in is_misfit xs) h in
       flawless_with fault x (fields_from xs) both.0 (flawless_from fault xs both.1)
 
-  flawless_with : (fault : SchemaFault) (x : Tree) (rest : Fields) → any is_misfit x ≡ false → some_flawed fault rest ≡ false → some_flawed fault (with_field x rest) ≡ false
+  flawless_with : (fault : SchemaFault) (x : Tree) (rest : FieldTree) → any is_misfit x ≡ false → some_flawed fault rest ≡ false → some_flawed fault (with_field x rest) ≡ false
   flawless_with fault (leaf x) rest h k = k
   flawless_with fault (table (kinds.Field types) xs) rest h k =
       let code = type_code (number_at 2 0 xs) in
@@ -75,7 +75,7 @@ mutual
   flawless_at fault zero (more x xs) h = flawless fault x ((or_parts (any is_misfit x) (any_in is_misfit xs) h).0)
   flawless_at fault (suc i) (more x xs) h = flawless_at fault i xs ((or_parts (any is_misfit x) (any_in is_misfit xs) h).1)
 
--- what is found in no tree of a row is not found in field i
+-- a test that no tree of a row passes is not passed in field `i`
 none_nth : (test : TableKind → Trees → Bool) (i : ℕ) (xs : Trees) → any_in test xs ≡ false → any test (nth i xs) ≡ false
 none_nth test i none h = refl
 none_nth test zero (more x xs) h = (or_parts (any test x) (any_in test xs) h).0

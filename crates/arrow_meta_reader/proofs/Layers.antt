@@ -1,25 +1,25 @@
--- What a layer says of the trees that lie there.
+-- What a layer implies for the trees at its spot.
 use Rattle.std.proofs.Common.{◌≡◌, ℕ, ◌+◌, ◌<◌, inl, inr, List, Option, Some, None, option_map, refl, sym, ap, subst, ◌∙◌, arith}
 use Rattle.arrow_meta_reader.specs.declared.kinds.TableKind.{TableKind}
 use Rattle.arrow_meta_reader.specs.declared.kinds.FieldForm.{FieldForm}
 use Rattle.arrow_meta_reader.specs.declared.kinds.FieldForm.TheVariants as forms
-use Rattle.arrow_flatbuf.specs.Place.{behind}
+use Rattle.arrow_flatbuf.specs.Place.{past}
 use Rattle.arrow_flatbuf.specs.Table.{table_at, TableAt}
 use Rattle.arrow_flatbuf.specs.Vector.{vector_at, VectorAt}
 use Rattle.arrow_meta_reader.specs.Kinds.{spots_of, opened}
 use Rattle.arrow_meta_reader.specs.Kinds.{Spot}
-use Rattle.arrow_meta_reader.specs.Lies.{AllStand, layer, layer_at, leaf_layer, table_layer, tables_layer, elements}
+use Rattle.arrow_meta_reader.specs.Lies.{AllPlaced, layer, layer_at, leaf_layer, table_layer, tables_layer, elements}
 use Rattle.arrow_meta_reader.specs.Trees.{Leaf, leaf, table, tables}
 use Rattle.arrow_meta_reader.specs.Within.{visit, entry, text_bytes, text_length, Room, Spends}
 use Rattle.arrow_meta_reader.specs.Reads.{NoneFits, NoRowFits, LacksRoom}
 use Rattle.arrow_meta_reader.proofs.OneTree.{one}
 
--- the layer of a field that is there
+-- the layer of a field that is present
 pub layer_there : (bytes : List ℕ) (form : FieldForm) (place : Option ℕ) (p : ℕ) → place ≡ Some p → layer bytes (record { form = form; place = place }) ≡ layer_at bytes form p
 unfolding layer
 layer_there bytes form place p e = rw e refl
 
--- Nothing stands where no layer does.
+-- No tree is at a spot that has no layer.
 pub none_fits : (bytes : List ℕ) (s : Spot) (most : ℕ) (room : Room) → layer bytes s ≡ None → NoneFits bytes s most room
 none_fits bytes s most room e (leaf a) h fits = cc
 none_fits bytes s most room e (table kind xs) h fits = let f = h.1 in cc
@@ -52,7 +52,7 @@ no_fields bytes s kind ss most below old mid e a b never (table j xs) h fits =
     let f = h.1 in
     let same : j ≡ kind = cc in
     let spots : h.0 ≡ ss = cc in
-    let P : List Spot → Type 0 = λ ss. AllStand bytes ss xs in
+    let P : List Spot → Type 0 = λ ss. AllPlaced bytes ss xs in
     never xs (subst P spots h.2) (record {
       levels_fit = omega (arith, a, ap visit same, fits.levels_fit);
       visits_fit = omega (arith, b.visits_paid, ap visit same, fits.visits_fit);
@@ -67,37 +67,37 @@ no_elements bytes s ss most room e never (table j xs) h fits = let f = h.1 in cc
 no_elements bytes s ss most room e never (tables xs) h fits =
     let f = h.1 in
     let spots : h.0 ≡ ss = cc in
-    let P : List Spot → Type 0 = λ ss. AllStand bytes ss xs in
+    let P : List Spot → Type 0 = λ ss. AllPlaced bytes ss xs in
     never xs (subst P spots h.2) (record { levels_fit = fits.levels_fit; visits_fit = fits.visits_fit; entries_fit = fits.entries_fit; text_fits = fits.text_fits })
 
--- a field of a form that is there, and unreadable
+-- a field of a form that is present and not readable
 pub unreadable : (bytes : List ℕ) (form : FieldForm) (place : Option ℕ) (most : ℕ) (room : Room) (p : ℕ) → place ≡ Some p → layer_at bytes form p ≡ None → NoneFits bytes (record { form = form; place = place }) most room
 unreadable bytes form place most room p e f = none_fits bytes (record { form = form; place = place }) most room (layer_there bytes form place p e ∙ f)
 
--- an opened table that is there, and unreadable
-pub unreadable_child : (bytes : List ℕ) (opens : Option TableKind) (kind : TableKind) (place : Option ℕ) (most : ℕ) (room : Room) (p : ℕ) → opens ≡ Some kind → place ≡ Some p → behind table_at bytes p ≡ None → NoneFits bytes (opened opens place) most room
+-- an opened table that is present and not readable
+pub unreadable_child : (bytes : List ℕ) (opens : Option TableKind) (kind : TableKind) (place : Option ℕ) (most : ℕ) (room : Room) (p : ℕ) → opens ≡ Some kind → place ≡ Some p → past table_at bytes p ≡ None → NoneFits bytes (opened opens place) most room
 unreadable_child bytes opens kind place most room p o e f =
     let P : Option TableKind → Type 0 = λ k. NoneFits bytes (opened k place) most room in
     let here = unreadable bytes (forms.Table kind) place most room p e (ap (option_map (λ t. table_layer kind (spots_of kind t))) f) in
     subst P (sym o) here
 
 -- the layer of a vector of tables
-pub vector_layer : (bytes : List ℕ) (kind : TableKind) (place : Option ℕ) (p : ℕ) (v : VectorAt) → place ≡ Some p → behind (vector_at 4) bytes p ≡ Some v → layer bytes (record { form = forms.Tables kind; place = place }) ≡ Some (tables_layer (elements kind v.place v.count))
+pub vector_layer : (bytes : List ℕ) (kind : TableKind) (place : Option ℕ) (p : ℕ) (v : VectorAt) → place ≡ Some p → past (vector_at 4) bytes p ≡ Some v → layer bytes (record { form = forms.Tables kind; place = place }) ≡ Some (tables_layer (elements kind v.place v.count))
 vector_layer bytes kind place p v e f = layer_there bytes (forms.Tables kind) place p e ∙ ap (option_map (λ v. tables_layer (elements kind v.place v.count))) f
 
 -- the layer of an element
-pub element_layer : (bytes : List ℕ) (kind : TableKind) (p : ℕ) (t : TableAt) → behind table_at bytes p ≡ Some t → layer bytes (record { form = forms.Table kind; place = Some p }) ≡ Some (table_layer kind (spots_of kind t))
+pub element_layer : (bytes : List ℕ) (kind : TableKind) (p : ℕ) (t : TableAt) → past table_at bytes p ≡ Some t → layer bytes (record { form = forms.Table kind; place = Some p }) ≡ Some (table_layer kind (spots_of kind t))
 element_layer bytes kind p t f = layer_there bytes (forms.Table kind) (Some p) p refl ∙ ap (option_map (λ t. table_layer kind (spots_of kind t))) f
 
 -- an element with no room for it, by whether it is readable
-no_room_behind : (bytes : List ℕ) (kind : TableKind) (p : ℕ) (most : ℕ) (room : Room) (r : Option TableAt) → behind table_at bytes p ≡ r
+no_room_after : (bytes : List ℕ) (kind : TableKind) (p : ℕ) (most : ℕ) (room : Room) (r : Option TableAt) → past table_at bytes p ≡ r
     → LacksRoom room kind most → NoneFits bytes (record { form = forms.Table kind; place = Some p }) most room
-no_room_behind bytes kind p most room None f short =
+no_room_after bytes kind p most room None f short =
     unreadable bytes (forms.Table kind) (Some p) most room p refl (ap (option_map (λ t. table_layer kind (spots_of kind t))) f)
-no_room_behind bytes kind p most room (Some t) f short =
+no_room_after bytes kind p most room (Some t) f short =
     no_room bytes (record { form = forms.Table kind; place = Some p }) kind (spots_of kind t) most room (element_layer bytes kind p t f) short
 
 -- an element with no room for it
 pub no_room_at : (bytes : List ℕ) (kind : TableKind) (p : ℕ) (most : ℕ) (room : Room) → LacksRoom room kind most
     → NoneFits bytes (record { form = forms.Table kind; place = Some p }) most room
-no_room_at bytes kind p most room short = no_room_behind bytes kind p most room (behind table_at bytes p) refl short
+no_room_at bytes kind p most room short = no_room_after bytes kind p most room (past table_at bytes p) refl short

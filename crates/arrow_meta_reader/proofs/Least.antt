@@ -1,4 +1,4 @@
--- From the tests before a message is built, and from its building, to the least fault.
+-- From the tests before a message is built, and from building it, to the least fault.
 use Rattle.std.proofs.Common.{◌≡◌, ℕ, ◌≤◌, Bool, true, false, ◌||◌, not, if◌then◌else◌, nat_lt, List, [], ◌∷◌, Option, Some, None, is_some, Result, Ok, Err, ◌⊎◌, inl, inr, refl, sym, ap, ◌∙◌, subst, true≢false, arith}
 use Rattle.std.proofs.lemmas.Bool.{le-ltb, ltb-false}
 use Rattle.arrow_flatbuf.specs.Place.{◌>>=◌}
@@ -28,16 +28,16 @@ use Rattle.std.proofs.lemmas.Bool.{or_right, or_parts}
 use Rattle.arrow_meta_reader.proofs.Flawless.{flawless_in}
 use Rattle.arrow_meta_reader.proofs.Shallow.{schema_levels, schema_count, schema_pair_count}
 
--- the faults that are told before those of a header, by the truth values of their conditions
+-- the faults that come before those of a header, by the truth values of their conditions
 abbrev early : Bool → Bool → Bool → Bool → Option MetaFault
 early lacks version header length = least ((lacks, Metadata) ∷ (version, Version) ∷ (header, Header) ∷ (length, BodyLength) ∷ [])
 
--- a fault, else another
+-- the first fault if there is one, else the other
 abbrev first_of : Option MetaFault → Option MetaFault → Option MetaFault
 first_of (Some f) other = Some f
 first_of None other = other
 
--- the faults that are told before those of the header of a message with these fields
+-- the faults that come before those of the header of a message with these fields
 abbrev early_of : ℕ → Trees → Option MetaFault
 early_of max xs = early (any_in lacks_table xs) (not (is_some (version_in xs))) (not (is_some (header_in xs))) (is_bad_length max (body_of xs))
 
@@ -99,7 +99,7 @@ early_never false false true d h = cc
 early_never false false false true h = cc
 early_never false false false false h = cc
 
--- no condition is want of memory
+-- no condition has the fault `Memory`
 never : (max : ℕ) (xs : Trees) → fault_of max xs ≡ Some Memory → ⊥
 never max xs h = elim (first_some (early_of max xs) (own_of xs) Memory (sym (parted max xs) ∙ h)) [
   | inl before ↦ early_never (any_in lacks_table xs) (not (is_some (version_in xs))) (not (is_some (header_in xs))) (is_bad_length max (body_of xs)) before
@@ -149,7 +149,7 @@ misfit_parts (leaf x) h = absurd (true≢false (sym h))
 misfit_parts (table kind xs) h = or_right (is_misfit kind xs) (any_in is_misfit xs) h
 misfit_parts (tables xs) h = absurd (true≢false (sym h))
 
--- the fault of fields that passed the tests before
+-- the fault of fields that passed the earlier tests
 fields_fault : (x : Tree) (fault : SchemaFault) → IsShallow x → is_unsupported_schema (header_of (parts x)) ≡ false
     → any is_misfit (header_of (parts x)) ≡ false → schema_fault_of (schema_in (parts (header_of (parts x)))) ≡ Some fault
     → (fault ≡ schema_faults.SharedIdTypesDiffer) × (shares_an_id (header_of (parts x)) ≡ true)
@@ -165,7 +165,7 @@ fields_fault x fault shallow supported fitting h =
     (flawless_in schema_faults.ByteWidth 1 header fitting) (le-ltb 65536 (pair_count (schema_in (parts header))) noted)
     (flawless_in schema_faults.MapEntries 1 header fitting) (flawless_in schema_faults.DecimalRange 1 header fitting) h
 
--- Where no fault holds of a tree, building its schema fails for want of memory alone.
+-- If no fault holds of a tree, building its schema fails only if an allocation fails.
 late : (e : MetaFault) (max : ℕ) (x : Tree) → fault_of max (parts x) ≡ None → header_in (parts x) ≡ Some headers.Schema → IsShallow x
     → Late e (body_of (parts x)) (parts (header_of (parts x))) → Judges (Err e) max x
 late e max x none_found is shallow failed =
@@ -181,7 +181,7 @@ late e max x none_found is shallow failed =
       | inr (inr found) ↦ absurd (true≢false (sym (fields_fault x found.0 shallow fits.0 fits.1 found.1).1 ∙ fits.2))
     ]
 
--- a fault of the building of a header
+-- a fault that occurs while a header is built
 failed : (kind : HeaderKind) (e : MetaFault) (max : ℕ) (x : Tree) → fault_of max (parts x) ≡ None → header_in (parts x) ≡ Some kind → IsShallow x
     → FailsToBuild kind e (body_of (parts x)) (parts (header_of (parts x))) → Judges (Err e) max x
 failed headers.Schema e max x none_found is shallow h = late e max x none_found is shallow h
@@ -190,46 +190,46 @@ failed headers.DictionaryBatch e max x none_found is shallow h =
 failed headers.RecordBatch e max x none_found is shallow h =
     subst (λ f. Judges (Err f) max x) (sym h.0) (none_found, subst (λ kind. AsksMemory kind (parts (header_of (parts x)))) (sym is) h.1)
 
--- the message that was built, or the fault that came while it was
+-- the message that was built, or the fault that occurred while it was built
 pub built : (r : Result Message MetaFault) (version : MetadataVersion) (kind : HeaderKind) (max : ℕ) (x : Tree) → IsShallow x → version_in (parts x) ≡ Some version
     → header_in (parts x) ≡ Some kind → fault_of max (parts x) ≡ None → BuildsMessage r version kind (parts x) → Judges r max x
 built (Ok m) version kind max x shallow read is none_found h = record { sound = none_found; same = rw (read, is) (ap Some (sym h)) }
 built (Err e) version kind max x shallow read is none_found h = failed kind e max x none_found is shallow h
 
 -- the body's length that a fault gives
-abbrev tells : MetaFault → ℕ → Type 0
-tells (Unsupported m) n = m ≡ n
-tells (Schema m) n = m ≡ n
-tells (Compressed k m) n = m ≡ n
-tells Metadata n = ⊥
-tells Version n = ⊥
-tells Header n = ⊥
-tells BodyLength n = ⊥
-tells Memory n = ⊥
+abbrev reports : MetaFault → ℕ → Type 0
+reports (Unsupported m) n = m ≡ n
+reports (Schema m) n = m ≡ n
+reports (Compressed k m) n = m ≡ n
+reports Metadata n = ⊥
+reports Version n = ⊥
+reports Header n = ⊥
+reports BodyLength n = ⊥
+reports Memory n = ⊥
 
-early_tells : (a b c d : Bool) (f : MetaFault) (given : ℕ) → early a b c d ≡ Some f → tells f given → ⊥
-early_tells true b c d f given h t = let same : Metadata ≡ f = cc in subst (λ f. tells f given) (sym same) t
-early_tells false true c d f given h t = let same : Version ≡ f = cc in subst (λ f. tells f given) (sym same) t
-early_tells false false true d f given h t = let same : Header ≡ f = cc in subst (λ f. tells f given) (sym same) t
-early_tells false false false true f given h t = let same : BodyLength ≡ f = cc in subst (λ f. tells f given) (sym same) t
-early_tells false false false false f given h t = cc
+early_reports : (a b c d : Bool) (f : MetaFault) (given : ℕ) → early a b c d ≡ Some f → reports f given → ⊥
+early_reports true b c d f given h t = let same : Metadata ≡ f = cc in subst (λ f. reports f given) (sym same) t
+early_reports false true c d f given h t = let same : Version ≡ f = cc in subst (λ f. reports f given) (sym same) t
+early_reports false false true d f given h t = let same : Header ≡ f = cc in subst (λ f. reports f given) (sym same) t
+early_reports false false false true f given h t = let same : BodyLength ≡ f = cc in subst (λ f. reports f given) (sym same) t
+early_reports false false false false f given h t = cc
 
-schema_tells : (u m shares : Bool) (n : ℕ) (f : MetaFault) (given : ℕ) → schema_chain u m shares n ≡ Some f → tells f given → given ≡ n
-schema_tells true m shares n f given h t = let same : Unsupported n ≡ f = cc in sym (subst (λ f. tells f given) (sym same) t)
-schema_tells false true shares n f given h t = let same : Schema n ≡ f = cc in sym (subst (λ f. tells f given) (sym same) t)
-schema_tells false false true n f given h t = let same : Schema n ≡ f = cc in sym (subst (λ f. tells f given) (sym same) t)
-schema_tells false false false n f given h t = absurd (cc)
+schema_reports : (u m shares : Bool) (n : ℕ) (f : MetaFault) (given : ℕ) → schema_chain u m shares n ≡ Some f → reports f given → given ≡ n
+schema_reports true m shares n f given h t = let same : Unsupported n ≡ f = cc in sym (subst (λ f. reports f given) (sym same) t)
+schema_reports false true shares n f given h t = let same : Schema n ≡ f = cc in sym (subst (λ f. reports f given) (sym same) t)
+schema_reports false false true n f given h t = let same : Schema n ≡ f = cc in sym (subst (λ f. reports f given) (sym same) t)
+schema_reports false false false n f given h t = absurd (cc)
 
-batch_tells : (compressed : Bool) (k : BatchKind) (n : ℕ) (f : MetaFault) (given : ℕ) → least ((compressed, Compressed k n) ∷ []) ≡ Some f → tells f given → given ≡ n
-batch_tells true k n f given h t = let same : Compressed k n ≡ f = cc in sym (subst (λ f. tells f given) (sym same) t)
-batch_tells false k n f given h t = absurd (cc)
+batch_reports : (compressed : Bool) (k : BatchKind) (n : ℕ) (f : MetaFault) (given : ℕ) → least ((compressed, Compressed k n) ∷ []) ≡ Some f → reports f given → given ≡ n
+batch_reports true k n f given h t = let same : Compressed k n ≡ f = cc in sym (subst (λ f. reports f given) (sym same) t)
+batch_reports false k n f given h t = absurd (cc)
 
 -- the length that a header's fault gives is the body's
-own_tells : (kind : Option HeaderKind) (n : ℕ) (x : Tree) (f : MetaFault) (given : ℕ) → least (header_conditions kind n x) ≡ Some f → tells f given → given ≡ n
-own_tells None n x f given h t = absurd (cc)
-own_tells (Some headers.Schema) n x f given h t = schema_tells (is_unsupported_schema x) (any is_misfit x) (shares_an_id x) n f given h t
-own_tells (Some headers.DictionaryBatch) n x f given h t = batch_tells (is_compressed (data_of (parts x))) batches.Dictionary n f given h t
-own_tells (Some headers.RecordBatch) n x f given h t = batch_tells (is_compressed (parts x)) batches.Record n f given h t
+own_reports : (kind : Option HeaderKind) (n : ℕ) (x : Tree) (f : MetaFault) (given : ℕ) → least (header_conditions kind n x) ≡ Some f → reports f given → given ≡ n
+own_reports None n x f given h t = absurd (cc)
+own_reports (Some headers.Schema) n x f given h t = schema_reports (is_unsupported_schema x) (any is_misfit x) (shares_an_id x) n f given h t
+own_reports (Some headers.DictionaryBatch) n x f given h t = batch_reports (is_compressed (data_of (parts x))) batches.Dictionary n f given h t
+own_reports (Some headers.RecordBatch) n x f given h t = batch_reports (is_compressed (parts x)) batches.Record n f given h t
 
 early_length : (a b c d : Bool) → early a b c d ≡ None → d ≡ false
 early_length a b c false h = refl
@@ -241,19 +241,19 @@ early_length false false false true h = absurd (cc)
 good_length : (max n : ℕ) → is_bad_length max n ≡ false → n ≤ max
 good_length max n h = ltb-false max n ((or_parts (nat_lt 9223372036854775807 n) (nat_lt max n) h).1)
 
--- Where no fault comes before those of the header, the body is within the limit.
+-- If no fault comes before those of the header, the body is within the limit.
 clear_length : (max : ℕ) (xs : Trees) → early_of max xs ≡ None → body_of xs ≤ max
 clear_length max xs h =
     good_length max (body_of xs)
     (early_length (any_in lacks_table xs) (not (is_some (version_in xs))) (not (is_some (header_in xs))) (is_bad_length max (body_of xs)) h)
 
-given_length : (max : ℕ) (xs : Trees) (f : MetaFault) (given : ℕ) → fault_of max xs ≡ Some f → tells f given → given ≤ max
+given_length : (max : ℕ) (xs : Trees) (f : MetaFault) (given : ℕ) → fault_of max xs ≡ Some f → reports f given → given ≤ max
 given_length max xs f given h t = elim (first_some (early_of max xs) (own_of xs) f (sym (parted max xs) ∙ h)) [
-  | inl before ↦ absurd (early_tells (any_in lacks_table xs) (not (is_some (version_in xs))) (not (is_some (header_in xs))) (is_bad_length max (body_of xs)) f given before t)
-  | inr own ↦ omega (arith, own_tells (header_in xs) (body_of xs) (header_of xs) f given own.1 t, clear_length max xs own.0)
+  | inl before ↦ absurd (early_reports (any_in lacks_table xs) (not (is_some (version_in xs))) (not (is_some (header_in xs))) (is_bad_length max (body_of xs)) f given before t)
+  | inr own ↦ omega (arith, own_reports (header_in xs) (body_of xs) (header_of xs) f given own.1 t, clear_length max xs own.0)
 ]
 
--- The body of a tree of which no fault holds is within the limit: a longer one comes with no message.
+-- If no fault holds of a tree, its body is within the limit: no message has a longer one.
 pub sound_length : (max : ℕ) (xs : Trees) → fault_of max xs ≡ None → body_of xs ≤ max
 sound_length max xs h = clear_length max xs ((first_none (early_of max xs) (own_of xs) (sym (parted max xs) ∙ h)).0)
 
@@ -267,7 +267,7 @@ said_length xs (Some version) (Some kind) m h = let same : message_by xs version
 pub meaning_length : (max : ℕ) (x : Tree) (m : PlainMessage) → Means max x m → m.body_len ≤ max
 meaning_length max x m h = omega (arith, said_length (parts x) (version_in (parts x)) (header_in (parts x)) m h.same, sound_length max (parts x) h.sound)
 
--- a body's length that is answered is at most the limit
+-- the length of the body in a result is at most the limit
 pub length_fits : (r : Result Message MetaFault) (max : ℕ) (x : Tree) → Judges r max x → LengthFits r max
 length_fits (Ok m) max x h = meaning_length max x (message_view m) h
 length_fits (Err (Unsupported n)) max x h = given_length max (parts x) (Unsupported n) n h refl

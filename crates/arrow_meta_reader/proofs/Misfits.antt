@@ -1,4 +1,4 @@
--- A misfit below is a misfit, and what is built is smaller than what it is built of.
+-- A misfit below is a misfit, and the children are smaller than the tree that holds them.
 use Rattle.std.proofs.Common.{◌≡◌, ℕ, zero, suc, Bool, true, not, sym, true≢false, List, Option, ◌≤◌, arith}
 use Rattle.arrow_types.specs.Field.{field_by, width, TypeShape}
 use Rattle.arrow_types.specs.declared.field.Encoding.{Encoding}
@@ -15,13 +15,13 @@ use Rattle.arrow_meta_reader.specs.Parts.{nth, number_at}
 use Rattle.arrow_meta_reader.specs.SchemaMeaning.{fields_at, fields_in}
 use Rattle.arrow_meta_reader.specs.Trees.{table, Trees, none, more}
 
--- what is found in field i is found in the row
+-- a test that is passed in field `i` is passed in the row
 pub any_nth : (test : TableKind → Trees → Bool) (i : ℕ) (xs : Trees) → any test (nth i xs) ≡ true → any_in test xs ≡ true
 any_nth test i none h = absurd (true≢false (sym h))
 any_nth test zero (more x xs) h = or_left (any test x) (any_in test xs) h
 any_nth test (suc i) (more x xs) h = or_right (any test x) (any_in test xs) (any_nth test i xs h)
 
--- a fault says of more what it says of less
+-- a fault that is justified by a condition is justified by every weaker one
 pub refuses_more : (e : FieldFault) (a b : Bool) → (a ≡ true → b ≡ true) → Refuses e a → Refuses e b
 refuses_more Misfit a b f h = f h
 refuses_more Memory a b f h = tt
@@ -33,11 +33,11 @@ misfit_here xs h =
     or_left (is_misfit (kinds.Field All) xs) (any_in is_misfit xs)
     (or_left (not (children_fit code (width (fields_in (nth 5 xs))))) (not (entries_fit code (fields_at 5 xs))) h)
 
--- A Field table is a misfit where what stands in one of its fields is.
+-- A Field table is a misfit if a table in one of its fields is.
 pub misfit_below : (xs : Trees) (i : ℕ) → any is_misfit (nth i xs) ≡ true → any is_misfit (table (kinds.Field All) xs) ≡ true
 misfit_below xs i h = or_right (is_misfit (kinds.Field All) xs) (any_in is_misfit xs) (any_nth is_misfit i xs h)
 
--- What stands in a field has no more nodes than the row.
+-- The tree in a field has no more nodes than the row.
 pub size_nth : (i : ℕ) (xs : Trees) → size (nth i xs) ≤ size_all xs
 size_nth i none = omega arith
 size_nth zero (more x xs) = omega arith

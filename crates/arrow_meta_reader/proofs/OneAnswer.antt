@@ -1,4 +1,4 @@
--- The bytes of a metadata have at most one tree, and so one answer.
+-- The bytes of a metadata have at most one tree, and so one result.
 use Rattle.std.proofs.Common.{◌≡◌, ℕ, List, Some, None, inl, inr, sym, ap, ◌∙◌, subst}
 use Rattle.arrow_types.specs.Limits.{LimitNumbers}
 use Rattle.arrow_types.specs.declared.type_set.TypeSet.{TypeSet}

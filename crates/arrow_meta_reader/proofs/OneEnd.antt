@@ -1,11 +1,12 @@
--- Reading that ends with a fault other than want of memory ends at one place, so what was counted is one number each.
+-- Reading that ends with a fault other than `Memory` ends at one point, so each of the counts has only one possible
+-- value.
 use Rattle.std.proofs.Common.{◌≡◌, ℕ, ◌+◌, ◌≤◌, Bool, false, true, inl, inr, List, Some, refl, sym, ap, subst, ◌∙◌, arith}
 use Rattle.arrow_types.specs.Limits.{LimitNumbers}
 use Rattle.arrow_meta_reader.specs.declared.fault.MetaFault.{MetaFault}
 use Rattle.arrow_meta_reader.specs.declared.fault.MetaFault.TheVariants.{Memory}
 use Rattle.arrow_meta_reader.specs.declared.kinds.TableKind.{TableKind}
 use Rattle.arrow_meta_reader.specs.declared.kinds.FieldForm.TheVariants as forms
-use Rattle.arrow_meta_reader.specs.declared.work.Work.{Work}
+use Rattle.arrow_meta_reader.specs.declared.decode_cost.DecodeCost.{DecodeCost}
 use Rattle.arrow_meta_reader.specs.Grows.{whole}
 use Rattle.arrow_meta_reader.specs.Judges.{IsTreeOf, Counts, EndsAtRoot, CountsFailed}
 use Rattle.arrow_meta_reader.specs.Kinds.{Spot}
@@ -17,9 +18,9 @@ use Rattle.arrow_meta_reader.specs.Within.{visit, entry, levels, levels_all, vis
 use Rattle.arrow_meta_reader.proofs.Layers.{none_fits, too_long, no_room_at, no_fields, no_elements}
 use Rattle.arrow_meta_reader.proofs.OneTree.{one}
 use Rattle.arrow_meta_reader.proofs.OneAnswer.{one_tree}
-use Rattle.arrow_meta_reader.proofs.Roots.{root_stands, table_there}
+use Rattle.arrow_meta_reader.proofs.Roots.{root_placed, table_there}
 
--- what is left after the same was spent
+-- spending the same leaves the same
 left_same : (room a b : Room) (v n t : ℕ) → Spends room a v n t → Spends room b v n t → a ≡ b
 left_same room a b v n t h k =
     let same_visits : a.visits ≡ b.visits = omega (arith, h.visits_paid, k.visits_paid) in
@@ -37,13 +38,13 @@ paid_fits room new most x deep paid = record {
   text_fits = omega (arith, paid.text_paid);
 }
 
--- where there is no room for a table, none is paid for
+-- if there is no room for a table, none is paid for
 lacking : (room mid : Room) (kind : TableKind) (most : ℕ) → LacksRoom room kind most → visit kind ≤ most → Spends room mid (visit kind) (entry kind) 0 → ⊥
 lacking room mid kind most (inl short) deep paid = omega (arith, short, deep)
 lacking room mid kind most (inr (inl short)) deep paid = omega (arith, short, paid.visits_paid)
 lacking room mid kind most (inr (inr short)) deep paid = omega (arith, short, paid.entries_paid)
 
--- the layer where an offset to a table stands
+-- the layer at an offset to a table is that of a table
 only_table : (bytes : List ℕ) (s : Spot) (kind : TableKind) (p : ℕ) (l : Layer) → s ≡ record { form = forms.Table kind; place = Some p } → layer bytes s ≡ Some l →
     (ss : List Spot) × (table_layer kind ss ≡ l)
 only_table bytes s kind p l at e =
@@ -80,14 +81,14 @@ never_paid {most = most} {room = room} {new = new} kind p j at short form deep p
     let same : j ≡ kind = cc in
     lacking room new kind most short (subst (λ i. visit i ≤ most) same deep) (subst (λ i. Spends room new (visit i) (entry i) 0) same paid)
 
--- What is paid for one table is one.
+-- Paying twice for the table at one spot leaves the same room.
 paid_twice : (s : Spot) (kind j : TableKind) (room a b : Room) → s.form ≡ forms.Table kind → s.form ≡ forms.Table j → Spends room a (visit kind) (entry kind) 0 → Spends room b (visit j) (entry j) 0 → a ≡ b
 paid_twice s kind j room a b form is paid also =
     let e : forms.Table j ≡ forms.Table kind = sym is ∙ form in
     let same : j ≡ kind = cc in
     left_same room a b (visit kind) (entry kind) 0 paid (subst (λ i. Spends room b (visit i) (entry i) 0) same also)
 
--- Below a table that there is no room for nothing is read.
+-- Nothing is read below a table that there is no room for.
 never_below : (bytes : List ℕ) {s : Spot} {most : ℕ} (below : ℕ) {room mid : Room} {j : TableKind} {ss : List Spot} (kind : TableKind) (p : ℕ) → s ≡ record { form = forms.Table kind; place = Some p } →
     LacksRoom room kind most → layer bytes s ≡ Some (table_layer j ss) → below + visit j ≡ most → Spends room mid (visit j) (entry j) 0 → ⊥
 never_below bytes {s = s} {most = most} below {room = room} {mid = mid} {j = j} {ss = ss} kind p at short is deep paid =
@@ -97,19 +98,19 @@ never_below bytes {s = s} {most = most} below {room = room} {mid = mid} {j = j} 
     let fits : visit j ≤ most = omega (arith, deep) in
     lacking room mid kind most short (subst (λ i. visit i ≤ most) same fits) (subst (λ i. Spends room mid (visit i) (entry i) 0) same paid)
 
--- Where an offset to a table stands there is no vector.
+-- There is no vector at an offset to a table.
 never_inside : (bytes : List ℕ) {s : Spot} {ss : List Spot} (kind : TableKind) (p : ℕ) → s ≡ record { form = forms.Table kind; place = Some p } → layer bytes s ≡ Some (tables_layer ss) → ⊥
 never_inside bytes {s = s} {ss = ss} kind p at is =
     let there = only_table bytes s kind p (tables_layer ss) at is in
     let e = there.1 in
     cc
 
--- Any other fault than want of memory.
+-- Any fault other than `Memory`.
 abbrev IsOther : MetaFault → Type 0
 IsOther e = e ≡ Memory → ⊥
 
 mutual
-  -- Where reading ends no tree fits.
+  -- If reading ends, no tree fits.
   ends_none : {bytes : List ℕ} {v : Bool} {e : MetaFault} {s : Spot} {most : ℕ} {room new : Room} → Ends bytes v e s most room new → IsOther e → NoneFits bytes s most room
   ends_none (ends_unreadable nothing) other = none_fits _ _ _ _ nothing
   ends_none {bytes = bytes} {most = most} {room = room} (ends_unpaid kind p at short) other =
@@ -120,16 +121,16 @@ mutual
   ends_none (ends_below at deep paid row) other = no_fields _ _ _ _ _ _ _ _ at deep paid (row_ends_none row other)
   ends_none (ends_inside at row) other = no_elements _ _ _ _ _ at (row_ends_none row other)
 
-  -- Where reading of a row ends no row fits.
+  -- If reading a row ends, no row fits.
   row_ends_none : {bytes : List ℕ} {v : Bool} {e : MetaFault} {ss : List Spot} {most : ℕ} {room new : Room} → RowEnds bytes v e ss most room new → IsOther e → NoRowFits bytes ss most room
-  row_ends_none (ends_first first) other none stand fits = absurd stand
-  row_ends_none (ends_first first) other (more y ys) stand fits = ends_none first other y stand.0 (first_fits _ _ y ys fits)
-  row_ends_none (ends_unkept x stands deep paid) other ys stand fits = absurd (other refl)
-  row_ends_none (ends_later x stands deep paid row) other none stand fits = absurd stand
-  row_ends_none {bytes = bytes} (ends_later x stands deep paid row) other (more y ys) stand fits =
-      row_ends_none row other ys stand.1 (later_fits _ _ _ x y ys (one bytes _ x y stands stand.0) paid fits)
+  row_ends_none (ends_first first) other none there fits = absurd there
+  row_ends_none (ends_first first) other (more y ys) there fits = ends_none first other y there.0 (first_fits _ _ y ys fits)
+  row_ends_none (ends_unkept x placed deep paid) other ys there fits = absurd (other refl)
+  row_ends_none (ends_later x placed deep paid row) other none there fits = absurd there
+  row_ends_none {bytes = bytes} (ends_later x placed deep paid row) other (more y ys) there fits =
+      row_ends_none row other ys there.1 (later_fits _ _ _ x y ys (one bytes _ x y placed there.0) paid fits)
 
--- The rows below one table are one row.
+-- The rows below one table are the same row.
 same_row : (bytes : List ℕ) (e : MetaFault) (s : Spot) (most below far : ℕ) (room mid also b : Room) (kind j : TableKind) (ss rs : List Spot) →
     layer bytes s ≡ Some (table_layer kind ss) → below + visit kind ≡ most → Spends room mid (visit kind) (entry kind) 0 →
     layer bytes s ≡ Some (table_layer j rs) → far + visit j ≡ most → Spends room also (visit j) (entry j) 0 → RowEnds bytes false e rs far also b → RowEnds bytes false e ss below mid b
@@ -143,7 +144,7 @@ same_row bytes e s most below far room mid also b kind j ss rs at deep paid is d
     subst (λ r. RowEnds bytes false e ss below r b) rooms (subst (λ n. RowEnds bytes false e ss n also b) levels_same (subst (λ r. RowEnds bytes false e r far also b) spots rest))
 
 mutual
-  -- Reading of a spot leaves one room where it ends.
+  -- The room that is left where reading a spot ends is unique.
   one_left : {bytes : List ℕ} {v : Bool} {e : MetaFault} {s : Spot} {most : ℕ} {room a b : Room} → Ends bytes v e s most room a → Ends bytes v e s most room b → IsOther e → a ≡ b
   one_left (ends_refused x at takes paid) k other = absurd (other refl)
   one_left h (ends_refused x at takes paid) other = absurd (other refl)
@@ -185,39 +186,39 @@ mutual
       let same : rs ≡ ss = cc in
       one_row_left row (subst (λ r. RowEnds bytes true e r most room b) same rest) other
 
-  -- Reading of a row leaves one room where it ends.
+  -- The room that is left where reading a row ends is unique.
   one_row_left : {bytes : List ℕ} {v : Bool} {e : MetaFault} {ss : List Spot} {most : ℕ} {room a b : Room} → RowEnds bytes v e ss most room a → RowEnds bytes v e ss most room b → IsOther e → a ≡ b
-  one_row_left (ends_unkept x stands deep paid) k other = absurd (other refl)
-  one_row_left h (ends_unkept x stands deep paid) other = absurd (other refl)
+  one_row_left (ends_unkept x placed deep paid) k other = absurd (other refl)
+  one_row_left h (ends_unkept x placed deep paid) other = absurd (other refl)
   one_row_left (ends_first first) (ends_first also) other = one_left first also other
-  one_row_left (ends_first first) (ends_later x stands deep paid row) other = absurd (ends_none first other x stands (paid_fits _ _ _ x deep paid))
-  one_row_left (ends_later x stands deep paid row) (ends_first first) other = absurd (ends_none first other x stands (paid_fits _ _ _ x deep paid))
-  one_row_left {bytes = bytes} {v = v} {e = e} {most = most} {room = room} {b = b} (ends_later {s = s} {rest = rest} {mid = mid} x stands deep paid row) (ends_later {mid = also} y stand far more_paid others) other =
-      let same : y ≡ x = one bytes s y x stand stands in
+  one_row_left (ends_first first) (ends_later x placed deep paid row) other = absurd (ends_none first other x placed (paid_fits _ _ _ x deep paid))
+  one_row_left (ends_later x placed deep paid row) (ends_first first) other = absurd (ends_none first other x placed (paid_fits _ _ _ x deep paid))
+  one_row_left {bytes = bytes} {v = v} {e = e} {most = most} {room = room} {b = b} (ends_later {s = s} {rest = rest} {mid = mid} x placed deep paid row) (ends_later {mid = also} y there far more_paid others) other =
+      let same : y ≡ x = one bytes s y x there placed in
       let paid_same : Spends room also (visits x) (entries x) (text_bytes x) = subst (λ z. Spends room also (visits z) (entries z) (text_bytes z)) same more_paid in
       let rooms : also ≡ mid = left_same room also mid (visits x) (entries x) (text_bytes x) paid_same paid in
       one_row_left row (subst (λ r. RowEnds bytes v e rest most r b) rooms others) other
 
--- the counts of what was spent
-one_count : (room left : Room) (v w : Work) → Spends room left v.fields v.pairs v.bytes → Spends room left w.fields w.pairs w.bytes → v ≡ w
+-- equal spending gives equal counts
+one_count : (room left : Room) (v w : DecodeCost) → Spends room left v.fields v.pairs v.bytes → Spends room left w.fields w.pairs w.bytes → v ≡ w
 one_count room left v w h k =
     let same_fields : v.fields ≡ w.fields = omega (arith, h.visits_paid, k.visits_paid) in
     let same_pairs : v.pairs ≡ w.pairs = omega (arith, h.entries_paid, k.entries_paid) in
     let same_bytes : v.bytes ≡ w.bytes = omega (arith, h.text_paid, k.text_paid) in
     λ i. record { fields = same_fields i; pairs = same_pairs i; bytes = same_bytes i }
 
--- metadata that have a tree do not end reading
-never_ends : (limits : LimitNumbers) (bytes : List ℕ) (e : MetaFault) (x : Tree) (w : Work) → IsOther e → EndsAtRoot limits bytes e w → IsTreeOf bytes limits x → ⊥
+-- reading metadata that have a tree does not end with a fault
+never_ends : (limits : LimitNumbers) (bytes : List ℕ) (e : MetaFault) (x : Tree) (w : DecodeCost) → IsOther e → EndsAtRoot limits bytes e w → IsTreeOf bytes limits x → ⊥
 never_ends limits bytes e x w other ends is =
-    ends_none ends.1 other x (root_stands limits.types bytes x is.lies) (record {
+    ends_none ends.1 other x (root_placed limits.types bytes x is.lies) (record {
       levels_fit = is.within.shallow.levels_within;
       visits_fit = is.within.shallow.visits_within;
       entries_fit = is.within.shallow.entries_within;
       text_fits = is.within.text_within;
     })
 
--- After a fault other than want of memory the work is one.
-pub one_work : (limits : LimitNumbers) (bytes : List ℕ) (e : MetaFault) (v w : Work) → IsOther e → CountsFailed limits bytes e v → CountsFailed limits bytes e w → v ≡ w
+-- After a fault other than `Memory` the work is unique.
+pub one_work : (limits : LimitNumbers) (bytes : List ℕ) (e : MetaFault) (v w : DecodeCost) → IsOther e → CountsFailed limits bytes e v → CountsFailed limits bytes e w → v ≡ w
 one_work limits bytes e v w other (inl h) (inl k) =
     let rooms : k.0 ≡ h.0 = one_left k.1 h.1 other in
     one_count (whole limits.max_metadata) h.0 v w h.2 (subst (λ r. Spends (whole limits.max_metadata) r w.fields w.pairs w.bytes) rooms k.2)

@@ -1,7 +1,7 @@
--- When the own parts of two types are equal.
+-- When the tags of two types, without their children, are equal.
 use Rattle.std.proofs.Common.{◌≡◌, Bool, ◌↔◌, IsTrue, Option, Some, None, refl, sym, ap, ◌∙◌}
 use Rattle.std.specs.Option.{unwrap_or}
-use Rattle.arrow_types.specs.Field.{Head, TypeShape}
+use Rattle.arrow_types.specs.Field.{FieldHeader, TypeShape}
 use Rattle.arrow_meta_reader.specs.declared.codes.TypeCode.{TypeCode}
 use Rattle.arrow_meta_reader.specs.declared.codes.TypeCode.TheVariants as codes
 use Rattle.arrow_meta_reader.specs.Types.{code_of, type_code}
@@ -11,7 +11,7 @@ use Rattle.arrow_meta_reader.specs.Sharing.{AreLabelledAlike, code_in, tag_of, t
 use Rattle.arrow_meta_reader.specs.Trees.{Trees}
 use Rattle.arrow_meta_reader.proofs.Decimals.{of_table}
 
--- a type's own part keeps its code
+-- a type's tag keeps its code
 kept : (code : TypeCode) (xs : Trees) → code_of (tag_by (Some code) xs) ≡ code
 kept codes.Null xs = refl
 kept codes.Decimal xs = of_table (λ tag. code_of tag ≡ codes.Decimal) (λ width precision scale h. refl) xs
@@ -22,7 +22,7 @@ read_as : (code : Option TypeCode) (xs : Trees) → tag_by code xs ≡ tag_by (S
 read_as None xs = refl
 read_as (Some code) xs = refl
 
--- Own parts are equal just where their codes are and what their tables say.
+-- Tags are equal exactly if their codes and the meanings of their tables are.
 pub same_tags : (xs ys : Trees) → (code_in xs ≡ code_in ys) × (tag_by (Some (code_in xs)) (parts (nth 3 xs)) ≡ tag_by (Some (code_in xs)) (parts (nth 3 ys)))
     ↔ (tag_of xs ≡ tag_of ys)
 same_tags xs ys =
@@ -33,7 +33,7 @@ same_tags xs ys =
           (alike, sym one ∙ same ∙ other ∙ ap (λ code. tag_by (Some code) (parts (nth 3 ys))) (sym alike)),
     )
 
--- The same of what the program has found of them, where their codes are equal.
+-- The same of the program's comparison, if the codes are equal.
 pub same_tags_by : (xs ys : Trees) (a b : TypeCode) (one other : Trees) (r : Bool) → a ≡ code_in xs → b ≡ code_in ys → one ≡ parts (nth 3 xs) → other ≡ parts (nth 3 ys)
     → a ≡ b → (IsTrue r ↔ (tag_by (Some a) one ≡ tag_by (Some a) other)) → IsTrue r ↔ (tag_of xs ≡ tag_of ys)
 same_tags_by xs ys a b one other r is_a is_b is_one is_other alike test =
@@ -44,14 +44,14 @@ same_tags_by xs ys a b one other r is_a is_b is_one is_other alike test =
       λ same. test.1 (here ∙ ((same_tags xs ys).1 same).1 ∙ sym there),
     )
 
--- Heads are equal just where all that they hold is.
+-- Heads are equal exactly if all of their parts are.
 pub same_heads : (xs ys : Trees) → (AreLabelledAlike xs ys × (tag_of xs ≡ tag_of ys)) ↔ (head_of xs ≡ head_of ys)
 same_heads xs ys = (
   λ h. λ i. record { name = h.0.0 i; nullable = h.0.1 i; tag = h.1 i; encoding = h.0.2 i },
-  λ same. ((ap (λ (h : Head). h.name) same, ap (λ (h : Head). h.nullable) same, ap (λ (h : Head). h.encoding) same), ap (λ (h : Head). h.tag) same),
+  λ same. ((ap (λ (h : FieldHeader). h.name) same, ap (λ (h : FieldHeader). h.nullable) same, ap (λ (h : FieldHeader). h.encoding) same), ap (λ (h : FieldHeader). h.tag) same),
 )
 
--- Types are equal just where their own parts and their children are.
+-- Types are equal exactly if their tags and their children are.
 pub same_types : (xs ys : Trees) (one other : Trees) (r : Bool) → fields_from one ≡ fields_at 5 xs → fields_from other ≡ fields_at 5 ys → tag_of xs ≡ tag_of ys
     → (IsTrue r ↔ (fields_from one ≡ fields_from other)) → IsTrue r ↔ (type_of xs ≡ type_of ys)
 same_types xs ys one other r here there tags test = (

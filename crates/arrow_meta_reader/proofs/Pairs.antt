@@ -16,18 +16,18 @@ pair_is b p i xy f g =
     let two : xy.1 ≡ unwrap_or (number_at 8 b (p + i * 16 + 8)) 0 = ap (λ (o : Option ℕ). unwrap_or o 0) g in
     ap (λ (u : ℕ). (u, xy.1)) one ∙ ap (λ (v : ℕ). (unwrap_or (number_at 8 b (p + i * 16)) 0, v)) two
 
--- the pair at hand and those to come
+-- the current pair and those that follow
 next_pair : (b : List ℕ) (p n i : ℕ) (xy : ℕ × ℕ) → i < n → Some xy.0 ≡ number_at 8 b (p + i * 16) → Some xy.1 ≡ number_at 8 b (p + i * 16 + 8) → xy ∷ pairs_from b (p + (i + 1) * 16) (n - (i + 1)) ≡ pairs_from b (p + i * 16) (n - i)
 next_pair b p n i xy h f g =
     ap (λ (z : ℕ × ℕ). z ∷ pairs_from b (p + (i + 1) * 16) (n - (i + 1))) (pair_is b p i xy f g) ∙ sym (pairs_step b p n i h)
 
--- the pairs so far and those to come are all of them, after one more
+-- the pairs so far and those that follow are all of them, after one more
 pub one_pair : (b : List ℕ) (p n i : ℕ) (xy : ℕ × ℕ) (old new all : List (ℕ × ℕ)) → i < n → Some xy.0 ≡ number_at 8 b (p + i * 16) → Some xy.1 ≡ number_at 8 b (p + i * 16 + 8) → new ≡ old ++ xy ∷ [] → old ++ pairs_from b (p + i * 16) (n - i) ≡ all → new ++ pairs_from b (p + (i + 1) * 16) (n - (i + 1)) ≡ all
 one_pair b p n i xy old new all h f g items before =
     let rest = pairs_from b (p + (i + 1) * 16) (n - (i + 1)) in
     ap (λ (xs : List (ℕ × ℕ)). xs ++ rest) items ∙ append_assoc old (xy ∷ []) rest ∙ ap (λ (r : List (ℕ × ℕ)). old ++ r) (next_pair b p n i xy h f g) ∙ before
 
--- the same of what is made of the pairs one by one
+-- the same of the values made from the pairs one by one
 pub one_made : {X : Type 0} (make : ℕ × ℕ → X) (b : List ℕ) (p n i : ℕ) (xy : ℕ × ℕ) (old new all : List X) → i < n → Some xy.0 ≡ number_at 8 b (p + i * 16) → Some xy.1 ≡ number_at 8 b (p + i * 16 + 8) → new ≡ old ++ make xy ∷ [] → old ++ map make (pairs_from b (p + i * 16) (n - i)) ≡ all → new ++ map make (pairs_from b (p + (i + 1) * 16) (n - (i + 1))) ≡ all
 one_made {X} make b p n i xy old new all h f g items before =
     let rest = map make (pairs_from b (p + (i + 1) * 16) (n - (i + 1))) in

@@ -1,8 +1,8 @@
--- The fields that a tree says are no deeper and no more than its Field tables, and the pairs no more than its KeyValue
--- tables.
+-- The fields that a tree describes are no deeper and no more than its Field tables, and its pairs no more than its
+-- KeyValue tables.
 use Rattle.std.proofs.Common.{ℕ, zero, suc, ◌+◌, ◌≤◌, max, length, length-append, arith}
 use Rattle.arrow_types.specs.Field as columns
-use Rattle.arrow_types.specs.Field.{Fields, count}
+use Rattle.arrow_types.specs.Field.{FieldTree, count}
 use Rattle.arrow_types.specs.Notes.{Notes, noted_count, pair_count}
 use Rattle.arrow_meta_reader.specs.declared.kinds.TableKind.TheVariants as kinds
 use Rattle.arrow_meta_reader.specs.Parts.{nth, parts}
@@ -20,7 +20,7 @@ mutual
   levels_from none = omega arith
   levels_from (more x xs) = omega (arith, levels_with x (fields_from xs), levels_from xs)
 
-  levels_with : (x : Tree) (rest : Fields) → columns.levels (with_field x rest) ≤ max (levels x) (columns.levels rest)
+  levels_with : (x : Tree) (rest : FieldTree) → columns.levels (with_field x rest) ≤ max (levels x) (columns.levels rest)
   levels_with (leaf x) rest = omega arith
   levels_with (table (kinds.Field types) xs) rest = omega (arith, levels_at 5 xs)
   levels_with (table kind xs) rest = omega arith
@@ -41,7 +41,7 @@ mutual
   count_from none = omega arith
   count_from (more x xs) = omega (arith, count_with x (fields_from xs), count_from xs)
 
-  count_with : (x : Tree) (rest : Fields) → count (with_field x rest) ≤ visits x + count rest
+  count_with : (x : Tree) (rest : FieldTree) → count (with_field x rest) ≤ visits x + count rest
   count_with (leaf x) rest = omega arith
   count_with (table (kinds.Field types) xs) rest = omega (arith, count_at 5 xs)
   count_with (table kind xs) rest = omega arith
@@ -84,7 +84,7 @@ schema_count x i =
     let header = nth i (parts x) in
     omega (arith, count_in (nth 1 (parts header)), visits_nth 1 (parts header), visits_parts header, visits_nth i (parts x), visits_parts x)
 
--- the pair of a tree is no more than its KeyValue tables
+-- the pairs of a tree, one or none, are no more than its KeyValue tables
 one_pair : (x : Tree) → length (pair_in x) ≤ entries x
 one_pair (leaf x) = omega arith
 one_pair (table kinds.KeyValue xs) = omega arith
@@ -131,7 +131,7 @@ mutual
   noted_with (table kind xs) rest = omega arith
   noted_with (tables xs) rest = omega arith
 
-  -- the notes of the vector in field i, and what stands in the next field
+  -- the custom metadata of the fields of the vector in field i, and the KeyValue tables in the next field
   noted_both : (i : ℕ) (xs : Trees) → noted_count (notes_at i xs) + entries (nth (suc i) xs) ≤ entries_all xs
   noted_both i none = omega arith
   noted_both zero (more x xs) = omega (arith, noted_in x, entries_nth 0 xs)

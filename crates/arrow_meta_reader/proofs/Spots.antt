@@ -32,7 +32,7 @@ length-spots_from : (ss : List FieldForm) (t : TableAt) (i : ℕ) → length (sp
 length-spots_from [] t i = refl
 length-spots_from (s ∷ ss) t i = ap suc (length-spots_from ss t (i + 1))
 
--- A table has as many spots as fields that are looked at.
+-- A table has one spot for each of its fields that are read.
 pub length-spots : (kind : TableKind) (t : TableAt) → length (spots_of kind t) ≡ length (forms_of kind)
 length-spots kind t = length-spots_from (forms_of kind) t 0
 
@@ -51,7 +51,7 @@ pub length-elements : (kind : TableKind) (p n : ℕ) → length (elements kind p
 length-elements kind p zero = refl
 length-elements kind p (suc n) = ap suc (length-elements kind (p + 4) n)
 
--- a fault that says one thing says another that follows
+-- the claim of a fault holds of weaker conditions too
 pub faulty_so : (e : MetaFault) (P P' Q Q' : Type 0) → (P → P') → (Q → Q') → Faulty e P Q → Faulty e P' Q'
 faulty_so Metadata P P' Q Q' f g h = f h
 faulty_so Memory P P' Q Q' f g h = g h

@@ -1,4 +1,4 @@
--- The fields of a table, as the program has them.
+-- The fields of a table, as the program holds them.
 use Rattle.std.proofs.Common.{◌≡◌, ℕ, zero, suc, ◌≤◌, ◌<◌, List, [], ◌∷◌, length, refl, sym, ap, ◌∙◌, arith, slice_index_or, Option, Some, None, Bor}
 use Rattle.std.specs.Prelude.{slice_get, get_or, MatchOption, IfSome, is_some}
 use Rattle.std.specs.List.{HoldsAt, remove}
@@ -23,7 +23,7 @@ nth_get [] n x h = cc
 nth_get (t ∷ ts) zero x h = cc
 nth_get (t ∷ ts) (suc n) x h = nth_get ts n x h
 
--- what `get` says of a table's fields
+-- the result of `get` on a table's fields
 pub found_part : (ts : List Built) (n : ℕ) (r : Option (Bor Built)) → IfSome r (λ x. x.now ≡ get_or ts n x.now) → MatchOption r (length ts ≤ n) (λ x. (n < length ts) × HoldsAt (λ y. x.now ≡ y) ts n)
     → MatchOption r (nth n (plain_all ts) ≡ leaf absent) (λ x. nth n (plain_all ts) ≡ plain x.now)
 found_part ts n None h g = nth_past ts n g
@@ -35,13 +35,13 @@ fields_at_nth i none = refl
 fields_at_nth zero (more x xs) = refl
 fields_at_nth (suc i) (more x xs) = fields_at_nth i xs
 
--- A field has an encoding exactly where a table stands for it.
+-- A field has an encoding exactly if there is a table for it.
 pub encoded : (x : Tree) → is_table x ≡ is_some (encoding_in x)
 encoded (leaf x) = refl
 encoded (table kind xs) = refl
 encoded (tables xs) = refl
 
--- Behind the last field of a table there are no fields of a schema.
+-- There are no fields of a schema past the last field of a table.
 pub fields_past : (ts : List Built) (n : ℕ) → length ts ≤ n → fields_at n (plain_all ts) ≡ columns.none
 fields_past [] n h = refl
 fields_past (t ∷ ts) zero h = absurd (omega (arith, h))
@@ -62,21 +62,21 @@ pub taken : (ts rest : List Built) (n : ℕ) (x : Built) → n < length ts → x
     → (plain x ≡ nth n (plain_all ts)) × ((i : ℕ) → i < n → nth i (plain_all rest) ≡ nth i (plain_all ts))
 taken ts rest n x h e r = (nth_at ts n x h e, λ i k. ap (λ us. nth i (plain_all us)) r ∙ nth_remove ts i n k)
 
--- Behind the last field of a table nothing stands.
+-- There is nothing past the last field of a table.
 pub not_taken : (ts : List Built) (n : ℕ) → length ts ≤ n → leaf absent ≡ nth n (plain_all ts)
 not_taken ts n h = sym (nth_past ts n h)
 
--- An empty list of fields says no fields.
+-- An empty list of fields has no fields.
 pub no_fields : (fs : List Field) → length fs ≡ 0 → fields_view fs ≡ columns.none
 no_fields [] h = refl
 no_fields (f ∷ fs) h = absurd (omega (arith, h))
 
--- Nothing is noted at an empty list of fields.
+-- An empty list of fields has no custom metadata.
 pub no_notes : (fs : List Field) → length fs ≡ 0 → notes_view fs ≡ unnoted
 no_notes [] h = refl
 no_notes (f ∷ fs) h = absurd (omega (arith, h))
 
--- the notes of the children of a Field table are those of its vector
+-- the custom metadata of the children of a Field table are those of its vector
 pub notes_at_nth : (i : ℕ) (xs : Trees) → notes_at i xs ≡ notes_in (nth i xs)
 notes_at_nth i none = refl
 notes_at_nth zero (more x xs) = refl

@@ -23,8 +23,8 @@ abbrev pub number_of_version : MetadataVersion → ℕ
 number_of_version versions.V4 = 3
 number_of_version versions.V5 = 4
 
--- The version that a number stands for (Schema.fbs, enum "MetadataVersion"). There is none for V1 (0), V2 (1) and V3 (2),
--- which this project leaves out, and for a number that is no version's.
+-- The version that a number encodes (Schema.fbs, enum "MetadataVersion"). There is none for V1 (0), V2 (1) and V3
+-- (2), which this project leaves out, and for a number that is not a version's.
 abbrev pub metadata_version : ℕ → Option MetadataVersion
 metadata_version n =
     if n == number_of_version versions.V4 then Some versions.V4 else
@@ -42,8 +42,9 @@ dictionary_code = 2
 abbrev pub batch_code : ℕ
 batch_code = 3
 
--- The header that a code names (Message.fbs, union "MessageHeader"). There is none for 0, which says that there is no
--- header, for a Tensor (4) and a SparseTensor (5), which this project leaves out, and for a number that is no header's.
+-- The header that a code names (Message.fbs, union "MessageHeader"). There is none for 0, which means that there is
+-- no header, for a Tensor (4) and a SparseTensor (5), which this project leaves out, and for a number that is not a
+-- header's.
 abbrev pub header_kind : ℕ → Option HeaderKind
 header_kind n =
     if n == schema_code then Some headers.Schema else
@@ -65,9 +66,9 @@ bit_width n =
     (if n == 32 then Some widths.ThirtyTwo else
     (if n == 64 then Some widths.SixtyFour else None)))
 
--- The width of a FixedSizeBinary (Schema.fbs, table "FixedSizeBinary", field "byteWidth") and the size of a FixedSizeList
--- (table "FixedSizeList", field "listSize"): a signed number of 32 bits, of which those above the greatest are the negative
--- ones, which are no width and no size.
+-- The width of a FixedSizeBinary (Schema.fbs, table "FixedSizeBinary", field "byteWidth") and the size of a
+-- FixedSizeList (table "FixedSizeList", field "listSize"): a signed number of 32 bits. Numbers above the greatest are
+-- the negative ones, which are not a width and not a size.
 abbrev pub byte_width : ℕ → Option ℕ
 byte_width n = if nat_lt 2147483647 n then None else Some n
 
@@ -79,7 +80,7 @@ decimal_width n =
     (if n == 128 then Some decimals.OneHundredTwentyEight else
     (if n == 256 then Some decimals.TwoHundredFiftySix else None)))
 
--- the scale of a Decimal (Schema.fbs, table "Decimal", field "scale"): the signed number that 32 bits are
+-- the scale of a Decimal (Schema.fbs, table "Decimal", field "scale"): its 32 bits as a signed number
 abbrev pub decimal_scale : ℕ → ℤ
 decimal_scale n = cast_signed w32 (n % 2 ^ 32)
 

@@ -1,7 +1,7 @@
--- What makes a single table one that no message has, and whether a tree holds such a table.
+-- The conditions under which a single table is invalid in every message, and whether a tree holds such a table.
 use Rattle.std.specs.Prelude.{ℕ, Bool, true, false, ◌||◌, ◌&&◌, not, Option, Some, None, is_some, ◌==◌}
 use Rattle.std.specs.Option.{is_none}
-use Rattle.arrow_types.specs.Field.{Fields, width}
+use Rattle.arrow_types.specs.Field.{FieldTree, width}
 use Rattle.arrow_types.specs.Schema.{are_entries}
 use Rattle.arrow_meta_reader.specs.declared.kinds.TableKind.{TableKind}
 use Rattle.arrow_meta_reader.specs.declared.kinds.TableKind.TheVariants as kinds
@@ -50,21 +50,21 @@ is_unsupported kinds.DictionaryBatch xs = false
 is_unsupported (kinds.Type code) xs = false
 is_unsupported kinds.KeyValue xs = false
 
--- A list of each kind and a map have one child, a struct any number, each other type none (Columnar Format, "Physical memory
--- layout"), and a type outside the profile none that is looked at.
+-- A list of each kind and a map have one child, a struct any number, each other type none (Columnar Format, "Physical
+-- memory layout"), and a type outside the profile none that is read.
 abbrev pub children_fit : Option TypeCode → ℕ → Bool
 children_fit None n = n == 0
 children_fit (Some code) n = has_children (type_row code).children n
 
--- The child of a map is a struct of two fields that is not dictionary-encoded (Schema.fbs, table "Map"). Of no other type
--- more is looked at than the number of its children.
-abbrev pub entries_fit : Option TypeCode → Fields → Bool
+-- The child of a map is a struct of two fields that is not dictionary-encoded (Schema.fbs, table "Map"). For every
+-- other type only the number of its children is checked.
+abbrev pub entries_fit : Option TypeCode → FieldTree → Bool
 entries_fit (Some codes.Map) children = are_entries children
 entries_fit code children = true
 
--- Schema: a width or a unit outside its list, a fixed size that is negative, a time's width that is not its unit's, a decimal's
--- precision or scale that its width does not allow, a number of children that the type does not have, a map's child that
--- cannot be its entries.
+-- Schema: a width or a unit outside its list, a fixed size that is negative, a time's width that its unit does not
+-- have, a decimal's precision or scale that its width does not allow, a number of children that the type does not
+-- have, a map's child that cannot be its entries.
 abbrev pub is_misfit : TableKind → Trees → Bool
 is_misfit (kinds.Message types) xs = false
 is_misfit (kinds.Schema types) xs = false
@@ -77,7 +77,7 @@ is_misfit kinds.DictionaryBatch xs = false
 is_misfit (kinds.Type code) xs = (type_row code).is_misfit xs
 is_misfit kinds.KeyValue xs = false
 
--- what a test of the program looks for
+-- the condition that a test of the program checks
 abbrev pub finds : Test → TableKind → Trees → Bool
 finds tests.LacksTable = lacks_table
 finds tests.Unsupported = is_unsupported

@@ -15,7 +15,8 @@ use Rattle.arrow_meta_reader.specs.SchemaMeaning.{schema_fields, schema_pairs}
 use Rattle.arrow_meta_reader.specs.Slots as slots
 use Rattle.arrow_meta_reader.specs.Trees.{Tree, Trees}
 
--- which version a Message table has, of those that are read (Message.fbs, table "Message"; so the next three)
+-- the version of a Message table, if it is one of those that are read (Message.fbs, table "Message"; so the next
+-- three)
 abbrev pub version_in : Trees → Option MetadataVersion
 version_in xs = metadata_version (number_at slots.message_version 0 xs)
 
@@ -23,7 +24,7 @@ version_in xs = metadata_version (number_at slots.message_version 0 xs)
 abbrev pub header_of : Trees → Tree
 header_of xs = nth slots.message_header xs
 
--- which header there is: the one that the code before it names, where a table stands for it
+-- the kind of the header: the one that the code before it names, if there is a table for it
 abbrev pub header_in : Trees → Option HeaderKind
 header_in xs = if is_table (header_of xs) then header_kind (number_at slots.message_header_type 0 xs) else None
 
@@ -51,15 +52,15 @@ data_of xs = parts (nth slots.dictionary_batch_data xs)
 abbrev pub is_compressed : Trees → Bool
 is_compressed xs = is_there (nth slots.record_batch_compression xs)
 
--- A Schema table with these fields has a field, or a pair of metadata, so that memory is asked for where it is built.
+-- A Schema table with these fields has a field, or a pair of metadata, so building it requests memory.
 abbrev pub HasFieldOrPair : Trees → Type 0
 HasFieldOrPair xs = 0 < width (schema_fields xs) + length (schema_pairs xs)
 
--- A RecordBatch table with these fields has a field node or a buffer, so that memory is asked for where it is built.
+-- A RecordBatch table with these fields has a field node or a buffer, so building it requests memory.
 abbrev pub HasNodeOrBuffer : Trees → Type 0
 HasNodeOrBuffer xs = 0 < length (pairs_in (nth slots.record_batch_nodes xs)) + length (pairs_in (nth slots.record_batch_buffers xs))
 
--- The conditions that a header's table has of its own, by what it is.
+-- The conditions of a header's table, by the header's kind.
 abbrev pub header_conditions : Option HeaderKind → ℕ → Tree → List (Bool × MetaFault)
 header_conditions None body_len x = []
 header_conditions (Some headers.Schema) body_len x =
@@ -82,11 +83,11 @@ abbrev pub least : List (Bool × MetaFault) → Option MetaFault
 least [] = None
 least (c ∷ cs) = if c.0 then Some c.1 else least cs
 
--- The least fault of a message with these fields, none where there is no fault.
+-- The least fault of a message with these fields, none if there is no fault.
 abbrev pub fault_of : ℕ → Trees → Option MetaFault
 fault_of max_body xs = least (conditions max_body xs)
 
--- the numbers of the faults, those of the stream's faults
+-- the numbers of the faults: those of the faults of a stream
 abbrev pub number_of : MetaFault → ℕ
 number_of Metadata = 3
 number_of Version = 4

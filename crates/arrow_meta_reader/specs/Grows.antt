@@ -1,4 +1,4 @@
--- Where reading asks for memory: what it is asked for is readable, and within the limits.
+-- Where reading requests memory: what the memory is for is readable and within the limits.
 use Rattle.std.specs.Prelude.{◌≡◌, ◌≤◌, ◌<◌, ◌+◌, ℕ, List, ◌∷◌, length, Some}
 use Rattle.arrow_types.specs.Limits.{LimitNumbers}
 use Rattle.arrow_types.specs.declared.type_set.TypeSet.{TypeSet}
@@ -6,11 +6,11 @@ use Rattle.arrow_meta_reader.specs.declared.kinds.TableKind.{TableKind}
 use Rattle.arrow_meta_reader.specs.declared.kinds.TableKind.TheVariants as kinds
 use Rattle.arrow_meta_reader.specs.declared.kinds.FieldForm.TheVariants as forms
 use Rattle.arrow_meta_reader.specs.Kinds.{Spot}
-use Rattle.arrow_meta_reader.specs.Lies.{leaf_layer, table_layer, tables_layer, layer, Stands}
+use Rattle.arrow_meta_reader.specs.Lies.{leaf_layer, table_layer, tables_layer, layer, Placed}
 use Rattle.arrow_meta_reader.specs.Trees.{Leaf, absent, number, text, byte_string, pairs, present, Tree}
 use Rattle.arrow_meta_reader.specs.Within.{visit, entry, levels, visits, entries, text_bytes, Room, Spends, Fits}
 
--- What stands in a field takes memory: a text or a string, for which there is room, or at least one pair.
+-- The value of a field takes memory: a text or a string, for which there is room, or at least one pair.
 abbrev pub TakesMemory : Leaf → Room → Type 0
 TakesMemory absent room = ⊥
 TakesMemory (number n) room = ⊥
@@ -20,8 +20,8 @@ TakesMemory (pairs ps) room = 0 < length ps
 TakesMemory present room = ⊥
 
 mutual
-  -- Reading the tree at the spot asks for memory: for what stands in a field, for the fields of a table that is
-  -- paid for, or for the tables of a vector.
+  -- Reading the tree at the spot requests memory: for the value of a field, for the fields of a table that is paid
+  -- for, or for the tables of a vector.
   pub data Grows (bytes : List ℕ) : Spot → ℕ → Room → Type 0 where
     field_grows : {s : Spot} {most : ℕ} {room : Room} {x : Leaf} →
         layer bytes s ≡ Some (leaf_layer x) → TakesMemory x room → Grows bytes s most room
@@ -31,15 +31,15 @@ mutual
     tables_grow : {s : Spot} {most : ℕ} {room : Room} {ss : List Spot} →
         layer bytes s ≡ Some (tables_layer ss) → RowGrows bytes ss most room → Grows bytes s most room
 
-  -- Reading the trees at the spots asks for memory: in the first tree, or to keep it. With that it has asked once, so
-  -- of the later ones no more is said.
+  -- Reading the trees at the spots requests memory: in the first tree, or to keep it. With that it has requested
+  -- memory once, so nothing is said of the later ones.
   pub data RowGrows (bytes : List ℕ) : List Spot → ℕ → Room → Type 0 where
     first_grows : {s : Spot} {rest : List Spot} {most : ℕ} {room : Room} →
         Grows bytes s most room → RowGrows bytes (s ∷ rest) most room
     first_kept : {s : Spot} {rest : List Spot} {most : ℕ} {room : Room} (x : Tree) →
-        Stands bytes s x → Fits room most (levels x) (visits x) (entries x) (text_bytes x) → RowGrows bytes (s ∷ rest) most room
+        Placed bytes s x → Fits room most (levels x) (visits x) (entries x) (text_bytes x) → RowGrows bytes (s ∷ rest) most room
 
--- the spot of a message: place 0, where the offset to its table stands
+-- the spot of a message: offset 0, which holds the offset to its table
 abbrev pub root : TypeSet → Spot
 root types = record { form = forms.Table (kinds.Message types); place = Some 0 }
 
@@ -47,6 +47,6 @@ root types = record { form = forms.Table (kinds.Message types); place = Some 0 }
 abbrev pub whole : ℕ → Room
 whole max_metadata = record { visits = 65536; entries = 65536; text = max_metadata }
 
--- Reading the message whose metadata the bytes are asks for memory.
+-- Reading the message with these bytes as its metadata requests memory.
 abbrev pub GrowsAtRoot : LimitNumbers → List ℕ → Type 0
 GrowsAtRoot limits bytes = Grows bytes (root limits.types) 32 (whole limits.max_metadata)

@@ -1,4 +1,4 @@
--- What a tree, and the bytes of a metadata, are answered with.
+-- The results for a tree, and for the bytes of a metadata.
 use Rattle.std.specs.Prelude.{◌≡◌, ◌≤◌, ◌⊎◌, ℕ, false, List, Option, Result, Ok, Err, Some, None}
 use Rattle.arrow_types.specs.Limits.{LimitNumbers}
 use Rattle.arrow_meta_reader.specs.declared.codes.HeaderKind.{HeaderKind}
@@ -15,25 +15,25 @@ use Rattle.arrow_meta_reader.specs.Parts.{parts}
 use Rattle.arrow_meta_reader.specs.Reads.{Ends}
 use Rattle.arrow_meta_reader.specs.Trees.{Tree, Trees}
 use Rattle.arrow_meta_reader.specs.Within.{IsWithin, visits, entries, text_bytes, Room, Spends}
-use Rattle.arrow_meta_reader.specs.declared.work.Work.{Work}
+use Rattle.arrow_meta_reader.specs.declared.decode_cost.DecodeCost.{DecodeCost}
 
--- A header's table with these fields, which is this header, is built with memory: a schema if it has a field or a pair of
--- metadata, a batch if it has a field node or a buffer.
+-- Building the table with these fields of this header requests memory: for a schema if it has a field or a pair of
+-- metadata, for a batch if it has a field node or a buffer.
 abbrev pub AsksMemory : Option HeaderKind → Trees → Type 0
 AsksMemory None xs = ⊥
 AsksMemory (Some headers.Schema) xs = HasFieldOrPair xs
 AsksMemory (Some headers.DictionaryBatch) xs = HasNodeOrBuffer (data_of xs)
 AsksMemory (Some headers.RecordBatch) xs = HasNodeOrBuffer xs
 
--- What the tests answer that come before a message is built: which version and which header there are, where no fault
--- holds, else the least fault.
+-- The result of the tests before a message is built: the version and the kind of header if no fault holds, else the
+-- least fault.
 abbrev pub Clears : Result (MetadataVersion × HeaderKind) MetaFault → ℕ → Trees → Type 0
 Clears (Ok found) max_body xs =
     (version_in xs ≡ Some found.0) × (header_in xs ≡ Some found.1) × (fault_of max_body xs ≡ None)
 Clears (Err fault) max_body xs = fault_of max_body xs ≡ Some fault
 
--- An answer to a tree: the message that it means, else its least fault. Want of memory is told only of a tree of
--- which no fault holds; of a schema only if it has a field or a pair, and of a batch only if it has a field node or a buffer.
+-- A result for a tree: the message that it means, else its least fault. `Memory` is returned only for a tree without
+-- a fault; for a schema only if it has a field or a pair, and for a batch only if it has a field node or a buffer.
 abbrev pub Judges : Result Message MetaFault → ℕ → Tree → Type 0
 Judges (Ok m) max_body x = Means max_body x (message_view m)
 Judges (Err Memory) max_body x =
@@ -41,7 +41,7 @@ Judges (Err Memory) max_body x =
     AsksMemory (header_in (parts x)) (parts (header_of (parts x)))
 Judges (Err fault) max_body x = fault_of max_body (parts x) ≡ Some fault
 
--- A body's length that is answered, with a message or with a fault, is at most the limit.
+-- The body length in a result, with a message or with a fault, is at most the limit.
 abbrev pub LengthFits : Result Message MetaFault → ℕ → Type 0
 LengthFits (Ok m) max_body = m.body_len ≤ max_body
 LengthFits (Err Metadata) max_body = Unit {0}
@@ -68,38 +68,38 @@ MetadataFails limits bytes fault =
     ((fault ≡ Metadata) × ((x : Tree) → IsTreeOf bytes limits x → ⊥)) ⊎
     ((x : Tree) × IsTreeOf bytes limits x × (fault_of limits.max_body (parts x) ≡ Some fault))
 
--- An answer to the bytes of a metadata. Want of memory is told only of bytes that ask for it: at least the root's
--- table is readable there, with its first field.
+-- A result for the bytes of a metadata. `Memory` is returned only for bytes whose reading requests memory: at least
+-- the root's table is readable there, with its first field.
 abbrev pub Decodes : Result Message MetaFault → LimitNumbers → List ℕ → Type 0
 Decodes (Ok m) limits bytes = MetadataMeans limits bytes (message_view m)
 Decodes (Err Memory) limits bytes = GrowsAtRoot limits bytes
 Decodes (Err fault) limits bytes = MetadataFails limits bytes fault
 
--- The work that was done keeps to the limits, whatever the answer is.
-pub record IsWorkWithin (limits : LimitNumbers) (work : Work) : Type 0 where
+-- The work that was done keeps to the limits, whatever the result is.
+pub record IsWorkWithin (limits : LimitNumbers) (work : DecodeCost) : Type 0 where
   pub fields_within : work.fields ≤ 65536
   pub pairs_within : work.pairs ≤ 65536
   pub bytes_within : work.bytes ≤ limits.max_metadata
 
--- The work counts just what a tree has, each occurrence: its Field tables, its KeyValue tables, and the bytes of its
--- names, zones, keys and values.
-pub record Counts (work : Work) (x : Tree) : Type 0 where
+-- The work counts exactly what a tree has, each occurrence: its Field tables, its KeyValue tables, and the bytes of
+-- its names, zones, keys and values.
+pub record Counts (work : DecodeCost) (x : Tree) : Type 0 where
   pub fields : work.fields ≡ visits x
   pub pairs : work.pairs ≡ entries x
   pub bytes : work.bytes ≡ text_bytes x
 
--- The work counts just what the tree of a metadata has.
-abbrev pub CountsTree : LimitNumbers → List ℕ → Work → Type 0
+-- The work counts exactly what the tree of a metadata has.
+abbrev pub CountsTree : LimitNumbers → List ℕ → DecodeCost → Type 0
 CountsTree limits bytes work = (x : Tree) → IsTreeOf bytes limits x → Counts work x
 
--- Reading the message whose metadata the bytes are ends with this fault, and the work counts just what was opened and
--- copied up to there.
-abbrev pub EndsAtRoot : LimitNumbers → List ℕ → MetaFault → Work → Type 0
+-- Reading the message with these bytes as its metadata ends with this fault, and the work counts exactly what was
+-- opened and copied up to there.
+abbrev pub EndsAtRoot : LimitNumbers → List ℕ → MetaFault → DecodeCost → Type 0
 EndsAtRoot limits bytes e work =
     (left : Room) × Ends bytes false e (root limits.types) 32 (whole limits.max_metadata) left ×
     Spends (whole limits.max_metadata) left work.fields work.pairs work.bytes
 
--- The work after a fault: what was opened and copied up to where reading ended with it, or what the whole tree has, where
--- the fault is the tree's.
-abbrev pub CountsFailed : LimitNumbers → List ℕ → MetaFault → Work → Type 0
+-- The work after a fault: what was opened and copied up to where reading ended with it, or what the whole tree has,
+-- if the fault is the tree's.
+abbrev pub CountsFailed : LimitNumbers → List ℕ → MetaFault → DecodeCost → Type 0
 CountsFailed limits bytes e work = EndsAtRoot limits bytes e work ⊎ ((x : Tree) × IsTreeOf bytes limits x × Counts work x)

@@ -1,4 +1,4 @@
--- Which tables a message is made of, and which fields of them are looked at (Message.fbs, Schema.fbs).
+-- The tables of a message, and which of their fields are read (Message.fbs, Schema.fbs).
 use Rattle.std.specs.Prelude.{ℕ, ◌+◌, ◌-◌, List, [], ◌∷◌, Option, Some, None}
 use Rattle.std.specs.Option.{option_and_then, unwrap_or}
 use Rattle.arrow_flatbuf.specs.Place.{number_at}
@@ -15,8 +15,8 @@ use Rattle.arrow_meta_reader.specs.declared.kinds.TableKind.TheVariants as kinds
 use Rattle.arrow_meta_reader.specs.declared.kinds.FieldForm.{FieldForm}
 use Rattle.arrow_meta_reader.specs.declared.kinds.FieldForm.TheVariants as forms
 
--- The fields of a table that are looked at, in order of their numbers from 0 (Message.fbs, Schema.fbs). The
--- fields behind the last one are not looked at.
+-- The fields of a table that are read, in order of their numbers from 0 (Message.fbs, Schema.fbs). The fields after
+-- the last one are not read.
 abbrev pub forms_of : TableKind → List FieldForm
 -- version, header's code, header, bodyLength
 forms_of (kinds.Message types) = forms.Short ∷ forms.Byte ∷ forms.Header types ∷ forms.Long ∷ []
@@ -43,58 +43,58 @@ table_of_header types (Some headers.Schema) = Some (kinds.Schema types)
 table_of_header types (Some headers.DictionaryBatch) = Some kinds.DictionaryBatch
 table_of_header types (Some headers.RecordBatch) = Some kinds.RecordBatch
 
--- The table that a header's code opens. No other header is looked at.
+-- The table that a header's code opens. No other header is read.
 abbrev pub header_table : TypeSet → ℕ → Option TableKind
 header_table types code = table_of_header types (header_kind code)
 
--- a table of these fields; where none is looked at there is none
+-- a table of these fields, none if no field of it is read
 abbrev pub opened_of : TypeCode → List FieldForm → Option TableKind
 opened_of code [] = None
 opened_of code (form ∷ rest) = Some (kinds.Type code)
 
--- the table of a type, none where nothing in it is looked at
+-- the table of a type, none if no field of it is read
 abbrev pub table_of : Option TypeCode → Option TableKind
 table_of None = None
 table_of (Some code) = opened_of code (type_row code).fields
 
--- the table that a type's code opens, where a set has the type
+-- the table that a type's code opens, if the set has the type
 abbrev pub type_table : TypeSet → ℕ → Option TableKind
 type_table types code = table_of (taken types (type_code code))
 
--- where something of a form stands, or that it is absent
+-- the offset of a value and its form, or that it is absent
 pub record Spot : Type 0 where
   pub form : FieldForm
   pub place : Option ℕ
 
--- The code in field i, 0 where it is absent (FlatBuffers internals, "Unions"). Where it is not readable no tree
--- lies at the table, whatever the code opens, since the code is itself a field that is looked at.
+-- The code in field i, 0 if it is absent (FlatBuffers internals, "Unions"). If it is not readable no tree lies at the
+-- table, whatever the code opens, since the code is itself a field that is read.
 abbrev pub code_at : TableAt → ℕ → ℕ
 code_at t i = unwrap_or (option_and_then (number_at 1 t.bytes) (field_place t i)) 0
 
--- A table that stands at a place where its code opens it. What no code opens counts as absent, and then the form
--- says nothing.
+-- A table at an offset, if its code opens one. Without such a code it counts as absent, and then the form means
+-- nothing.
 abbrev pub opened : Option TableKind → Option ℕ → Spot
 opened None place = record { form = forms.Presence; place = None }
 opened (Some kind) place = record { form = forms.Table kind; place = place }
 
 -- field i of a table, of this form
-abbrev pub standing : FieldForm → TableAt → ℕ → Spot
-standing form t i = record { form = form; place = field_place t i }
+abbrev pub snapshot : FieldForm → TableAt → ℕ → Spot
+snapshot form t i = record { form = form; place = field_place t i }
 
--- field i of a table, where the form of a header and of a type is told by the code before it
+-- field i of a table; the form of a header and of a type is determined by the code before it
 abbrev pub spot : FieldForm → TableAt → ℕ → Spot
 spot (forms.Header types) t i = opened (header_table types (code_at t (i - 1))) (field_place t i)
 spot (forms.Type types) t i = opened (type_table types (code_at t (i - 1))) (field_place t i)
-spot forms.Byte t i = standing forms.Byte t i
-spot forms.Short t i = standing forms.Short t i
-spot forms.Int t i = standing forms.Int t i
-spot forms.Long t i = standing forms.Long t i
-spot forms.Text t i = standing forms.Text t i
-spot forms.Bytes t i = standing forms.Bytes t i
-spot forms.Pairs t i = standing forms.Pairs t i
-spot forms.Presence t i = standing forms.Presence t i
-spot (forms.Table kind) t i = standing (forms.Table kind) t i
-spot (forms.Tables kind) t i = standing (forms.Tables kind) t i
+spot forms.Byte t i = snapshot forms.Byte t i
+spot forms.Short t i = snapshot forms.Short t i
+spot forms.Int t i = snapshot forms.Int t i
+spot forms.Long t i = snapshot forms.Long t i
+spot forms.Text t i = snapshot forms.Text t i
+spot forms.Bytes t i = snapshot forms.Bytes t i
+spot forms.Pairs t i = snapshot forms.Pairs t i
+spot forms.Presence t i = snapshot forms.Presence t i
+spot (forms.Table kind) t i = snapshot (forms.Table kind) t i
+spot (forms.Tables kind) t i = snapshot (forms.Tables kind) t i
 
 -- the fields from number i on
 abbrev pub spots_from : List FieldForm → TableAt → ℕ → List Spot

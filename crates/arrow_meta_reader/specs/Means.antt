@@ -44,7 +44,7 @@ node_of p = record { length = cast_signed w64 p.0; null_count = cast_signed w64 
 abbrev pub buffer_of : ℕ × ℕ → Buffer
 buffer_of p = record { offset = cast_signed w64 p.0; length = cast_signed w64 p.1 }
 
--- what a RecordBatch table with these fields says
+-- the meaning of a RecordBatch table with these fields
 abbrev pub batch_of : Trees → PlainBatch
 batch_of xs = record {
   length = cast_signed w64 (number_at slots.record_batch_length 0 xs);
@@ -52,14 +52,14 @@ batch_of xs = record {
   buffers = map buffer_of (pairs_in (nth slots.record_batch_buffers xs));
 }
 
--- what a header's table with these fields says, by what it is
+-- the meaning of a header's table with these fields, by the header's kind
 abbrev pub header_by : HeaderKind → Trees → PlainHeader
 header_by headers.Schema xs = schema (schema_in xs)
 header_by headers.DictionaryBatch xs =
     dictionary (cast_signed w64 (number_at slots.dictionary_batch_id 0 xs)) (flag_at slots.dictionary_batch_is_delta xs) (batch_of (data_of xs))
 header_by headers.RecordBatch xs = batch (batch_of xs)
 
--- what a Message table with these fields says, by its version and by what its header is
+-- the meaning of a Message table with these fields, by its version and the kind of its header
 abbrev pub message_by : Trees → MetadataVersion → HeaderKind → PlainMessage
 message_by xs version kind = record {
   version = version;
@@ -67,29 +67,29 @@ message_by xs version kind = record {
   body_len = body_of xs;
 }
 
--- What a Message table with these fields says, none without a version that is read or without a header. Where a fault
--- holds of them it is no message.
+-- The meaning of a Message table with these fields, none without a version that is read or without a header. If a
+-- fault holds of the fields it is not a message.
 abbrev pub meaning_of : Trees → Option PlainMessage
 meaning_of xs = do
   version ← version_in xs
   kind ← header_in xs
   Some (message_by xs version kind)
 
--- A message's tree means this message: no fault holds of it, and this is what it says.
+-- A message's tree means this message: no fault holds of it, and this is its meaning.
 pub record Means (max_body : ℕ) (x : Tree) (m : PlainMessage) : Type 0 where
   pub sound : fault_of max_body (parts x) ≡ None
   pub same : meaning_of (parts x) ≡ Some m
 
--- a record batch of the program, as what it says
+-- a record batch of the program, as its meaning
 abbrev pub batch_view : RecordBatch → PlainBatch
 batch_view b = record { length = b.length; nodes = b.nodes.items; buffers = b.buffers.items }
 
--- a header of the program, as what it says
+-- a header of the program, as its meaning
 abbrev pub header_view : Header → PlainHeader
 header_view (built.Schema s) = schema s
 header_view (built.Dictionary id delta b) = dictionary id delta (batch_view b)
 header_view (built.Batch b) = batch (batch_view b)
 
--- a message of the program, as what it says
+-- a message of the program, as its meaning
 abbrev pub message_view : Message → PlainMessage
 message_view m = record { version = m.version; header = header_view m.header; body_len = m.body_len }

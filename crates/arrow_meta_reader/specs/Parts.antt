@@ -1,5 +1,5 @@
 -- The fields of a table by number, with their defaults. A field that holds something of another form counts as
--- absent: no tree that lies somewhere has one.
+-- absent: no tree that lies at an offset has one.
 use Rattle.std.specs.Prelude.{ℕ, zero, suc, List, [], Bool, true, false, Option, Some, None, ◌==◌, not}
 use Rattle.arrow_meta_reader.specs.Trees.{Leaf, absent, number, text, byte_string, pairs, present, Tree, leaf, table, tables, Trees, none, more}
 
@@ -15,7 +15,7 @@ parts (leaf x) = none
 parts (table kind xs) = xs
 parts (tables xs) = none
 
--- the number that stands in a field, or d where none does
+-- the number in a field, or d if there is none
 abbrev pub leaf_number_or : ℕ → Leaf → ℕ
 leaf_number_or d absent = d
 leaf_number_or d (number n) = n
@@ -24,7 +24,7 @@ leaf_number_or d (byte_string s) = d
 leaf_number_or d (pairs ps) = d
 leaf_number_or d present = d
 
--- the number that a tree is, or d where it is none
+-- the number that a tree is, or d if it is not one
 abbrev pub number_or : ℕ → Tree → ℕ
 number_or d (leaf x) = leaf_number_or d x
 number_or d (table kind xs) = d
@@ -34,11 +34,11 @@ number_or d (tables xs) = d
 abbrev pub number_at : ℕ → ℕ → Trees → ℕ
 number_at i d xs = number_or d (nth i xs)
 
--- the truth value in field i: a byte that is not 0, false where it is absent
+-- the truth value in field i: a byte that is not 0, false if it is absent
 abbrev pub flag_at : ℕ → Trees → Bool
 flag_at i xs = not (number_at i 0 xs == 0)
 
--- a text, empty where it is absent
+-- a text, empty if it is absent
 abbrev pub text_in : Tree → List ℕ
 text_in (leaf absent) = []
 text_in (leaf (number n)) = []
@@ -60,7 +60,7 @@ some_text_in (leaf present) = None
 some_text_in (table kind xs) = None
 some_text_in (tables xs) = None
 
--- a string of any bytes, empty where it is absent
+-- a string of any bytes, empty if it is absent
 abbrev pub bytes_in : Tree → List ℕ
 bytes_in (leaf absent) = []
 bytes_in (leaf (number n)) = []
@@ -71,7 +71,7 @@ bytes_in (leaf present) = []
 bytes_in (table kind xs) = []
 bytes_in (tables xs) = []
 
--- the pairs of a vector, none where it is absent
+-- the pairs of a vector, none if it is absent
 abbrev pub pairs_in : Tree → List (ℕ × ℕ)
 pairs_in (leaf absent) = []
 pairs_in (leaf (number n)) = []

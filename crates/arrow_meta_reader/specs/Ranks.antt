@@ -1,11 +1,11 @@
--- By which measure the reading of tables ends.
+-- The measure by which the reading of tables terminates.
 use Rattle.std.specs.Prelude.{ℕ, ◌+◌, ◌*◌, Option, Some, None}
 use Rattle.arrow_meta_reader.specs.declared.kinds.TableKind.{TableKind}
 use Rattle.arrow_meta_reader.specs.declared.kinds.TableKind.TheVariants as kinds
 use Rattle.arrow_meta_reader.specs.declared.kinds.FieldForm.{FieldForm}
 use Rattle.arrow_meta_reader.specs.declared.kinds.FieldForm.TheVariants as forms
 
--- Below a table stand tables of lower rank, save below a field.
+-- Tables below a table have lower rank, except below a field.
 abbrev pub rank : TableKind → ℕ
 rank (kinds.Message types) = 5
 rank (kinds.Schema types) = 4
@@ -16,7 +16,7 @@ rank kinds.DictionaryBatch = 2
 rank (kinds.Type code) = 1
 rank kinds.KeyValue = 1
 
--- the rank of the tables in a field of this form, 0 where it holds none
+-- the rank of the tables in a field of this form, 0 if it holds none
 abbrev pub form_rank : FieldForm → ℕ
 form_rank forms.Byte = 0
 form_rank forms.Short = 0
@@ -42,11 +42,11 @@ inner kinds.DictionaryBatch = rank kinds.DictionaryBatch
 inner (kinds.Type code) = rank (kinds.Type code)
 inner kinds.KeyValue = rank kinds.KeyValue
 
--- what is left to do
+-- the remaining work
 abbrev pub work : ℕ → ℕ → ℕ → ℕ
 work levels rank step = 8 * (8 * levels + rank) + step
 
--- the rank of an opened table, 0 where none is
+-- the rank of an opened table, 0 if none is opened
 abbrev pub opened_rank : Option TableKind → ℕ
 opened_rank None = 0
 opened_rank (Some kind) = rank kind

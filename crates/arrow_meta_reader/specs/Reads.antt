@@ -1,4 +1,4 @@
--- What reading answers, and where it ends with a fault.
+-- The result of reading, and where it ends with a fault.
 use Rattle.std.specs.Prelude.{◌≡◌, ℕ, ◌<◌, ◌≤◌, ◌+◌, ◌-◌, ◌⊎◌, Bool, true, false, List, ◌∷◌, Some, None, Result, Ok, Err}
 use Rattle.arrow_meta_reader.specs.declared.fault.MetaFault.{MetaFault}
 use Rattle.arrow_meta_reader.specs.declared.fault.MetaFault.TheVariants.{Metadata, Version, Header, BodyLength, Unsupported, Schema, Compressed, Memory}
@@ -7,22 +7,22 @@ use Rattle.arrow_meta_reader.specs.declared.kinds.FieldForm.TheVariants as forms
 use Rattle.arrow_meta_reader.specs.declared.reader.Reader.{Reader}
 use Rattle.arrow_meta_reader.specs.Grows.{TakesMemory, Grows, RowGrows}
 use Rattle.arrow_meta_reader.specs.Kinds.{Spot}
-use Rattle.arrow_meta_reader.specs.Lies.{leaf_layer, table_layer, tables_layer, layer, Stands, AllStand}
+use Rattle.arrow_meta_reader.specs.Lies.{leaf_layer, table_layer, tables_layer, layer, Placed, AllPlaced}
 use Rattle.arrow_meta_reader.specs.Trees.{Leaf, Tree, Trees}
 use Rattle.arrow_meta_reader.specs.Within.{visit, entry, levels, levels_all, visits, visits_all, entries, entries_all, text_length, text_bytes}
 use Rattle.arrow_meta_reader.specs.Within.{text_bytes_all, Room, Spends, Fits}
 
--- No tree that stands at the spot fits.
+-- No tree at the spot fits.
 abbrev pub NoneFits : List ℕ → Spot → ℕ → Room → Type 0
 NoneFits bytes s most room =
-    (x : Tree) → Stands bytes s x → Fits room most (levels x) (visits x) (entries x) (text_bytes x) → ⊥
+    (x : Tree) → Placed bytes s x → Fits room most (levels x) (visits x) (entries x) (text_bytes x) → ⊥
 
--- No trees that stand at the spots fit together.
+-- No trees at the spots fit together.
 abbrev pub NoRowFits : List ℕ → List Spot → ℕ → Room → Type 0
 NoRowFits bytes ss most room =
-    (xs : Trees) → AllStand bytes ss xs → Fits room most (levels_all xs) (visits_all xs) (entries_all xs) (text_bytes_all xs) → ⊥
+    (xs : Trees) → AllPlaced bytes ss xs → Fits room most (levels_all xs) (visits_all xs) (entries_all xs) (text_bytes_all xs) → ⊥
 
--- What a fault of reading says: Metadata that P holds, want of memory that Q does. There is no other.
+-- What a fault of reading implies: `Metadata` implies P, `Memory` implies Q. There is no other fault.
 abbrev pub Faulty : MetaFault → Type 0 → Type 0 → Type 0
 Faulty Metadata P Q = P
 Faulty Memory P Q = Q
@@ -33,22 +33,22 @@ Faulty (Unsupported n) P Q = ⊥
 Faulty (Schema n) P Q = ⊥
 Faulty (Compressed kind n) P Q = ⊥
 
--- The tree that stands at the spot was read, seen by `view`, and paid for. A fault comes where none fits, or where
--- memory is asked for.
+-- The tree at the spot was read, seen by `view`, and paid for. A fault means that no tree fits, or that memory is
+-- requested.
 abbrev pub ReadsTree : {X : Type 0} → (X → Tree) → Result X MetaFault → List ℕ → Spot → ℕ → Room → Room → Type 0
 ReadsTree view (Ok x) bytes s most old new =
-    Stands bytes s (view x) × (levels (view x) ≤ most) × Spends old new (visits (view x)) (entries (view x)) (text_bytes (view x))
+    Placed bytes s (view x) × (levels (view x) ≤ most) × Spends old new (visits (view x)) (entries (view x)) (text_bytes (view x))
 ReadsTree view (Err e) bytes s most old new = Faulty e (NoneFits bytes s most old) (Grows bytes s most old)
 
--- The trees that stand at the spots were read and paid for. A fault comes where none fit together, or where memory is
--- asked for.
+-- The trees at the spots were read and paid for. A fault means that no trees fit together, or that memory is
+-- requested.
 abbrev pub ReadsRow : {X : Type 0} → (X → Trees) → Result X MetaFault → List ℕ → List Spot → ℕ → Room → Room → Type 0
 ReadsRow view (Ok x) bytes ss most old new =
-    AllStand bytes ss (view x) × (levels_all (view x) ≤ most) ×
+    AllPlaced bytes ss (view x) × (levels_all (view x) ≤ most) ×
     Spends old new (visits_all (view x)) (entries_all (view x)) (text_bytes_all (view x))
 ReadsRow view (Err e) bytes ss most old new = Faulty e (NoRowFits bytes ss most old) (RowGrows bytes ss most old)
 
--- what a reader may still spend: up to the limits, what its work does not count yet
+-- what a reader may still spend: the limits less what its work counts
 abbrev pub room : Reader → Room
 room r = record {
   visits = 65536 - r.counter.work.fields;
@@ -64,7 +64,7 @@ mutual
   -- Reading the tree at the spot ends with this fault, and the new room is left: all that was opened and copied before it
   -- is paid for, and nothing else. With true the spot is an element of a vector, whose table is paid for before it is opened.
   pub data Ends (bytes : List ℕ) : Bool → MetaFault → Spot → ℕ → Room → Room → Type 0 where
-    -- what a field holds is not readable
+    -- the content of a field is not readable
     ends_unreadable : {s : Spot} {most : ℕ} {room : Room} → layer bytes s ≡ None → Ends bytes false Metadata s most room room
     -- there is no room for a table
     ends_unpaid : {v : Bool} {s : Spot} {most : ℕ} {room : Room} (kind : TableKind) (p : ℕ) →
@@ -76,26 +76,26 @@ mutual
     -- there is no room for a text or a string
     ends_long : {v : Bool} {s : Spot} {most : ℕ} {room : Room} (x : Leaf) →
         layer bytes s ≡ Some (leaf_layer x) → room.text < text_length x → Ends bytes v Metadata s most room room
-    -- a growth for the value of a field is refused, and a text or a string there is paid for
+    -- an allocation for the value of a field fails, and a text or a string there is paid for
     ends_refused : {v : Bool} {s : Spot} {most : ℕ} {room new : Room} (x : Leaf) →
         layer bytes s ≡ Some (leaf_layer x) → TakesMemory x room → Spends room new 0 0 (text_length x) →
         Ends bytes v Memory s most room new
-    -- it ends in the fields of a table that is paid for
+    -- reading ends in the fields of a table that is paid for
     ends_below : {v : Bool} {e : MetaFault} {s : Spot} {most below : ℕ} {room mid new : Room} {kind : TableKind} {ss : List Spot} →
         layer bytes s ≡ Some (table_layer kind ss) → below + visit kind ≡ most → Spends room mid (visit kind) (entry kind) 0 →
         RowEnds bytes false e ss below mid new → Ends bytes v e s most room new
-    -- it ends in the tables of a vector
+    -- reading ends in the tables of a vector
     ends_inside : {v : Bool} {e : MetaFault} {s : Spot} {most : ℕ} {room new : Room} {ss : List Spot} →
         layer bytes s ≡ Some (tables_layer ss) → RowEnds bytes true e ss most room new → Ends bytes v e s most room new
 
-  -- Reading the trees at the spots, one after another, ends with this fault: in the first tree, or where a growth to keep
-  -- that is refused, or in the later ones.
+  -- Reading the trees at the spots, one after another, ends with this fault: in the first tree, or because the
+  -- allocation to keep that tree fails, or in the later ones.
   pub data RowEnds (bytes : List ℕ) : Bool → MetaFault → List Spot → ℕ → Room → Room → Type 0 where
     ends_first : {v : Bool} {e : MetaFault} {s : Spot} {rest : List Spot} {most : ℕ} {room new : Room} →
         Ends bytes v e s most room new → RowEnds bytes v e (s ∷ rest) most room new
     ends_unkept : {v : Bool} {s : Spot} {rest : List Spot} {most : ℕ} {room new : Room} (x : Tree) →
-        Stands bytes s x → levels x ≤ most → Spends room new (visits x) (entries x) (text_bytes x) →
+        Placed bytes s x → levels x ≤ most → Spends room new (visits x) (entries x) (text_bytes x) →
         RowEnds bytes v Memory (s ∷ rest) most room new
     ends_later : {v : Bool} {e : MetaFault} {s : Spot} {rest : List Spot} {most : ℕ} {room mid new : Room} (x : Tree) →
-        Stands bytes s x → levels x ≤ most → Spends room mid (visits x) (entries x) (text_bytes x) →
+        Placed bytes s x → levels x ≤ most → Spends room mid (visits x) (entries x) (text_bytes x) →
         RowEnds bytes v e rest most mid new → RowEnds bytes v e (s ∷ rest) most room new

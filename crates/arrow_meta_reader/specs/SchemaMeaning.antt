@@ -1,11 +1,11 @@
--- Which fields a Schema table says, with the defaults filled in (Schema.fbs). Where a condition of a fault holds the
--- reading goes on with some value or other, and means nothing.
+-- The fields that a Schema table describes, with the defaults filled in (Schema.fbs). If a condition of a fault
+-- holds, reading goes on with an arbitrary value, and the result means nothing.
 use Rattle.std.specs.Prelude.{ℕ, zero, suc, List, [], ◌∷◌, ◌++◌, Bool, true, false, Option, Some, None}
 use Rattle.std.specs.Int.{cast_signed, w64}
 use Rattle.arrow_types.specs.DataType as tags
-use Rattle.arrow_types.specs.DataType.{Tag}
+use Rattle.arrow_types.specs.DataType.{TypeId}
 use Rattle.arrow_types.specs.Field as columns
-use Rattle.arrow_types.specs.Field.{Head, Fields, FieldShape}
+use Rattle.arrow_types.specs.Field.{FieldHeader, FieldTree, FieldShape}
 use Rattle.arrow_types.specs.Notes.{KeyValue, Notes, unnoted, noted, FieldNotes, SchemaShape}
 use Rattle.arrow_types.specs.declared.data_type.BitWidth.TheVariants as widths
 use Rattle.arrow_types.specs.declared.field.IndexType.{IndexType}
@@ -23,7 +23,7 @@ index_in (leaf x) = record { bits = widths.ThirtyTwo; signed = true }
 index_in (table kind xs) = record { bits = width_in xs; signed = sign_in xs }
 index_in (tables xs) = record { bits = widths.ThirtyTwo; signed = true }
 
--- the encoding of a field, none where its table is absent
+-- the encoding of a field, none if its table is absent
 abbrev pub encoding_in : Tree → Option Encoding
 encoding_in (leaf x) = None
 encoding_in (table kind xs) =
@@ -35,12 +35,12 @@ encoding_in (table kind xs) =
 encoding_in (tables xs) = None
 
 -- the type of a code, by the fields of its table; a code outside the profile is read as Null
-abbrev pub tag_by : Option TypeCode → Trees → Tag
+abbrev pub tag_by : Option TypeCode → Trees → TypeId
 tag_by None xs = tags.null
 tag_by (Some code) xs = (type_row code).tag xs
 
 -- the field of a Field table, without its children
-abbrev pub head_of : Trees → Head
+abbrev pub head_of : Trees → FieldHeader
 head_of xs = record {
   name = text_in (nth slots.field_name xs);
   nullable = flag_at slots.field_nullable xs;
@@ -56,26 +56,26 @@ is_field (table kind xs) = false
 is_field (tables xs) = false
 
 abbrev mutual
-  -- the fields of a vector of Field tables, none where it is absent
-  pub fields_in : Tree → Fields
+  -- the fields of a vector of Field tables, none if it is absent
+  pub fields_in : Tree → FieldTree
   fields_in (leaf x) = columns.none
   fields_in (table kind xs) = columns.none
   fields_in (tables xs) = fields_from xs
 
   -- the fields of those of the trees that are Field tables
-  pub fields_from : Trees → Fields
+  pub fields_from : Trees → FieldTree
   fields_from none = columns.none
   fields_from (more x xs) = with_field x (fields_from xs)
 
-  -- the fields behind the one of a Field table, whose children stand in its field 5
-  pub with_field : Tree → Fields → Fields
+  -- the field of a Field table, whose children are in its field 5, followed by these fields
+  pub with_field : Tree → FieldTree → FieldTree
   with_field (leaf x) rest = rest
   with_field (table (kinds.Field types) xs) rest = columns.more (head_of xs) (fields_at slots.field_children xs) rest
   with_field (table kind xs) rest = rest
   with_field (tables xs) rest = rest
 
   -- the fields of the vector in field i
-  pub fields_at : ℕ → Trees → Fields
+  pub fields_at : ℕ → Trees → FieldTree
   fields_at i none = columns.none
   fields_at zero (more x xs) = fields_in x
   fields_at (suc i) (more x xs) = fields_at i xs
@@ -85,10 +85,10 @@ abbrev pub field_of : Trees → FieldShape
 field_of xs = record { head = head_of xs; children = fields_at slots.field_children xs }
 
 -- the fields of a Schema table
-abbrev pub schema_fields : Trees → Fields
+abbrev pub schema_fields : Trees → FieldTree
 schema_fields xs = fields_in (nth slots.schema_fields xs)
 
--- the pair of a KeyValue table, each part empty where it is absent (Schema.fbs, table "KeyValue")
+-- the pair of a KeyValue table; the key or the value is empty if it is absent (Schema.fbs, table "KeyValue")
 abbrev pub pair_of : Trees → KeyValue
 pair_of xs = record { key = bytes_in (nth slots.key_value_key xs); value = bytes_in (nth slots.key_value_value xs) }
 
@@ -104,7 +104,7 @@ abbrev pub metadata_from : Trees → List KeyValue
 metadata_from none = []
 metadata_from (more x xs) = pair_in x ++ metadata_from xs
 
--- the pairs of a vector of KeyValue tables, none where it is absent
+-- the pairs of a vector of KeyValue tables, none if it is absent
 abbrev pub metadata_in : Tree → List KeyValue
 metadata_in (leaf x) = []
 metadata_in (table kind xs) = []
@@ -119,34 +119,34 @@ abbrev pub schema_pairs : Trees → List KeyValue
 schema_pairs xs = metadata_in (nth slots.schema_custom_metadata xs)
 
 abbrev mutual
-  -- what is noted at the fields of a vector of Field tables
+  -- the custom metadata of the fields of a vector of Field tables
   pub notes_in : Tree → Notes
   notes_in (leaf x) = unnoted
   notes_in (table kind xs) = unnoted
   notes_in (tables xs) = notes_from xs
 
-  -- what is noted at the fields of those of the trees that are Field tables
+  -- the custom metadata of the fields of those of the trees that are Field tables
   pub notes_from : Trees → Notes
   notes_from none = unnoted
   notes_from (more x xs) = with_notes x (notes_from xs)
 
-  -- the notes behind those of the field of a Field table, whose children stand in its field 5
+  -- the custom metadata of the field of a Field table, whose children are in its field 5, followed by these
   pub with_notes : Tree → Notes → Notes
   with_notes (leaf x) rest = rest
   with_notes (table (kinds.Field types) xs) rest = noted (field_pairs xs) (notes_at slots.field_children xs) rest
   with_notes (table kind xs) rest = rest
   with_notes (tables xs) rest = rest
 
-  -- what is noted at the fields of the vector in field i
+  -- the custom metadata of the fields of the vector in field i
   pub notes_at : ℕ → Trees → Notes
   notes_at i none = unnoted
   notes_at zero (more x xs) = notes_in x
   notes_at (suc i) (more x xs) = notes_at i xs
 
--- what is noted at the field of a Field table, and below it
+-- the custom metadata of the field of a Field table, and below it
 abbrev pub notes_of_field : Trees → FieldNotes
 notes_of_field xs = record { pairs = field_pairs xs; below = notes_at slots.field_children xs }
 
--- the schema of a Schema table: its fields, its pairs, and what is noted at its fields
+-- the schema of a Schema table: its fields, its pairs, and the custom metadata of its fields
 abbrev pub schema_in : Trees → SchemaShape
 schema_in xs = record { fields = schema_fields xs; pairs = schema_pairs xs; notes = notes_in (nth slots.schema_fields xs) }

@@ -1,13 +1,13 @@
--- What the fields of a schema say of their dictionaries, as they stand in the tree.
+-- The dictionaries of the fields of a schema, as they are in the tree.
 use Rattle.std.specs.Prelude.{◌≡◌, ℕ, List, map}
 use Rattle.std.specs.Option.{unwrap_or}
 use Rattle.std.specs.Borrow.{Bor}
-use Rattle.arrow_types.specs.DataType.{Tag}
-use Rattle.arrow_types.specs.Field.{Fields, more, TypeShape}
+use Rattle.arrow_types.specs.DataType.{TypeId}
+use Rattle.arrow_types.specs.Field.{FieldTree, more, TypeShape}
 use Rattle.arrow_types.specs.Schema.{DictionaryField}
 use Rattle.arrow_meta_reader.specs.declared.codes.TypeCode.{TypeCode}
 use Rattle.arrow_meta_reader.specs.declared.codes.TypeCode.TheVariants as codes
-use Rattle.arrow_meta_reader.specs.declared.sharing.Encoded.{Encoded}
+use Rattle.arrow_meta_reader.specs.declared.dictionary_types.EncodedField.{EncodedField}
 use Rattle.arrow_meta_reader.specs.Types.{type_code}
 use Rattle.arrow_meta_reader.specs.Parts.{nth, parts, number_at, flag_at, text_in}
 use Rattle.arrow_meta_reader.specs.SchemaMeaning.{encoding_in, fields_at, fields_from, head_of, tag_by}
@@ -15,15 +15,15 @@ use Rattle.arrow_meta_reader.specs.Trees.{Trees}
 use Rattle.arrow_meta_reader.specs.Views.{plain_all}
 use Rattle.arrow_meta_reader.specs.Slots as slots
 
--- the bytes of a text that is lent
+-- the bytes of a borrowed text
 abbrev pub lent_bytes : Bor (List ℕ) → List ℕ
 lent_bytes text = text.now
 
--- The fields begin with that of a Field table, behind which these tables stand.
-abbrev pub BeginsWith : Fields → Trees → Trees → Type 0
+-- The fields begin with that of a Field table, which these tables follow.
+abbrev pub BeginsWith : FieldTree → Trees → Trees → Type 0
 BeginsWith fields xs rest = fields ≡ more (head_of xs) (fields_at slots.field_children xs) (fields_from rest)
 
--- Two Field tables with these fields say the same name, nullability and encoding.
+-- Two Field tables with these fields have the same name, nullability and encoding.
 abbrev pub AreLabelledAlike : Trees → Trees → Type 0
 AreLabelledAlike xs ys =
     (text_in (nth slots.field_name xs) ≡ text_in (nth slots.field_name ys)) ×
@@ -34,18 +34,18 @@ AreLabelledAlike xs ys =
 abbrev pub code_in : Trees → TypeCode
 code_in xs = unwrap_or (type_code (number_at slots.field_type_type 0 xs)) codes.Null
 
--- the own part of its type
-abbrev pub tag_of : Trees → Tag
+-- the tag of its type: the type without its children
+abbrev pub tag_of : Trees → TypeId
 tag_of xs = tag_by (type_code (number_at slots.field_type_type 0 xs)) (parts (nth slots.field_type xs))
 
 -- its type, with all levels below it
 abbrev pub type_of : Trees → TypeShape
 type_of xs = record { tag = tag_of xs; children = fields_at slots.field_children xs }
 
--- what a dictionary-encoded field that the program found says of its dictionary
-abbrev pub encoded_view : Encoded → DictionaryField
+-- the dictionary of a dictionary-encoded field that the program found
+abbrev pub encoded_view : EncodedField → DictionaryField
 encoded_view e = record { id = e.id; value_type = type_of (plain_all e.parts.now) }
 
--- the same of each of a list
-abbrev pub encoded_views : List Encoded → List DictionaryField
+-- the dictionaries of a list of such fields
+abbrev pub encoded_views : List EncodedField → List DictionaryField
 encoded_views es = map encoded_view es

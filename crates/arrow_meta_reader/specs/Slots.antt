@@ -1,5 +1,5 @@
--- The fields of tables by their numbers, under their names in Message.fbs and Schema.fbs. A field of a union has a field
--- before it, named for it, with the code of what it holds (FlatBuffers internals, "Unions").
+-- The fields of tables by their numbers, under their names in Message.fbs and Schema.fbs. A field of a union is
+-- preceded by a field, named after it, with the code of its content (FlatBuffers internals, "Unions").
 use Rattle.std.specs.Prelude.{ℕ}
 
 -- version (Message.fbs, table "Message")

@@ -1,4 +1,4 @@
--- How the logic stores trees: as trees of numbers, another one for each other tree.
+-- How the logic stores trees: as trees of numbers, different trees as different ones.
 use Rattle.std.specs.Prelude.{◌≡◌, ℕ, List}
 use Rattle.std.proofs.Common.{ap, refl}
 use Rattle.std.specs.Coded.{Coded, coded×, coded_ℕ, coded_list}
@@ -14,7 +14,7 @@ text_code = coded_list coded_ℕ
 abbrev pairs_code : Coded (List (ℕ × ℕ))
 pairs_code = coded_list (coded× coded_ℕ coded_ℕ)
 
--- what stands in a field, as a tree of numbers
+-- the content of a field, as a tree of numbers
 abbrev leaf_gv : Leaf → Gv
 leaf_gv absent = gnum 0
 leaf_gv present = gnum 1

@@ -1,7 +1,7 @@
--- What the tables of a batch say, read field by field (Message.fbs, tables "RecordBatch" and "DictionaryBatch"). Only the
--- crate's private clauses cite these.
+-- The meaning of the tables of a batch, read field by field (Message.fbs, tables "RecordBatch" and
+-- "DictionaryBatch"). Only the crate's private clauses cite these.
 use Rattle.std.specs.Prelude.{◌≡◌, ◌⊎◌, ℕ, false, List, [], Some, None}
-use Rattle.arrow_flatbuf.specs.Place.{number_at, behind}
+use Rattle.arrow_flatbuf.specs.Place.{number_at, past}
 use Rattle.arrow_flatbuf.specs.Table.{TableAt, field_place}
 use Rattle.arrow_flatbuf.specs.Vector.{VectorAt, vector_at}
 use Rattle.arrow_meta_reader.specs.declared.codes.HeaderKind.{HeaderKind}
@@ -9,7 +9,7 @@ use Rattle.arrow_meta_reader.specs.declared.kinds.TableKind.{TableKind}
 use Rattle.arrow_meta_reader.specs.Conditions.{any, lacks_table}
 use Rattle.arrow_meta_reader.specs.Faults.{header_conditions, least}
 use Rattle.arrow_meta_reader.specs.Kinds.{spots_of, table_of_header}
-use Rattle.arrow_meta_reader.specs.Lies.{AllStand, pairs_from}
+use Rattle.arrow_meta_reader.specs.Lies.{AllPlaced, pairs_from}
 use Rattle.arrow_meta_reader.specs.Judges.{IsTreeOf}
 use Rattle.arrow_meta_reader.specs.Means.{PlainHeader, PlainMessage, Means, header_by}
 use Rattle.arrow_types.specs.Limits.{LimitNumbers}
@@ -26,7 +26,7 @@ HasNumber w t i n =
 abbrev pub HasPairs : TableAt → ℕ → List (ℕ × ℕ) → Type 0
 HasPairs t i ps =
     ((field_place t i ≡ None) × (ps ≡ []))
-    ⊎ ((p : ℕ) × (v : VectorAt) × (field_place t i ≡ Some p) × (behind (vector_at 16) t.bytes p ≡ Some v) × (pairs_from t.bytes v.place v.count ≡ ps))
+    ⊎ ((p : ℕ) × (v : VectorAt) × (field_place t i ≡ Some p) × (past (vector_at 16) t.bytes p ≡ Some v) × (pairs_from t.bytes v.place v.count ≡ ps))
 
 -- a table without names, zones, Field tables and KeyValue tables
 pub record IsBare (x : Tree) : Type 0 where
@@ -35,12 +35,12 @@ pub record IsBare (x : Tree) : Type 0 where
   pub entries_none : entries x ≡ 0
   pub text_none : text_bytes x ≡ 0
 
--- a table is the header of this kind, has none of its faults, and says this
+-- a table is the header of this kind, has none of its faults, and has this meaning
 pub record IsHeader (kind : HeaderKind) (t : TableAt) (h : PlainHeader) : Type 0 where
   pub opened : TableKind
   pub opens : (types : TypeSet) → table_of_header types (Some kind) ≡ Some opened
   pub fields : Trees
-  pub stand : AllStand t.bytes (spots_of opened t) fields
+  pub placed : AllPlaced t.bytes (spots_of opened t) fields
   pub bare : IsBare (table opened fields)
   pub whole : any lacks_table (table opened fields) ≡ false
   pub sound : (body_len : ℕ) → least (header_conditions (Some kind) body_len (table opened fields)) ≡ None

@@ -2,7 +2,7 @@
 use Rattle.std.specs.Prelude.{ℕ, List}
 use Rattle.arrow_meta_reader.specs.declared.kinds.TableKind.{TableKind}
 
--- what stands in a field that holds no table
+-- the content of a field that holds no table
 pub data Leaf : Type 0 where
   absent : Leaf
   number : ℕ → Leaf
@@ -12,8 +12,8 @@ pub data Leaf : Type 0 where
   present : Leaf
 
 mutual
-  -- What stands at a place: a field that holds no table, a table with one tree for each of its fields that are looked
-  -- at, in order of their numbers, or the tables of a vector.
+  -- The content of a spot: a field that holds no table, a table with one tree for each of its fields that are read,
+  -- in order of their numbers, or the tables of a vector.
   pub data Tree : Type 0 where
     leaf : Leaf → Tree
     table : TableKind → Trees → Tree

@@ -1,9 +1,9 @@
--- The types that are read: of each a row, with its number in the union "Type", its table, its children, and the values that
--- its table may hold (Schema.fbs, union "Type" and the tables of its members).
+-- The types that are read: for each a row, with its number in the union "Type", its table, its children, and the
+-- values that its table may hold (Schema.fbs, union "Type" and the tables of its members).
 use Rattle.std.specs.Prelude.{ℕ, ℤ, pos, Bool, true, false, not, ◌==◌, if◌then◌else◌, List, [], ◌∷◌, Option, Some, None}
 use Rattle.std.specs.Option.{is_none, unwrap_or}
 use Rattle.arrow_types.specs.DataType as tags
-use Rattle.arrow_types.specs.DataType.{Tag, bits_of, is_decimal, time_width_of}
+use Rattle.arrow_types.specs.DataType.{TypeId, bits_of, is_decimal, time_width_of}
 use Rattle.arrow_types.specs.TypeSet.{leaves_out}
 use Rattle.arrow_types.specs.declared.data_type.BitWidth.{BitWidth}
 use Rattle.arrow_types.specs.declared.data_type.BitWidth.TheVariants as widths
@@ -23,32 +23,32 @@ use Rattle.arrow_meta_reader.specs.Codes.{bit_width, byte_width, date_unit, deci
 use Rattle.arrow_meta_reader.specs.Parts.{nth, number_at, flag_at, some_text_in}
 use Rattle.arrow_meta_reader.specs.Trees.{Trees, none}
 
--- what a type is in the metadata
+-- a type as the metadata describe it
 pub record TypeRow : Type 0 where
   -- its number in the union
   pub code : ℕ
-  -- The fields of its table, in order of their numbers from 0. Where none is looked at the table is not opened.
+  -- The fields of its table, in order of their numbers from 0. If none is read the table is not opened.
   pub fields : List FieldForm
-  -- how many children it has; none where it may have any number
+  -- how many children it has; none if it may have any number
   pub children : Option ℕ
-  -- whether a table says what no such type has
+  -- whether a table holds a value that no such type has
   pub is_misfit : Trees → Bool
-  -- the type's own part, by the fields of its table
-  pub tag : Trees → Tag
+  -- the type's tag, from the fields of its table
+  pub tag : Trees → TypeId
 
--- a type without a table that is looked at
-abbrev bare : ℕ → Option ℕ → Tag → TypeRow
+-- a type without a table that is read
+abbrev bare : ℕ → Option ℕ → TypeId → TypeRow
 bare code children tag = record { code = code; fields = []; children = children; is_misfit = λ xs. false; tag = λ xs. tag }
 
 -- a type without children, with a table of these fields
-abbrev tabled : ℕ → List FieldForm → (Trees → Bool) → (Trees → Tag) → TypeRow
+abbrev tabled : ℕ → List FieldForm → (Trees → Bool) → (Trees → TypeId) → TypeRow
 tabled code fields is_misfit tag = record { code = code; fields = fields; children = Some 0; is_misfit = is_misfit; tag = tag }
 
--- the width of an Int table, whose default 0 is no width
+-- the width of an Int table, whose default 0 is not a width
 abbrev pub width_in : Trees → BitWidth
 width_in xs = unwrap_or (bit_width (number_at 0 0 xs)) widths.Eight
 
--- whether an Int table has a sign, which by default it has not
+-- whether an Int table has a sign; by default it has none
 abbrev pub sign_in : Trees → Bool
 sign_in xs = flag_at 1 xs
 
@@ -62,16 +62,16 @@ is_time None bits = false
 is_time (Some unit) bits = bits == bits_of (time_width_of unit)
 
 -- decimals of a width, if it allows the precision and the scale (Schema.fbs, table "Decimal")
-abbrev pub decimal_by : Option DecimalWidth → ℕ → ℤ → Option Tag
+abbrev pub decimal_by : Option DecimalWidth → ℕ → ℤ → Option TypeId
 decimal_by None precision scale = None
 decimal_by (Some width) precision scale = if is_decimal width precision scale then Some (tags.decimal width precision scale) else None
 
--- the decimals that a Decimal table says, if there are such
-abbrev pub decimal_in : Trees → Option Tag
+-- the decimals that a Decimal table describes, if there are such
+abbrev pub decimal_in : Trees → Option TypeId
 decimal_in xs = decimal_by (decimal_width (number_at 2 128 xs)) (number_at 0 0 xs) (decimal_scale (number_at 1 0 xs))
 
--- The row of a type. A comment names the fields of its table, with their defaults where they are not 0. Where a table is a
--- misfit the type's own part is some value or other, and means nothing.
+-- The row of a type. A comment names the fields of its table, with their defaults if they are not 0. If a table is a
+-- misfit the type's tag is an arbitrary value, and means nothing.
 abbrev pub type_row : TypeCode → TypeRow
 type_row codes.Null = bare 1 (Some 0) tags.null
 -- bitWidth, is_signed
@@ -132,13 +132,13 @@ numbered n (code ∷ rest) = if n == (type_row code).code then Some code else nu
 abbrev pub type_code : ℕ → Option TypeCode
 type_code n = numbered n all_types
 
--- the type, where a set has it
+-- the type, if the set has it
 abbrev pub taken : TypeSet → Option TypeCode → Option TypeCode
 taken types None = None
 taken types (Some code) = if leaves_out types ((type_row code).tag none) then None else Some code
 
 -- the type of a tag
-abbrev pub code_of : Tag → TypeCode
+abbrev pub code_of : TypeId → TypeCode
 code_of tags.null = codes.Null
 code_of tags.boolean = codes.Bool
 code_of (tags.int bits signed) = codes.Int
@@ -160,7 +160,7 @@ code_of (tags.fixed_size_list size) = codes.FixedSizeList
 code_of tags.struct = codes.Struct
 code_of (tags.map sorted) = codes.Map
 
--- whether a type may have so many children
+-- whether a type may have this many children
 abbrev pub has_children : Option ℕ → ℕ → Bool
 has_children None n = true
 has_children (Some count) n = n == count

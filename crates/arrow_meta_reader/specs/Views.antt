@@ -8,7 +8,7 @@ use Rattle.arrow_meta_reader.specs.declared.message_tree.Tree.TheOpen as open_
 use Rattle.arrow_meta_reader.specs.declared.message_tree.Tree.TheFolds.{fold-Tree}
 use Rattle.arrow_meta_reader.specs.Trees.{Leaf, absent, number, text, byte_string, pairs, present, Tree, leaf, table, tables, Trees, none, more}
 
--- what stands in a field, as the program holds it, seen plain
+-- the content of a field, as the program holds it, seen plain
 abbrev pub plain_leaf : Held → Leaf
 plain_leaf held.Absent = absent
 plain_leaf (held.Number n) = number n

@@ -36,7 +36,7 @@ text_length (pairs ps) = 0
 text_length present = 0
 
 abbrev mutual
-  -- How many Field tables a tree has. One that several offsets lead to counts each time.
+  -- How many Field tables a tree has. One that several offsets point to counts each time.
   pub visits : Tree → ℕ
   visits (leaf x) = 0
   visits (table kind xs) = visit kind + visits_all xs
@@ -48,7 +48,7 @@ abbrev mutual
   visits_all (more x xs) = visits x + visits_all xs
 
 abbrev mutual
-  -- How many KeyValue tables a tree has. One that several offsets lead to counts each time.
+  -- How many KeyValue tables a tree has. One that several offsets point to counts each time.
   pub entries : Tree → ℕ
   entries (leaf x) = 0
   entries (table kind xs) = entry kind + entries_all xs
@@ -60,7 +60,7 @@ abbrev mutual
   entries_all (more x xs) = entries x + entries_all xs
 
 abbrev mutual
-  -- How many Field tables stand below one another. A column is level 1.
+  -- How many Field tables are nested within one another. A column is level 1.
   pub levels : Tree → ℕ
   levels (leaf x) = 0
   levels (table kind xs) = visit kind + levels_all xs
@@ -72,7 +72,8 @@ abbrev mutual
   levels_all (more x xs) = max (levels x) (levels_all xs)
 
 abbrev mutual
-  -- How many bytes a tree's names, time zones, keys and values have. One that several offsets lead to counts each time.
+  -- How many bytes a tree's names, time zones, keys and values have. One that several offsets point to counts each
+  -- time.
   pub text_bytes : Tree → ℕ
   text_bytes (leaf x) = text_length x
   text_bytes (table kind xs) = text_bytes_all xs
@@ -89,8 +90,8 @@ pub record IsShallow (x : Tree) : Type 0 where
   pub visits_within : visits x ≤ 65536
   pub entries_within : entries x ≤ 65536
 
--- A tree within the limits, which are this project's own: its names, zones, keys and values together have as many bytes
--- at most as one metadata may have.
+-- A tree within the limits, which are this project's own: its names, zones, keys and values together have at most the
+-- number of bytes that one metadata may have.
 pub record IsWithin (max_metadata : ℕ) (x : Tree) : Type 0 where
   pub shallow : IsShallow x
   pub text_within : text_bytes x ≤ max_metadata

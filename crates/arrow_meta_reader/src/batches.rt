@@ -1,8 +1,7 @@
 //! Batches, read straight from their tables.
 //!
-//! Of the messages of a stream nearly all are batches in which nothing is amiss. These are made
-//! without a tree; whatever else there is, a schema or a fault or a refused growth, is told by the
-//! tree.
+//! Nearly all messages of a stream are batches without a fault. These are made without a tree;
+//! everything else, a schema, a fault or a failed allocation, is left to the tree.
 ghost use Rattle.std.specs.Prelude.{◌≡◌, ◌≤◌, ℕ, List, IfOk, IfSome, Some, map};
 ghost use Rattle.arrow_meta_reader.specs.Codes.{header_kind};
 ghost use Rattle.arrow_meta_reader.specs.Lies.{pairs_from};
@@ -21,8 +20,8 @@ use arrow_flatbuf::{Root, Table, Vector};
 use arrow_types::{Buffer, FieldNode, Limits};
 use std::alloc::{AllocError, Global};
 
-/// The message where the metadata are those of a batch that has no fault, None where they are not,
-/// or where a growth is refused.
+/// The message if the metadata are those of a batch that has no fault, None if they are not, or if
+/// an allocation fails.
 pub(crate) fn batch_message(alloc: Global, bytes: &[u8], limits: &Limits) -> Option<Message>
     ensures means { IfSome result (λ m. MeansBare limits.now bytes.now (message_view m)) }
     ensures length { IfSome result (λ m. m.body_len ≤ limits.now.max_body) }
@@ -45,7 +44,7 @@ pub(crate) fn batch_message(alloc: Global, bytes: &[u8], limits: &Limits) -> Opt
     })
 }
 
-/// What the header says that this code opens, if it is a batch.
+/// The header that this code opens, if it is a batch.
 fn batch_header(alloc: Global, code: u64, table: &Table) -> Option<Header>
     ensures { IfSome result (λ h. (kind : Kind) × (header_kind code ≡ Some kind)
         × IsHeader kind table.now (header_view h)) }
@@ -57,7 +56,7 @@ fn batch_header(alloc: Global, code: u64, table: &Table) -> Option<Header>
     }
 }
 
-/// What a DictionaryBatch table says.
+/// The dictionary batch that a DictionaryBatch table describes.
 fn dictionary_in(alloc: Global, table: &Table) -> Option<Header>
     ensures { IfSome result (λ h. IsHeader headers.DictionaryBatch table.now (header_view h)) }
 {
@@ -69,7 +68,7 @@ fn dictionary_in(alloc: Global, table: &Table) -> Option<Header>
     Some(Header::Dictionary(id, is_delta, batch_in(alloc, &data)?))
 }
 
-/// What a RecordBatch table says that is not compressed.
+/// The record batch that a RecordBatch table describes, if it is not compressed.
 fn batch_in(alloc: Global, table: &Table) -> Option<RecordBatch>
     ensures { IfSome result
         (λ b. IsHeader headers.RecordBatch table.now (batch (batch_view b))) }
@@ -87,7 +86,7 @@ fn batch_in(alloc: Global, table: &Table) -> Option<RecordBatch>
     })
 }
 
-/// The number of `width` bytes in a field, 0 where it is absent, None where it is not readable.
+/// The number of `width` bytes in a field, 0 if it is absent, None if it is not readable.
 #[inline(always)]
 fn number_in(table: &Table, field: u16, width: usize) -> Option<u64>
     requires low { 1 ≤ width }

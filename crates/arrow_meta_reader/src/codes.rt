@@ -1,4 +1,4 @@
-//! The numbers that stand for versions, headers, types, widths and units (`Message.fbs`, `Schema.fbs`).
+//! The numbers of versions, headers, types, widths and units (`Message.fbs`, `Schema.fbs`).
 ghost use Rattle.std.specs.Prelude.{◌≡◌};
 ghost use Rattle.arrow_meta_reader.specs.Codes.{metadata_version, header_kind};
 ghost use Rattle.arrow_meta_reader.specs.Codes.{bit_width, byte_width, date_unit, decimal_scale, decimal_width};
@@ -14,7 +14,7 @@ pub(crate) fn metadata_version(number: u64) -> Option<MetadataVersion>
     match number {
         3 => Some(MetadataVersion::V4),
         4 => Some(MetadataVersion::V5),
-        // a number that is no version's of the profile
+        // a number that is not a version's of the profile
         _ => None,
     }
 }
@@ -27,8 +27,8 @@ pub(crate) enum HeaderKind {
     RecordBatch,
 }
 
-/// The header that a code names, None outside the profile: 0 says that there is none, 4 is a Tensor
-/// and 5 a SparseTensor.
+/// The header that a code names, None outside the profile: 0 means that there is none, 4 is a
+/// Tensor and 5 a SparseTensor.
 pub(crate) fn header_kind(code: u64) -> Option<HeaderKind>
     ensures kind { result ≡ header_kind code }
 {
@@ -36,7 +36,7 @@ pub(crate) fn header_kind(code: u64) -> Option<HeaderKind>
         1 => Some(HeaderKind::Schema),
         2 => Some(HeaderKind::DictionaryBatch),
         3 => Some(HeaderKind::RecordBatch),
-        // a number that is no header's of the profile
+        // a number that is not a header's of the profile
         _ => None,
     }
 }
@@ -74,7 +74,7 @@ pub(crate) fn precision(number: u64) -> Option<Precision>
         0 => Some(Precision::Half),
         1 => Some(Precision::Single),
         2 => Some(Precision::Double),
-        // a number that is no precision
+        // a number that is not a precision's
         _ => None,
     }
 }
@@ -88,13 +88,13 @@ pub(crate) fn bit_width(bits: u64) -> Option<BitWidth>
         16 => Some(BitWidth::Sixteen),
         32 => Some(BitWidth::ThirtyTwo),
         64 => Some(BitWidth::SixtyFour),
-        // a number that is no width
+        // a number that is not a width
         _ => None,
     }
 }
 
 /// The width of this many bytes, and the size of this many values, None for a negative number: one
-/// over the greatest signed number of 32 bits.
+/// above the greatest signed number of 32 bits.
 pub(crate) fn byte_width(bytes: u64) -> Option<u32>
     ensures width { result ≡ byte_width bytes }
 {
@@ -114,12 +114,12 @@ pub(crate) fn decimal_width(bits: u64) -> Option<DecimalWidth>
         64 => Some(DecimalWidth::SixtyFour),
         128 => Some(DecimalWidth::OneHundredTwentyEight),
         256 => Some(DecimalWidth::TwoHundredFiftySix),
-        // a number that is no decimal's width
+        // a number that is not a decimal's width
         _ => None,
     }
 }
 
-/// The scale of a decimal: 32 bits with a sign. No field of 4 bytes has more of them.
+/// The scale of a decimal: 32 bits with a sign. No field of 4 bytes has more bits.
 pub(crate) fn decimal_scale(bits: u64) -> i32
     ensures scale { result ≡ decimal_scale bits }
 {
@@ -133,7 +133,7 @@ pub(crate) fn date_unit(unit: u64) -> Option<DateUnit>
     match unit {
         0 => Some(DateUnit::Day),
         1 => Some(DateUnit::Millisecond),
-        // a number that is no date's unit
+        // a number that is not a date's unit
         _ => None,
     }
 }
@@ -147,7 +147,7 @@ pub(crate) fn time_unit(unit: u64) -> Option<TimeUnit>
         1 => Some(TimeUnit::Millisecond),
         2 => Some(TimeUnit::Microsecond),
         3 => Some(TimeUnit::Nanosecond),
-        // a number that is no time's unit
+        // a number that is not a time's unit
         _ => None,
     }
 }
@@ -160,7 +160,7 @@ pub(crate) fn interval_unit(unit: u64) -> Option<IntervalUnit>
         0 => Some(IntervalUnit::YearMonth),
         1 => Some(IntervalUnit::DayTime),
         2 => Some(IntervalUnit::MonthDayNano),
-        // a number that is no interval's unit
+        // a number that is not an interval's unit
         _ => None,
     }
 }

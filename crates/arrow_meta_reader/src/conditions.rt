@@ -1,4 +1,5 @@
-//! What makes a single table one that no message has, and whether a tree holds such a table.
+//! The conditions under which a single table is invalid in every message, and whether a tree holds
+//! such a table.
 ghost use Rattle.std.specs.Prelude.{◌≡◌};
 ghost use Rattle.arrow_meta_reader.specs.Conditions.{any, any_in, entries_fit, finds, is_misfit};
 ghost use Rattle.arrow_meta_reader.specs.Conditions.{is_unsupported, lacks_table};
@@ -21,7 +22,7 @@ use crate::parts::{has_table, number_at, part};
 use crate::slots;
 use crate::types::{children_fit, is_type_misfit, taken, type_code};
 
-/// What makes a table one that no message has.
+/// A condition under which a table is invalid in every message.
 #[derive(Clone, Copy)]
 pub(crate) enum Test {
     /// A table that its code opens, or a dictionary's data, is absent.
@@ -68,7 +69,7 @@ fn finds(test: Test, kind: TableKind, parts: &[Tree]) -> bool
     }
 }
 
-/// Whether a table lacks the one that its code opens, or a dictionary batch its data.
+/// Whether a table lacks the table that its code opens, or a dictionary batch its data.
 fn lacks_table(kind: TableKind, parts: &[Tree]) -> bool
     ensures lacks { result ≡ lacks_table kind (plain_all parts.now) }
 {
@@ -120,7 +121,7 @@ fn is_misfit(kind: TableKind, parts: &[Tree]) -> bool
     }
 }
 
-/// Whether a type of this code may have the fields of these tables as children, where their number
+/// Whether a type of this code may have the fields of these tables as children, if their number
 /// fits.
 fn entries_fit(code: Option<TypeCode>, tables: &[Tree]) -> bool
     ensures fit { result ≡ entries_fit code (fields_from (plain_all tables.now)) }
@@ -159,7 +160,7 @@ fn is_struct(code: Option<TypeCode>) -> bool
     matches!(code, Some(TypeCode::Struct))
 }
 
-/// How many fields stand in the vector in field `index`.
+/// How many fields are in the vector in field `index`.
 fn fields_at(parts: &[Tree], index: u16) -> usize
     ensures count { result ≡ width (fields_in (nth index (plain_all parts.now))) }
 {

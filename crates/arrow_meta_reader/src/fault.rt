@@ -1,4 +1,4 @@
-//! Why the metadata of a message are refused.
+//! Why the metadata of a message are rejected.
 
 use arrow_flatbuf::Unreadable;
 use std::alloc::{AllocError, AllocFailed};
@@ -13,24 +13,24 @@ pub enum BatchKind {
     Record,
 }
 
-/// Why the bytes of a metadata mean no message, in the order of the faults' numbers. Of several
-/// that hold, the one with the least number is answered.
+/// Why the bytes of a metadata mean no message, in the order of the faults' numbers. If several
+/// hold, the one with the least number is returned.
 ///
 /// Faults that depend on what was read before, such as a second schema, have numbers between these.
-/// So the variants from `Unsupported` on say what the message was, and how many bytes of body
+/// So the variants from `Unsupported` on report the kind of message, and how many bytes of body
 /// follow: a number that is not negative and keeps to the limit. Only a schema is `Unsupported` or
 /// `Schema`.
 #[derive(Clone, Copy, Debug, PartialEq, Eq, Error)]
 pub enum MetaFault {
-    /// Something that is looked at is not readable, a limit of the tree is passed, or a table that
-    /// must be there is absent: that of an Int, a FloatingPoint, a Date, a Time, a Timestamp, a
+    /// Something that is read is not readable, a limit of the tree is exceeded, or a table that
+    /// must be present is absent: that of an Int, a FloatingPoint, a Date, a Time, a Timestamp, a
     /// FixedSizeBinary or a Duration, or the data of a dictionary batch.
     #[error("the metadata are not readable")]
     Metadata,
     /// The version is neither V4 nor V5.
     #[error("the version is neither V4 nor V5")]
     Version,
-    /// The header is none of a schema, a dictionary batch or a record batch, or it is absent.
+    /// The header is not a schema, a dictionary batch or a record batch, or it is absent.
     #[error("the header is none of a schema, a dictionary batch and a record batch")]
     Header,
     /// The body's length is negative or over the limit.
@@ -40,16 +40,15 @@ pub enum MetaFault {
     /// kind, or a dictionary below a dictionary.
     #[error("the schema has something that is not supported")]
     Unsupported { body_len: u64 },
-    /// A schema has a width, a precision or a unit outside its list, a negative number for a fixed size, a
-    /// time of another unit's width, a type with another number of children, or one dictionary id
-    /// with unequal value types.
+    /// A schema has a width, a precision or a unit outside its list, a negative number for a fixed
+    /// size, a time whose width does not fit its unit, a type with a number of children that it
+    /// does not have, or one dictionary id with unequal value types.
     #[error("the schema contradicts itself")]
     Schema { body_len: u64 },
     /// The body of a batch is compressed.
     #[error("the body is compressed")]
     Compressed { batch: BatchKind, body_len: u64 },
-    /// A growth was refused. Of the metadata no more is said than that reading them asks for
-    /// memory.
+    /// An allocation failed. Of the metadata it says only that reading them requests memory.
     #[error("out of memory")]
     Memory,
 }
@@ -90,7 +89,7 @@ impl From<Unreadable> for MetaFault {
     }
 }
 
-/// A growth that was refused: `Memory`.
+/// A failed allocation: `Memory`.
 impl From<AllocError> for MetaFault {
     ghost use Rattle.std.specs.Prelude.{◌≡◌};
     ghost use Rattle.arrow_meta_reader.specs.declared.fault.MetaFault.TheVariants.{Memory};
@@ -102,7 +101,7 @@ impl From<AllocError> for MetaFault {
     }
 }
 
-/// The same, of a value that was to be kept.
+/// The same, for a value that was to be kept.
 impl<T: Drop> From<AllocFailed<T>> for MetaFault {
     ghost use Rattle.std.specs.Prelude.{◌≡◌};
     ghost use Rattle.arrow_meta_reader.specs.declared.fault.MetaFault.TheVariants.{Memory};

@@ -1,4 +1,4 @@
-//! The Field tables of a vector, one after another, as they stand in the tree.
+//! The Field tables of a vector, one after another, as they are in the tree.
 ghost use Rattle.std.specs.Prelude.{◌≡◌, ◌<◌, ◌≤◌, ◌+◌, false, MatchOption, IfSome};
 ghost use Rattle.arrow_meta_reader.specs.Builds.{size, size_all};
 ghost use Rattle.arrow_meta_reader.specs.SchemaMeaning.{fields_at, fields_in, fields_from, is_field};
@@ -20,11 +20,11 @@ use crate::slots;
 pub(crate) struct FirstField<'a> {
     /// The fields of the table.
     pub(crate) parts: &'a [Tree],
-    /// The tables behind it.
+    /// The tables after it.
     pub(crate) rest: &'a [Tree],
 }
 
-/// The first Field table, with the tables behind it, None where none is one.
+/// The first Field table, with the tables after it, None if no table is one.
 pub(crate) fn first_field(tables: &[Tree]) -> Option<FirstField<'_>>
     ensures first { MatchOption result (fields_from (plain_all tables.now) ≡ no_fields)
         (λ f. BeginsWith (fields_from (plain_all tables.now)) (plain_all f.parts.now) (plain_all f.rest.now)) }
@@ -56,7 +56,7 @@ fn field_parts(tree: &Tree) -> Option<&[Tree]>
     }
 }
 
-/// The tables of the vector in which the children of a Field table with these fields stand.
+/// The tables of the vector that holds the children of a Field table with these fields.
 pub(crate) fn children_of(parts: &[Tree]) -> &[Tree]
     ensures fields { fields_from (plain_all result.now)
         ≡ fields_at slots.field_children (plain_all parts.now) }

@@ -1,6 +1,6 @@
-//! The fields of a schema, built of their tables.
+//! The fields of a schema, built from their tables.
 //!
-//! Names, zones, keys and values are moved out of the tree, so they are copied only once, where the
+//! Names, zones, keys and values are moved out of the tree, so they are copied only once, when the
 //! tree is read.
 ghost use Rattle.std.specs.Prelude.{◌≡◌, ◌<◌, false, string_bytes, MatchOption, IfErr};
 ghost use Rattle.arrow_meta_reader.specs.Builds.{Builds, BuildsAll};
@@ -32,13 +32,13 @@ use std::alloc::{AllocError, AllocFailed, Global};
 /// Why there are no fields.
 #[derive(Clone, Copy)]
 pub(crate) enum FieldFault {
-    /// A type has another number of children.
+    /// The number of children does not fit the type.
     Misfit,
-    /// A growth was refused.
+    /// An allocation failed.
     Memory,
 }
 
-/// A growth that was refused: `Memory`.
+/// A failed allocation: `Memory`.
 impl From<AllocError> for FieldFault {
     ghost use Rattle.arrow_meta_reader.specs.declared.fields.FieldFault.TheVariants.{Memory};
 
@@ -49,7 +49,7 @@ impl From<AllocError> for FieldFault {
     }
 }
 
-/// The same, of a value that was to be kept.
+/// The same, for a value that was to be kept.
 impl<T: Drop> From<AllocFailed<T>> for FieldFault {
     ghost use Rattle.arrow_meta_reader.specs.declared.fields.FieldFault.TheVariants.{Memory};
 
@@ -148,7 +148,7 @@ fn into_field_parts(tree: Tree) -> Option<Vec<Tree>>
     }
 }
 
-/// What moves from the table of a field into the field.
+/// The values that move from the table of a field into the field.
 #[derive(Drop)]
 struct Moved {
     name: Tree,
@@ -176,7 +176,7 @@ fn move_out(mut parts: Vec<Tree>) -> Moved
     }
 }
 
-/// What field `index` says of a dictionary, None where it is absent.
+/// The encoding in field `index`, None if it is absent.
 pub(crate) fn encoding_at(parts: &[Tree], index: u16) -> Option<Encoding>
     ensures encoding { result ≡ encoding_in (nth index (plain_all parts.now)) }
 {
@@ -210,7 +210,7 @@ fn index_at(parts: &[Tree], index: u16) -> IndexType
     }
 }
 
-/// The type of an index where none is given.
+/// The type of an index if none is given.
 const DEFAULT_INDEX: IndexType = IndexType {
     bits: BitWidth::ThirtyTwo,
     signed: true,

@@ -1,4 +1,4 @@
-//! Which fields of a table are looked at, and which tables a code opens (`Message.fbs`, `Schema.fbs`).
+//! Which fields of a table are read, and which tables a code opens (`Message.fbs`, `Schema.fbs`).
 ghost use Rattle.std.specs.Prelude.{◌≡◌, ◌≤◌, length};
 ghost use Rattle.arrow_meta_reader.specs.Kinds.{forms_of, header_table, type_table};
 
@@ -7,7 +7,7 @@ use crate::kinds::{FieldForm, TableKind};
 use crate::types::{taken, type_code, type_fields};
 use arrow_types::TypeSet;
 
-/// The fields of a table that are looked at, in order of their numbers from 0.
+/// The fields of a table that are read, in order of their numbers from 0.
 pub(crate) fn forms(kind: TableKind) -> &'static [FieldForm]
     ensures value { result.now ≡ forms_of kind }
     ensures few { length result.now ≤ 7 }
@@ -53,7 +53,7 @@ pub(crate) fn forms(kind: TableKind) -> &'static [FieldForm]
     }
 }
 
-/// The table that a header's code opens. Of any other code not even the offset is looked at.
+/// The table that a header's code opens. For any other code not even the offset is read.
 pub(crate) fn header_table(types: TypeSet, code: u64) -> Option<TableKind>
     ensures table { result ≡ header_table types code }
 {
@@ -65,8 +65,8 @@ pub(crate) fn header_table(types: TypeSet, code: u64) -> Option<TableKind>
     }
 }
 
-/// The table that a type's code opens, of the types of a set. Where it opens none, not even the
-/// offset is looked at.
+/// The table that a type's code opens, for the types of a set. If it opens none, not even the
+/// offset is read.
 pub(crate) fn type_table(types: TypeSet, code: u64) -> Option<TableKind>
     ensures table { result ≡ type_table types code }
 {

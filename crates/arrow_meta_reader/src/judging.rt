@@ -1,4 +1,4 @@
-//! What a tree means, or its least fault.
+//! The meaning of a tree, or its least fault.
 ghost use Rattle.std.specs.Prelude.{◌≡◌, ◌∷◌, [], Some, IfErr, IfOk};
 ghost use Rattle.arrow_meta_reader.specs.declared.codes.HeaderKind.TheVariants as headers;
 ghost use Rattle.arrow_meta_reader.specs.declared.fault.MetaFault.TheVariants.{Compressed};
@@ -14,50 +14,51 @@ ghost use Rattle.arrow_meta_reader.specs.Views.{plain, plain_all};
 ghost use Rattle.arrow_types.specs.Schema.{dictionary_fields, is_nested, types_differ};
 
 use crate::batches::batch_message;
-use crate::build::message;
 use crate::codes::{HeaderKind, header_kind, metadata_version};
 use crate::conditions::{Test, any, any_in};
+use crate::decode_cost::DecodeCost;
+use crate::dictionary_types::types_differ;
 use crate::fault::{BatchKind, MetaFault};
 use crate::message::{Message, MetadataVersion};
 use crate::message_tree::{MessageTree, Tree};
 use crate::nesting::is_nested;
 use crate::parts::{has_table, into_parts, is_there_at, number_at, part};
 use crate::reader::tree_counted;
-use crate::sharing::types_differ;
 use crate::slots;
-use crate::work::Work;
+use crate::to_schema::message;
 use arrow_types::Limits;
 use std::alloc::Global;
 
-/// The message whose metadata the bytes are, or the fault with the least number of those that hold
-/// (Columnar Format, "Encapsulated message format"): what [`judge`] answers of what
+/// The message with these bytes as its metadata, or the fault with the least number of those that
+/// hold (Columnar Format, "Encapsulated message format"): the result of [`judge`] for the tree that
 /// [`crate::tree`] reads. A batch that has no fault is made straight from its tables.
 ///
-/// The bytes are those between a message's size and its body. The message keeps none of them
-/// borrowed: names, zones, keys and values are copied, once. After `Memory`, a refused growth, no
-/// more is known of the bytes than that reading them asks for memory, and the call may be made
-/// again: their tree was not read, or it has no fault.
+/// The bytes are those between a message's size and its body. The message borrows none of them:
+/// names, zones, keys and values are copied, once. After `Memory`, a failed allocation, all that is
+/// known of the bytes is that reading them requests memory, and the call may be repeated: their
+/// tree was not read, or it has no fault.
 pub fn decode(alloc: Global, bytes: &[u8], limits: &Limits) -> Result<Message, MetaFault>
     ensures decoded { Decodes result limits.now bytes.now }
     ensures length { LengthFits result limits.now.max_body }
 {
-    let mut work = Work::NONE;
+    let mut work = DecodeCost::NONE;
     decode_counted(alloc, bytes, limits, &mut work)
 }
 
-/// What [`decode`] answers, with what it came to.
+/// The result of [`decode`], with the work that it took.
 ///
-/// The work is 0 first, whatever it was. Then it rises by one for each Field table and each KeyValue
-/// table that is opened, in the one function that all of them are opened behind, and by the length
-/// of each name, zone, key or value, in the one that copies them: one that several offsets lead to
-/// counts each time. It never passes 65,536 fields, 65,536 pairs and `max_metadata` bytes, whatever
-/// is answered. After a message it counts just what the tree has, and so it does after a fault of a
-/// tree; after any other fault just what was opened and copied up to where reading ended with it.
+/// The work is first set to 0, whatever it was. Then it rises by one for each Field table and each
+/// KeyValue table that is opened, in the one function that is called before each of them is opened,
+/// and by the length of each name, zone, key or value, in the one that copies them: one that
+/// several offsets point to counts each time. It never exceeds 65,536 fields, 65,536 pairs and
+/// `max_metadata` bytes, whatever is returned. After a message it counts exactly what the tree has,
+/// and so it does after a fault of a tree; after any other fault exactly what was opened and copied
+/// up to where reading ended with it.
 pub fn decode_counted(
     alloc: Global,
     bytes: &[u8],
     limits: &Limits,
-    work: &mut Work,
+    work: &mut DecodeCost,
 ) -> Result<Message, MetaFault>
     ensures decoded { Decodes result limits.now bytes.now }
     ensures length { LengthFits result limits.now.max_body }
@@ -65,7 +66,7 @@ pub fn decode_counted(
     ensures counted { IfOk result (λ _. CountsTree limits.now bytes.now work.new) }
     ensures ends { IfErr result (λ e. CountsFailed limits.now bytes.now e work.new) }
 {
-    *work = Work::NONE;
+    *work = DecodeCost::NONE;
     match batch_message(alloc, bytes, limits) {
         Some(message) => Ok(message),
         None => judge(alloc, tree_counted(alloc, bytes, limits, work)?, limits),
@@ -75,14 +76,13 @@ pub fn decode_counted(
 /// The message that the tree means, or the fault with the least number of those that hold of it
 /// (`Message.fbs`, `Schema.fbs`).
 ///
-/// The tree is taken: its names, zones, keys and values move into the schema, and with a fault it
-/// is dropped.
-/// Here `Metadata` says that a table which must be there is absent, and `BodyLength` looks at
-/// `max_body` alone, since where the body ends in its stream is not known. `Memory` is answered
-/// only where no fault holds, so the tree means a message; of a schema without fields and pairs it
-/// is not answered, nor of a batch without field nodes and buffers. The time grows as n log n with
-/// the number of fields; only where a growth is refused to the comparison of the types of shared
-/// ids does it grow with the square of the number of dictionary-encoded fields.
+/// The tree is consumed: its names, zones, keys and values move into the schema, and with a fault
+/// it is dropped. Here `Metadata` means that a table which must be present is absent, and
+/// `BodyLength` checks only `max_body`, since where the body ends in its stream is not known.
+/// `Memory` is returned only if no fault holds, so the tree means a message; it is not returned for
+/// a schema without fields and pairs, nor for a batch without field nodes and buffers. The time
+/// grows as n log n with the number of fields; only if an allocation fails in the comparison of the
+/// types of shared ids does it grow with the square of the number of dictionary-encoded fields.
 pub fn judge(alloc: Global, tree: MessageTree, limits: &Limits) -> Result<Message, MetaFault>
     ensures judged { Judges result limits.now.max_body tree }
     ensures length { LengthFits result limits.now.max_body }
@@ -92,8 +92,8 @@ pub fn judge(alloc: Global, tree: MessageTree, limits: &Limits) -> Result<Messag
     message(alloc, version, kind, parts)
 }
 
-/// Which version and which header a message with these fields has, where it has no fault, or its
-/// least fault. All faults are told before the memory of a message is taken.
+/// The version and the kind of header of a message with these fields if it has no fault, else its
+/// least fault. All faults are found before memory for a message is allocated.
 fn cleared(
     alloc: Global,
     parts: &[Tree],
@@ -120,14 +120,14 @@ fn cleared(
     }
 }
 
-/// Which version there is, of those that are read.
+/// The version, if it is one of those that are read.
 fn version_in(parts: &[Tree]) -> Option<MetadataVersion>
     ensures version { result ≡ version_in (plain_all parts.now) }
 {
     metadata_version(number_at(parts, slots::message::VERSION, 0))
 }
 
-/// Which header there is: the one that the code names, where a table stands for it.
+/// The kind of the header: the one that the code names, if there is a table for it.
 fn header_in(parts: &[Tree]) -> Option<HeaderKind>
     ensures kind { result ≡ header_in (plain_all parts.now) }
 {
@@ -138,7 +138,7 @@ fn header_in(parts: &[Tree]) -> Option<HeaderKind>
     }
 }
 
-/// The least fault that this header's table has of its own.
+/// The least fault of the table of this header.
 fn header_fault(alloc: Global, kind: HeaderKind, parts: &[Tree], body_len: u64) -> Option<MetaFault>
     ensures least { result
         ≡ least (header_conditions (Some kind) body_len (header_of (plain_all parts.now))) }

@@ -1,4 +1,4 @@
-//! Which tables there are, and what their fields hold (`Message.fbs`, `Schema.fbs`).
+//! The kinds of tables, and what their fields hold (`Message.fbs`, `Schema.fbs`).
 use crate::codes::TypeCode;
 use arrow_types::TypeSet;
 
@@ -17,15 +17,15 @@ pub(crate) enum TableKind {
     KeyValue,
 }
 
-/// How many bytes the element of a vector of pairs has: a struct of two numbers of eight bytes
+/// How many bytes the element of a vector of pairs has: a struct of two eight-byte numbers
 /// (`Message.fbs`, struct `FieldNode`; `Schema.fbs`, struct `Buffer`).
 pub(crate) const PAIR: usize = 16;
 
 /// How many bytes an offset has, the element of a vector of tables.
 pub(crate) const OFFSET: usize = 4;
 
-/// What a field of a table holds. It is public so that the definitions of the crates above can name
-/// its variants; no path outside the crate leads to it.
+/// The content of a field of a table. It is public so that the definitions of dependent crates can
+/// name its variants; no path outside the crate leads to it.
 #[derive(Clone, Copy)]
 pub enum FieldForm {
     /// A number of one byte.
@@ -42,14 +42,14 @@ pub enum FieldForm {
     Bytes,
     /// A vector of structs of two numbers of eight bytes.
     Pairs,
-    /// Something of which only the presence is looked at.
+    /// Something that is only checked for presence.
     Presence,
     /// A table.
     Table(TableKind),
     /// A vector of offsets to tables.
     Tables(TableKind),
-    /// A message's header, whose table the code in the field before it tells.
+    /// A message's header, whose table is given by the code in the field before it.
     Header(TypeSet),
-    /// A field's type, whose table the code in the field before it tells.
+    /// A field's type, whose table is given by the code in the field before it.
     Type(TypeSet),
 }

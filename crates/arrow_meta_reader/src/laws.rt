@@ -1,19 +1,19 @@
-//! Laws of the definitions, which no code stands behind.
+//! Laws of the definitions, which have no code.
 //!
 //! Each is the contract of a function that does nothing. In a law a number is any number.
 ghost use Rattle.std.specs.Prelude.{◌≡◌, ℕ, List};
 ghost use Rattle.arrow_meta_reader.specs.declared.fault.MetaFault.{MetaFault};
 ghost use Rattle.arrow_meta_reader.specs.declared.fault.MetaFault.TheVariants.{Memory};
 ghost use Rattle.arrow_meta_reader.specs.declared.kinds.TableKind.{TableKind};
-ghost use Rattle.arrow_meta_reader.specs.declared.work.Work.{Work};
+ghost use Rattle.arrow_meta_reader.specs.declared.decode_cost.DecodeCost.{DecodeCost};
 ghost use Rattle.arrow_meta_reader.specs.Judges.{CountsFailed, MetadataMeans, MetadataFails};
 ghost use Rattle.arrow_meta_reader.specs.Lies.{Lies};
 ghost use Rattle.arrow_meta_reader.specs.Means.{PlainMessage, Means};
 ghost use Rattle.arrow_meta_reader.specs.Trees.{Tree};
 ghost use Rattle.arrow_types.specs.Limits.{LimitNumbers};
 
-/// Two trees of one kind at one place of the same bytes are equal, and so are two messages that one
-/// tree means.
+/// Two trees of one kind at one offset of the same bytes are equal, and so are two messages that
+/// one tree means.
 pub fn one_meaning()
     ensures tree { (kind : TableKind) (bytes : List ℕ) (p : ℕ) (x y : Tree)
         → Lies kind x bytes p → Lies kind y bytes p → x ≡ y }
@@ -21,8 +21,8 @@ pub fn one_meaning()
         → Means max_body x m → Means max_body x n → m ≡ n }
 {}
 
-/// The bytes of a metadata mean at most one message, or have at most one fault, and never both. The
-/// work that is counted with a fault other than want of memory is but one.
+/// The bytes of a metadata mean at most one message, or have at most one fault, and never both.
+/// With a fault other than `Memory` there is only one possible count of the work.
 pub fn one_answer()
     ensures message { (limits : LimitNumbers) (bytes : List ℕ) (m n : PlainMessage)
         → MetadataMeans limits bytes m → MetadataMeans limits bytes n → m ≡ n }
@@ -30,7 +30,7 @@ pub fn one_answer()
         → MetadataFails limits bytes f → MetadataFails limits bytes g → f ≡ g }
     ensures apart { (limits : LimitNumbers) (bytes : List ℕ) (m : PlainMessage) (f : MetaFault)
         → MetadataMeans limits bytes m → MetadataFails limits bytes f → ⊥ }
-    ensures work { (limits : LimitNumbers) (bytes : List ℕ) (e : MetaFault) (v w : Work)
+    ensures work { (limits : LimitNumbers) (bytes : List ℕ) (e : MetaFault) (v w : DecodeCost)
         → (e ≡ Memory → ⊥) → CountsFailed limits bytes e v → CountsFailed limits bytes e w
         → v ≡ w }
 {}

@@ -1,11 +1,11 @@
-//! The tree of a message: what its metadata hold, before any of it is judged.
+//! The tree of a message: the content of its metadata, before any of it is judged.
 use crate::kinds::TableKind;
 use std::marker::Model;
 
-/// What stands in a field that holds no table.
+/// The content of a field that holds no table.
 #[derive(Debug, Drop)]
 pub(crate) enum Leaf {
-    /// The field is absent, or its table is one that no code opens.
+    /// The field is absent, or no code opens its table.
     Absent,
     /// A number of one to eight bytes, not signed.
     Number(u64),
@@ -13,18 +13,18 @@ pub(crate) enum Leaf {
     Text(String),
     /// A key or a value of a pair of metadata.
     Bytes(Vec<u8>),
-    /// Field nodes or buffers, each as two numbers that are not signed yet.
+    /// Field nodes or buffers, each as two numbers whose sign is not interpreted yet.
     Pairs(Vec<(u64, u64)>),
-    /// The field is there, and nothing more of it is looked at.
+    /// The field is present, and nothing more of it is read.
     Present,
 }
 
-/// What stands at a place, with all that belongs to it.
+/// The value of a field or an element, with all that belongs to it.
 #[derive(Debug, Drop)]
 pub(crate) enum Tree {
     /// A field that holds no table.
     Leaf(Leaf),
-    /// A table, with a tree for each of its fields that are looked at, in order of their numbers.
+    /// A table, with a tree for each of its fields that are read, in order of their numbers.
     Table(TableKind, Vec<Tree>),
     /// The tables of a vector.
     Tables(Vec<Tree>),
@@ -33,8 +33,8 @@ pub(crate) enum Tree {
 /// The tree of a message, which has at most 32 levels of fields, 65,536 fields and 65,536 pairs of
 /// metadata, each visit counted.
 ///
-/// [`crate::tree`] reads one from the bytes of a metadata, and [`crate::judge`] says what it means.
-/// A clause sees the plain tree.
+/// [`crate::tree`] reads one from the bytes of a metadata, and [`crate::judge`] determines its
+/// meaning. A clause sees the plain tree.
 #[derive(Debug, Drop)]
 pub struct MessageTree {
     pub(crate) root: Tree,

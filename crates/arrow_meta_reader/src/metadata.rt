@@ -1,6 +1,6 @@
-//! Custom metadata, built of their tables (`Schema.fbs`, table `KeyValue`).
+//! Custom metadata, built from their tables (`Schema.fbs`, table `KeyValue`).
 //!
-//! Keys and values are moved out of the tree, so they are copied only once, where the tree is read.
+//! Keys and values are moved out of the tree, so they are copied only once, when the tree is read.
 ghost use Rattle.std.specs.Prelude.{◌≡◌, ◌<◌, ◌++◌, ◌∷◌, [], false, length, IfOk, IfErr, OnOk};
 ghost use Rattle.std.specs.Prelude.{MatchOption};
 ghost use Rattle.arrow_meta_reader.specs.SchemaMeaning.{metadata_from, metadata_in, pair_in, pair_of};
@@ -13,7 +13,8 @@ use crate::parts::{into_bytes, take};
 use crate::slots;
 use std::alloc::{AllocError, Global};
 
-/// The pairs of a vector of KeyValue tables, none of anything else. Of none no memory is taken.
+/// The pairs of a vector of KeyValue tables, none of anything else. Without pairs no memory is
+/// allocated.
 pub(crate) fn metadata(alloc: Global, tree: Tree) -> Result<Vec<(Vec<u8>, Vec<u8>)>, AllocError>
     ensures built { IfOk result (λ v. pairs_view v.items ≡ metadata_in (plain tree)) }
     ensures some { IfErr result (λ _. 0 < length (metadata_in (plain tree))) }

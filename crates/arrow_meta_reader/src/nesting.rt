@@ -1,7 +1,7 @@
-//! Whether a dictionary field stands below a dictionary field.
+//! Whether there is a dictionary field below a dictionary field.
 //!
-//! It is looked for in the tree, before any field is built: this fault comes before those that stop
-//! the building.
+//! The tree is searched, before any field is built: this fault comes before those that stop the
+//! building.
 ghost use Rattle.std.specs.Prelude.{◌≡◌, is_some};
 ghost use Rattle.arrow_meta_reader.specs.Parts.{nth};
 ghost use Rattle.arrow_meta_reader.specs.SchemaMeaning.{encoding_in, fields_in, fields_from, fields_at};
@@ -16,7 +16,7 @@ use crate::message_tree::Tree;
 use crate::parts::has_table;
 use crate::slots;
 
-/// Whether a dictionary field stands below a dictionary field in the vector of fields.
+/// Whether the vector of fields has a dictionary field below a dictionary field.
 #[cycle(nesting)]
 pub(crate) fn is_nested(fields: &Tree) -> bool
     ensures nested { result ≡ is_nested (fields_in (plain fields.now)) }

@@ -11,7 +11,7 @@ ghost use Rattle.arrow_meta_reader.specs.Views.{plain, plain_all, plain_leaf};
 use crate::message_tree::{Leaf, Tree};
 use std::alloc::Global;
 
-/// Field `index` of a table, None where it is absent.
+/// Field `index` of a table, None if it is absent.
 pub(crate) fn part(parts: &[Tree], index: u16) -> Option<&Tree>
     ensures found { MatchOption result (nth index (plain_all parts.now) ≡ leaf nothing)
         (λ t. nth index (plain_all parts.now) ≡ plain t.now) }
@@ -19,7 +19,7 @@ pub(crate) fn part(parts: &[Tree], index: u16) -> Option<&Tree>
     parts.get(index as usize)
 }
 
-/// The number in field `index`, or `default` where it is absent.
+/// The number in field `index`, or `default` if it is absent.
 pub(crate) fn number_at(parts: &[Tree], index: u16, default: u64) -> u64
     ensures number { result ≡ number_at index default (plain_all parts.now) }
 {
@@ -46,7 +46,7 @@ pub(crate) fn has_table(parts: &[Tree], index: u16) -> bool
     }
 }
 
-/// Whether field `index` is there.
+/// Whether field `index` is present.
 pub(crate) fn is_there_at(parts: &[Tree], index: u16) -> bool
     ensures there { result ≡ is_there (nth index (plain_all parts.now)) }
 {
@@ -56,14 +56,14 @@ pub(crate) fn is_there_at(parts: &[Tree], index: u16) -> bool
     }
 }
 
-/// The text in field `index`, empty where it is absent.
+/// The text in field `index`, empty if it is absent.
 pub(crate) fn text_at(parts: &[Tree], index: u16) -> &str
     ensures text { result.now ≡ text_in (nth index (plain_all parts.now)) }
 {
     some_text_at(parts, index).unwrap_or("")
 }
 
-/// The text in field `index`, None where it is absent.
+/// The text in field `index`, None if it is absent.
 pub(crate) fn some_text_at(parts: &[Tree], index: u16) -> Option<&str>
     ensures text { option_map lent_bytes result ≡ some_text_in (nth index (plain_all parts.now)) }
 {
@@ -75,7 +75,7 @@ pub(crate) fn some_text_at(parts: &[Tree], index: u16) -> Option<&str>
     }
 }
 
-/// The text that it is, None where it is none.
+/// The text that the leaf is, None if it is not a text.
 fn text_of(leaf: &Leaf) -> Option<&str>
     ensures text { option_map lent_bytes result ≡ some_text_in (leaf_tree (plain_leaf leaf.now)) }
 {
@@ -90,7 +90,7 @@ fn text_of(leaf: &Leaf) -> Option<&str>
 }
 
 impl Tree {
-    /// The number that it is, or `default` where it is none.
+    /// The number that the tree is, or `default` if it is not a number.
     pub(crate) fn number_or(&self, default: u64) -> u64
         ensures number { result ≡ number_or default (plain self.now) }
     {
@@ -175,7 +175,7 @@ pub(crate) fn into_parts(alloc: Global, tree: Tree) -> Vec<Tree>
     }
 }
 
-/// The text that it is, empty where it is none. It is moved, not copied.
+/// The text that the tree is, empty if it is not a text. It is moved, not copied.
 pub(crate) fn into_text(alloc: Global, tree: Tree) -> String
     ensures text { string_bytes result ≡ text_in (plain tree) }
 {
@@ -191,7 +191,7 @@ pub(crate) fn into_text(alloc: Global, tree: Tree) -> String
     }
 }
 
-/// The text that it is, None where it is none. It is moved, not copied.
+/// The text that the tree is, None if it is not a text. It is moved, not copied.
 pub(crate) fn into_some_text(tree: Tree) -> Option<String>
     ensures text { option_map string_bytes result ≡ some_text_in (plain tree) }
 {
@@ -207,7 +207,7 @@ pub(crate) fn into_some_text(tree: Tree) -> Option<String>
     }
 }
 
-/// The string that it is, empty where it is none. It is moved, not copied.
+/// The string that the tree is, empty if it is not a string. It is moved, not copied.
 pub(crate) fn into_bytes(alloc: Global, tree: Tree) -> Vec<u8>
     ensures bytes { result.items ≡ bytes_in (plain tree) }
 {
@@ -223,7 +223,7 @@ pub(crate) fn into_bytes(alloc: Global, tree: Tree) -> Vec<u8>
     }
 }
 
-/// The pairs of numbers that it is, none of anything else.
+/// The pairs of numbers that the tree is, none of anything else.
 pub(crate) fn into_pairs(alloc: Global, tree: Tree) -> Vec<(u64, u64)>
     ensures pairs { result.items ≡ pairs_in (plain tree) }
 {

@@ -16,11 +16,11 @@ ghost use Rattle.arrow_meta_reader.specs.Reads.{Ends, RowEnds};
 ghost use Rattle.arrow_meta_reader.specs.Reads.{ReadsTree, ReadsRow, LacksRoom, room, Faulty};
 
 use crate::counter::Counter;
+use crate::decode_cost::DecodeCost;
 use crate::fault::MetaFault;
 use crate::forms;
 use crate::kinds::{FieldForm, OFFSET, PAIR, TableKind};
 use crate::message_tree::{Leaf, MessageTree, Tree};
-use crate::work::Work;
 use arrow_flatbuf::{Root, Table, Vector};
 use arrow_types::{Limits, TypeSet};
 use std::alloc::{AllocError, Global};
@@ -34,14 +34,14 @@ const MAX_FIELDS: u64 = 65_536;
 /// The most KeyValue tables, each visit counted.
 const MAX_PAIRS: u64 = 65_536;
 
-/// The tree of the message whose metadata the bytes are (Columnar Format, "Encapsulated message
+/// The tree of the message with these bytes as its metadata (Columnar Format, "Encapsulated message
 /// format"): the one that lies at the root, if it keeps to the limits.
 ///
-/// `Metadata` where something that is looked at is not readable, or where there are more than 32
-/// levels of fields, more than 65,536 fields, more than 65,536 pairs of metadata, or names, zones,
-/// keys and values of more than `max_metadata` bytes together, each visit counted. `Memory` where a
-/// growth was refused, so only where the root's table is readable with its first field, since no
-/// memory is asked for before. How long the bytes may be is for the caller to say.
+/// `Metadata` if something that is read is not readable, or if there are more than 32 levels of
+/// fields, more than 65,536 fields, more than 65,536 pairs of metadata, or names, zones, keys and
+/// values of more than `max_metadata` bytes together, each visit counted. `Memory` if an allocation
+/// failed, so only if the root's table is readable with its first field, since no memory is
+/// allocated before. The caller decides how long the bytes may be.
 pub fn tree(alloc: Global, bytes: &[u8], limits: &Limits) -> Result<MessageTree, MetaFault>
     ensures found { IfOk result (λ t. LiesAtRoot limits.now.types t bytes.now
         × IsWithin limits.now.max_metadata t) }
@@ -50,20 +50,21 @@ pub fn tree(alloc: Global, bytes: &[u8], limits: &Limits) -> Result<MessageTree,
         → ¬ (IsWithin limits.now.max_metadata x))
         (GrowsAtRoot limits.now bytes.now)) }
 {
-    let mut work = Work::NONE;
+    let mut work = DecodeCost::NONE;
     tree_counted(alloc, bytes, limits, &mut work)
 }
 
-/// The same, with what it came to. The work is 0 first, whatever it was, and then counts each Field
-/// table and each KeyValue table before it is opened, and each byte of a name, a zone, a key or a
-/// value before it is copied. It keeps to the limits whatever is answered. Where a tree is, it counts
-/// just what that has; after a fault just what was read before the place where reading ended with it,
-/// and a table or a copy that it ended at, where there was room for that.
+/// The same, with the work that it took. The work is first set to 0, whatever it was, and then
+/// counts each Field table and each KeyValue table before it is opened, and each byte of a name, a
+/// zone, a key or a value before it is copied. It keeps to the limits whatever is returned. If
+/// there is a tree, the work counts exactly what the tree has; after a fault exactly what was read
+/// before the point where reading ended with it, and the table or copy at which it ended, if there
+/// was room for that.
 pub fn tree_counted(
     alloc: Global,
     bytes: &[u8],
     limits: &Limits,
-    work: &mut Work,
+    work: &mut DecodeCost,
 ) -> Result<MessageTree, MetaFault>
     ensures found { IfOk result (λ t. LiesAtRoot limits.now.types t bytes.now
         × IsWithin limits.now.max_metadata t) }
@@ -79,7 +80,7 @@ pub fn tree_counted(
         alloc,
         counter: Counter {
             max_bytes: limits.max_metadata(),
-            work: Work::NONE,
+            work: DecodeCost::NONE,
         },
     };
     let found = reader.root(limits.types(), bytes);
@@ -87,8 +88,8 @@ pub fn tree_counted(
     Ok(MessageTree { root: found? })
 }
 
-/// Reads trees, and counts what it read. However the bytes share their tables and texts, no more is
-/// read than was counted.
+/// Reads trees, and counts what it reads. However the bytes share their tables and texts, no more
+/// is read than was counted.
 #[derive(Drop)]
 struct Reader {
     alloc: Global,
@@ -96,7 +97,7 @@ struct Reader {
 }
 
 impl Reader {
-    /// Reads the tree of the message whose metadata the bytes are.
+    /// Reads the tree of the message with these bytes as its metadata.
     fn root(&mut self, types: TypeSet, bytes: &[u8]) -> Result<Tree, MetaFault>
         ensures read { ReadsTree plain result bytes.now (root types) 32 (room self.old)
             (room self.new) }
@@ -110,8 +111,8 @@ impl Reader {
         }
     }
 
-    /// Pays for a table, and answers how many levels may stand below it. Field tables and KeyValue
-    /// tables stand in vectors alone, and are opened only behind this call.
+    /// Pays for a table, and returns how many levels may be below it. Field tables and KeyValue
+    /// tables are only in vectors, and are opened only after this call.
     fn enter(&mut self, kind: TableKind, levels: u64) -> Result<u64, MetaFault>
         ensures paid { MatchResult result
             (λ below. (below + visit kind ≡ levels)
@@ -139,7 +140,7 @@ impl Reader {
         }
     }
 
-    /// Reads the table, which was found in no vector, with all that belongs to it.
+    /// Reads the table, which is not an element of a vector, with all that belongs to it.
     #[cycle(trees)]
     fn table(&mut self, kind: TableKind, table: &Table, levels: u64) -> Result<Tree, MetaFault>
         ensures read { (s : Spot)
@@ -179,7 +180,7 @@ impl Reader {
         Ok(trees)
     }
 
-    /// Reads what stands in a field of this form.
+    /// Reads the content of a field of this form.
     #[cycle(trees)]
     fn field(
         &mut self,
@@ -216,7 +217,7 @@ impl Reader {
         }
     }
 
-    /// Reads the table in a field, where something opens one.
+    /// Reads the table in a field, if something opens one.
     #[cycle(trees)]
     #[tactic(auto, unfolding(crate::specs::Lies::layer))]
     fn child(
@@ -411,7 +412,7 @@ impl Reader {
         }
     }
 
-    /// Reads whether a field is there.
+    /// Reads whether a field is present.
     #[tactic(auto, unfolding(crate::specs::Lies::layer))]
     fn presence(&mut self, table: &Table, field: u16) -> Result<Tree, MetaFault>
         ensures read { (most : ℕ) → ReadsTree plain result table.now.bytes
@@ -436,7 +437,7 @@ fn joined(kind: TableKind, fields: Vec<Tree>) -> Tree
     Tree::Table(kind, fields)
 }
 
-/// The code in a field, 0 where it is absent. An unreadable one is found when the field itself is
+/// The code in a field, 0 if it is absent. An unreadable one is found when the field itself is
 /// read.
 fn code_at(table: &Table, field: u16) -> u64
     ensures code { result ≡ code_at table.now field }
@@ -448,7 +449,7 @@ fn code_at(table: &Table, field: u16) -> u64
     }
 }
 
-/// The pairs of numbers of a vector. Of none no memory is taken.
+/// The pairs of numbers of a vector. Without pairs no memory is allocated.
 fn pairs_of(alloc: Global, vector: &Vector) -> Result<Vec<(u64, u64)>, AllocError>
     requires pairs { vector.now.size ≡ 16 }
     ensures pairs { IfOk result

@@ -1,6 +1,6 @@
 //! The fields of tables by their numbers, in a module for each table, under their names in
-//! `Message.fbs` and `Schema.fbs`. A field of a union has a field before it, named for it, with the
-//! code of what it holds (FlatBuffers internals, "Unions").
+//! `Message.fbs` and `Schema.fbs`. A field of a union is preceded by a field, named after it, with
+//! the code of its content (FlatBuffers internals, "Unions").
 
 /// Table `Message` (`Message.fbs`).
 pub(crate) mod message {

@@ -1,7 +1,7 @@
-//! The types that are read: of each its number, the fields of its table, its children, and the
+//! The types that are read: for each its number, the fields of its table, its children, and the
 //! values that its table may hold (`Schema.fbs`, union `Type` and the tables of its members).
 //!
-//! A further type is an arm in each of these functions, and a row of `type_row` in
+//! A new type needs an arm in each of these functions, and a row of `type_row` in
 //! `specs/Types.antt`.
 ghost use Rattle.std.specs.Prelude.{◌≡◌, ◌≤◌, ◌==◌, ◌∷◌, ◌↔◌, IsTrue, MatchResult, Some, [], false, length};
 ghost use Rattle.std.specs.Prelude.{not, option_map};
@@ -69,12 +69,12 @@ pub(crate) fn type_code(number: u64) -> Option<TypeCode>
         19 => TypeCode::LargeBinary,
         20 => TypeCode::LargeUtf8,
         21 => TypeCode::LargeList,
-        // a number that is no type's of the profile
+        // a number that is not a type's of the profile
         _ => return None,
     })
 }
 
-/// The type, where a set has it.
+/// The type, if the set has it.
 pub(crate) fn taken(types: TypeSet, code: Option<TypeCode>) -> Option<TypeCode>
     ensures code { result ≡ taken types code }
 {
@@ -93,8 +93,8 @@ pub(crate) fn taken(types: TypeSet, code: Option<TypeCode>) -> Option<TypeCode>
     }
 }
 
-/// The fields of a type's table that are looked at, in order of their numbers from 0. Where there
-/// are none the table is not opened.
+/// The fields of a type's table that are read, in order of their numbers from 0. If there are none
+/// the table is not opened.
 pub(crate) fn type_fields(code: TypeCode) -> &'static [FieldForm]
     ensures value { result.now ≡ (type_row code).fields }
     ensures few { length result.now ≤ 3 }
@@ -116,7 +116,7 @@ pub(crate) fn type_fields(code: TypeCode) -> &'static [FieldForm]
     }
 }
 
-/// Whether a type of this code may have so many children.
+/// Whether a type of this code may have this many children.
 pub(crate) fn children_fit(code: Option<TypeCode>, count: usize) -> bool
     ensures fit { result ≡ children_fit code count }
 {
@@ -188,7 +188,7 @@ pub(crate) fn data_type(
     }
 }
 
-/// Whether two tables of the type of this code say the same.
+/// Whether two tables of the type of this code describe the same type.
 pub(crate) fn same_part(code: TypeCode, one: &[Tree], other: &[Tree]) -> bool
     ensures same { IsTrue result
         ↔ (tag_by (Some code) (plain_all one.now) ≡ tag_by (Some code) (plain_all other.now)) }
@@ -224,7 +224,7 @@ fn same_zone(one: Option<&str>, other: Option<&str>) -> bool
     }
 }
 
-/// Whether a time of this unit is so many bits wide.
+/// Whether a time of this unit is this many bits wide.
 fn is_time(unit: Option<TimeUnit>, bits: u64) -> bool
     ensures time { result ≡ is_time unit bits }
 {
@@ -263,7 +263,7 @@ fn large_list_type(alloc: Global, children: Vec<Field>) -> Result<DataType, Fiel
     Ok(DataType::LargeList(only(alloc, children)?))
 }
 
-/// Lists of just so many values each, of the one child.
+/// Lists of exactly this many values each, of the one child.
 fn fixed_size_list_type(
     alloc: Global,
     parts: &[Tree],
@@ -283,7 +283,7 @@ fn map_type(alloc: Global, parts: &[Tree], children: Vec<Field>) -> Result<DataT
     Ok(DataType::Map(only(alloc, children)?, sorted))
 }
 
-/// The one child, if there is just one.
+/// The one child, if there is exactly one.
 fn only(alloc: Global, mut children: Vec<Field>) -> Result<Box<Field>, FieldFault>
     ensures one { MatchResult result (λ item. children.items ≡ item.value ∷ [])
         (λ e. Refuses e (not (length children.items == 1))) }
@@ -335,21 +335,21 @@ fn timestamp_type(mut parts: Vec<Tree>) -> DataType
     DataType::Timestamp(unit, zone)
 }
 
-/// The width that an Int table with these fields says.
+/// The width in an Int table with these fields.
 pub(crate) fn width_in(parts: &[Tree]) -> BitWidth
     ensures width { result ≡ width_in (plain_all parts.now) }
 {
     bit_width(number_at(parts, FIRST, 0)).unwrap_or(BitWidth::Eight)
 }
 
-/// Whether an Int table with these fields says that its numbers have a sign.
+/// Whether the numbers of an Int table with these fields have a sign.
 pub(crate) fn sign_in(parts: &[Tree]) -> bool
     ensures sign { result ≡ sign_in (plain_all parts.now) }
 {
     flag_at(parts, SECOND)
 }
 
-/// The precision that a FloatingPoint table with these fields says.
+/// The precision in a FloatingPoint table with these fields.
 fn precision_in(parts: &[Tree]) -> Precision
     ensures precision { result
         ≡ unwrap_or (precision (number_at 0 0 (plain_all parts.now))) Precision.Half }
@@ -357,7 +357,7 @@ fn precision_in(parts: &[Tree]) -> Precision
     precision(number_at(parts, FIRST, 0)).unwrap_or(Precision::Half)
 }
 
-/// What a Decimal table says.
+/// The meaning of a Decimal table.
 #[derive(Clone, Copy, PartialEq, Eq)]
 struct Decimal {
     width: DecimalWidth,
@@ -365,7 +365,8 @@ struct Decimal {
     scale: i8,
 }
 
-/// What a Decimal table with these fields says, if its width allows its precision and its scale.
+/// The meaning of a Decimal table with these fields, if its width allows its precision and its
+/// scale.
 fn decimal_in(parts: &[Tree]) -> Option<Decimal>
     ensures decimal { option_map (λ d. decimal d.width d.precision d.scale) result
         ≡ decimal_in (plain_all parts.now) }
@@ -384,7 +385,7 @@ fn decimal_in(parts: &[Tree]) -> Option<Decimal>
     }
 }
 
-/// The same, or some decimals or other where the width does not allow them.
+/// The same, or arbitrary decimals if the width does not allow them.
 fn decimal_or_other(parts: &[Tree]) -> Decimal
     ensures decimal { decimal result.width result.precision result.scale
         ≡ tag_by (Some TypeCode.Decimal) (plain_all parts.now) }
@@ -396,7 +397,7 @@ fn decimal_or_other(parts: &[Tree]) -> Decimal
     })
 }
 
-/// The unit that a Date table with these fields says.
+/// The unit in a Date table with these fields.
 fn date_in(parts: &[Tree]) -> DateUnit
     ensures unit { result
         ≡ unwrap_or (date_unit (number_at 0 1 (plain_all parts.now))) DateUnit.Day }
@@ -404,15 +405,15 @@ fn date_in(parts: &[Tree]) -> DateUnit
     date_unit(number_at(parts, FIRST, 1)).unwrap_or(DateUnit::Day)
 }
 
-/// The unit that a Time, a Timestamp or a Duration table with these fields says, or the one of
-/// `default` where it says none. It is the same field of all three.
+/// The unit in a Time, a Timestamp or a Duration table with these fields, or the one of `default`
+/// if it is absent. It is the same field of all three.
 fn time_in(parts: &[Tree], default: u64) -> TimeUnit
     ensures unit { result ≡ time_in default (plain_all parts.now) }
 {
     time_unit(number_at(parts, FIRST, default)).unwrap_or(TimeUnit::Second)
 }
 
-/// The unit that an Interval table with these fields says.
+/// The unit in an Interval table with these fields.
 fn interval_in(parts: &[Tree]) -> IntervalUnit
     ensures unit { result
         ≡ unwrap_or (interval_unit (number_at 0 0 (plain_all parts.now))) IntervalUnit.YearMonth }
@@ -420,15 +421,15 @@ fn interval_in(parts: &[Tree]) -> IntervalUnit
     interval_unit(number_at(parts, FIRST, 0)).unwrap_or(IntervalUnit::YearMonth)
 }
 
-/// Whether a Map table with these fields says that the keys of each map are sorted.
+/// Whether a Map table with these fields has the flag that the keys of each map are sorted.
 fn sorted_in(parts: &[Tree]) -> bool
     ensures sorted { result ≡ flag_at 0 (plain_all parts.now) }
 {
     flag_at(parts, FIRST)
 }
 
-/// The number of bytes that a FixedSizeBinary table with these fields says, and of values that a
-/// FixedSizeList table does. It is the same field of both.
+/// The number of bytes in a FixedSizeBinary table with these fields, and of values in a
+/// FixedSizeList table. It is the same field of both.
 fn fixed_size_in(parts: &[Tree]) -> u32
     ensures size { result ≡ unwrap_or (byte_width (number_at 0 0 (plain_all parts.now))) 0 }
 {

@@ -1,4 +1,4 @@
-//! Metadata as FlatBuffers' own builder lays them out.
+//! Metadata as the FlatBuffers library's builder lays them out.
 
 /// Pairs at the schema, at columns, and at fields below a list, a large list, a struct and a list
 /// in it.

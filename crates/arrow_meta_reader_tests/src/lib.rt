@@ -1,5 +1,5 @@
-//! Tests of `arrow_meta_reader`, in a crate of their own so that the library is not proved once
-//! more with them.
+//! Tests of `arrow_meta_reader`, in a separate crate so that the library is not proved once more
+//! with them.
 #![tactic(auto)]
 
 #[cfg(test)]

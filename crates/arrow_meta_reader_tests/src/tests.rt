@@ -1,8 +1,8 @@
-//! What no clause says: that the definitions say what the formats mean, and that calls succeed.
+//! What no contract says: that the definitions say what the formats mean, and that calls succeed.
 //!
-//! Here stands what no stream tells: the numbers of a batch, the version of a message, what was
-//! counted, other limits than the standard ones, and metadata of 63 MiB. A row changes bytes of a
-//! metadata at places counted from its first byte.
+//! These tests cover what no stream shows: the numbers of a batch, the version of a message, what
+//! was counted, limits other than the standard ones, and metadata of 63 MiB. A row changes bytes of
+//! metadata at offsets counted from the first byte.
 
 mod counts;
 mod decimals;

@@ -1,13 +1,13 @@
--- What a message is written as means the message again.
+-- The bytes written for a message decode to the message again.
 use Rattle.std.proofs.Common.{◌≡◌, ℕ, ℤ, pos, negsuc, false, ◌||◌, List, [], ◌∷◌}
 use Rattle.std.proofs.Common.{Option, Some, None, map, refl, ap, ◌∙◌}
 use Rattle.std.specs.Int.{cast_signed, cast_unsigned, w64}
 use Rattle.std.specs.Option.{unwrap_or}
 use Rattle.std.proofs.lemmas.Bool.{or_parts}
 use Rattle.std.proofs.lemmas.Int.{to_z-of_z}
-use Rattle.arrow_types.specs.DataType.{Tag}
+use Rattle.arrow_types.specs.DataType.{TypeId}
 use Rattle.arrow_types.specs.Field as columns
-use Rattle.arrow_types.specs.Field.{Head, Fields, width}
+use Rattle.arrow_types.specs.Field.{FieldHeader, FieldTree, width}
 use Rattle.arrow_types.specs.Notes.{KeyValue, Notes, unnoted, noted, SchemaShape}
 use Rattle.arrow_types.specs.TypeSet.{leaves_out, leaves_some_out}
 use Rattle.arrow_types.specs.declared.data_type.BitWidth.TheVariants as widths
@@ -40,7 +40,7 @@ long_again (pos n) h = to_z-of_z w64 (pos n) (record { sfits = h })
 long_again (negsuc n) h = to_z-of_z w64 (negsuc n) (record { sfits = h })
 
 -- a type
-tag_again : (types : TypeSet) (tag : Tag) (children : Fields) → IsFlawless tag children → leaves_out types tag ≡ false → tag_by (type_code (tag_code tag)) (parts (type_tree types tag)) ≡ tag
+tag_again : (types : TypeSet) (tag : TypeId) (children : FieldTree) → IsFlawless tag children → leaves_out types tag ≡ false → tag_by (type_code (tag_code tag)) (parts (type_tree types tag)) ≡ tag
 tag_again types tag children flawless within = ap (λ tree. tag_by (type_code (tag_code tag)) (parts tree)) (opened_in types tag within) ∙ tag_of_all tag children flawless
 
 -- an encoding
@@ -53,7 +53,7 @@ encoding_again (Some e) h = λ i. Some (record {
 })
 
 -- a field without its children
-head_again : (types : TypeSet) (head : Head) (children : Fields) (ps : List KeyValue) (below : Trees) → HasLongId head.encoding → IsFlawless head.tag children → leaves_out types head.tag ≡ false → head_of (field_parts types head ps below) ≡ head
+head_again : (types : TypeSet) (head : FieldHeader) (children : FieldTree) (ps : List KeyValue) (below : Trees) → HasLongId head.encoding → IsFlawless head.tag children → leaves_out types head.tag ≡ false → head_of (field_parts types head ps below) ≡ head
 head_again types head children ps below h flawless within = λ i. record {
   name = head.name;
   nullable = flag_again head.nullable i;
@@ -62,7 +62,7 @@ head_again types head children ps below h flawless within = λ i. record {
 }
 
 -- the fields of a vector
-pub fields_again : (types : TypeSet) (fields : Fields) (n : Notes) → AreFields fields → AreFlawless fields → leaves_some_out types fields ≡ false → fields_from (field_trees types fields n) ≡ fields
+pub fields_again : (types : TypeSet) (fields : FieldTree) (n : Notes) → AreFields fields → AreFlawless fields → leaves_some_out types fields ≡ false → fields_from (field_trees types fields n) ≡ fields
 fields_again types columns.none n h flawless within = refl
 fields_again types (columns.more head children rest) n h flawless within =
     let in_all = or_parts (leaves_out types head.tag || leaves_some_out types children) (leaves_some_out types rest) within in
@@ -83,8 +83,8 @@ metadata_again : (ps : List KeyValue) → metadata_in (metadata_tree ps) ≡ ps
 metadata_again [] = refl
 metadata_again (p ∷ ps) = pairs_again (p ∷ ps)
 
--- what is noted at the fields of a vector
-notes_again : (types : TypeSet) (fields : Fields) (n : Notes) → AreNotesOf fields n → notes_from (field_trees types fields n) ≡ n
+-- the custom metadata of the fields of a vector
+notes_again : (types : TypeSet) (fields : FieldTree) (n : Notes) → AreNotesOf fields n → notes_from (field_trees types fields n) ≡ n
 notes_again types columns.none unnoted h = refl
 notes_again types columns.none (noted ps below later) h = absurd h
 notes_again types (columns.more head children rest) unnoted h = absurd h

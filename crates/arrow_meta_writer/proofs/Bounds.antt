@@ -1,12 +1,12 @@
--- How deep and how large the tree is that a message is written as.
+-- The depth and the size of the tree that is written for a message.
 use Rattle.std.proofs.Common.{◌≡◌, ℕ, ◌+◌, ◌*◌, ◌≤◌, List, [], ◌∷◌, length, Option, Some, None, refl, arith}
-use Rattle.arrow_flatbuf.specs.Nodes.{Nodes, Cells, last, offset, count_nodes, after, after_all}
+use Rattle.arrow_flatbuf.specs.Nodes.{Nodes, TableFields, last, offset, count_nodes, after, after_all}
 use Rattle.arrow_flatbuf.specs.Nodes.{after_cells, cells_place}
 use Rattle.arrow_flatbuf.specs.Nodes as laid
 use Rattle.arrow_flatbuf.specs.Layout.{up}
 use Rattle.arrow_flatbuf.proofs.Laid.{reaches}
 use Rattle.arrow_types.specs.Field as columns
-use Rattle.arrow_types.specs.Field.{Head, Fields}
+use Rattle.arrow_types.specs.Field.{FieldHeader, FieldTree}
 use Rattle.arrow_types.specs.Notes.{KeyValue, Notes, unnoted, noted, noted_count}
 use Rattle.arrow_types.specs.declared.type_set.TypeSet.{TypeSet}
 use Rattle.arrow_types.specs.declared.field.Encoding.{Encoding}
@@ -42,7 +42,7 @@ encoding_entries : (e : Option Encoding) → entries (encoding_tree e) ≡ 0
 encoding_entries None = refl
 encoding_entries (Some e) = refl
 
--- Pairs are no fields, and each is an entry.
+-- Pairs are not fields, and each is an entry.
 
 pairs_levels : (ps : List KeyValue) → levels_all (pair_trees ps) ≡ 0
 pairs_levels [] = refl
@@ -70,30 +70,30 @@ metadata_entries (p ∷ ps) = pairs_entries (p ∷ ps)
 
 -- The tree has the levels and the number of the fields, and no more entries than pairs.
 
-field_levels : (types : TypeSet) (fields : Fields) (n : Notes) → levels_all (field_trees types fields n) ≡ columns.levels fields
+field_levels : (types : TypeSet) (fields : FieldTree) (n : Notes) → levels_all (field_trees types fields n) ≡ columns.levels fields
 field_levels types columns.none n = refl
 field_levels types (columns.more head children rest) n =
     omega (arith, type_levels types head.tag, encoding_levels head.encoding, metadata_levels (first_pairs n), field_levels types children (first_below n), field_levels types rest (first_rest n))
 
-field_visits : (types : TypeSet) (fields : Fields) (n : Notes) → visits_all (field_trees types fields n) ≡ columns.count fields
+field_visits : (types : TypeSet) (fields : FieldTree) (n : Notes) → visits_all (field_trees types fields n) ≡ columns.count fields
 field_visits types columns.none n = refl
 field_visits types (columns.more head children rest) n =
     omega (arith, type_visits types head.tag, encoding_visits head.encoding, metadata_visits (first_pairs n), field_visits types children (first_below n), field_visits types rest (first_rest n))
 
--- the pairs of notes, part by part
+-- the pairs of the custom metadata, piece by piece
 parts_count : (n : Notes) → length (first_pairs n) + noted_count (first_below n) + noted_count (first_rest n) ≡ noted_count n
 parts_count unnoted = refl
 parts_count (noted ps below rest) = refl
 
-field_entries : (types : TypeSet) (fields : Fields) (n : Notes) → entries_all (field_trees types fields n) ≤ noted_count n
+field_entries : (types : TypeSet) (fields : FieldTree) (n : Notes) → entries_all (field_trees types fields n) ≤ noted_count n
 field_entries types columns.none n = omega arith
 field_entries types (columns.more head children rest) n =
     omega (arith, parts_count n, type_entries types head.tag, encoding_entries head.encoding, metadata_entries (first_pairs n), field_entries types children (first_below n), field_entries types rest (first_rest n))
 
 -- Its texts are not longer than the metadata.
 
--- the children begin behind the encoding
-encoding_long : (q : ℕ) (e : Option Encoding) (rest : Cells) → (r : ℕ) × (q ≤ r) × (after_cells q (with_encoding e rest) ≡ after_cells r rest)
+-- the children begin after the encoding
+encoding_long : (q : ℕ) (e : Option Encoding) (rest : TableFields) → (r : ℕ) × (q ≤ r) × (after_cells q (with_encoding e rest) ≡ after_cells r rest)
 encoding_long q None rest = (q, omega arith, refl)
 encoding_long q (Some e) rest =
     let r = after q (laid.table (encoding_cells e)) in
@@ -110,7 +110,7 @@ metadata_long [] q = omega arith
 metadata_long (p ∷ ps) q = omega (arith, pairs_long (p ∷ ps) (up 4 q + 4 + 4 * count_nodes (pair_nodes (p ∷ ps))))
 
 -- the texts of a vector of fields
-fields_long : (types : TypeSet) (fields : Fields) (n : Notes) (q : ℕ) → q + text_bytes_all (field_trees types fields n) ≤ after_all q (field_nodes fields n)
+fields_long : (types : TypeSet) (fields : FieldTree) (n : Notes) (q : ℕ) → q + text_bytes_all (field_trees types fields n) ≤ after_all q (field_nodes fields n)
 fields_long types columns.none n q = omega arith
 fields_long types (columns.more head children rest) n q =
     let ps = first_pairs n in

@@ -1,4 +1,4 @@
--- What is written of decimals that their width allows is read as the same again, and has a place in its fields.
+-- The written form of decimals that their width allows is read as the same decimals, and fits into its fields.
 use Rattle.std.proofs.Common.{◌≡◌, ◌<◌, ◌^◌, ℕ, ℤ, pos, negsuc, true, false, ◌&&◌, not, nat_lt, if◌then◌else◌, Some, None, refl, ap, ◌∙◌, arith}
 use Rattle.std.specs.Int.{cast_signed, cast_unsigned, w32}
 use Rattle.std.proofs.Math.Nat.{mod-eq_of_lt}
@@ -11,7 +11,7 @@ use Rattle.arrow_types.specs.declared.data_type.DecimalWidth.TheVariants as deci
 use Rattle.arrow_meta_reader.specs.Codes.{decimal_scale, decimal_width}
 use Rattle.arrow_meta_reader.specs.Types.{decimal_by}
 
--- what is asked of a precision and of a scale
+-- the conditions on a precision and on a scale
 parts_of : (width : DecimalWidth) (precision : ℕ) (scale : ℤ) → is_decimal width precision scale ≡ true
     → (nat_lt (digits_of width) precision ≡ false) × (is_scale scale ≡ true)
 parts_of width precision scale h =
@@ -57,7 +57,7 @@ signed_again (negsuc n) h = to_z-of_z w32 (negsuc n) (record { sfits = omega (ar
 scale_again : (scale : ℤ) → is_scale scale ≡ true → decimal_scale (cast_unsigned w32 scale) ≡ scale
 scale_again scale h = ap (cast_signed w32) (mod-eq_of_lt (scale_small scale h)) ∙ signed_again scale h
 
--- the table of decimals says them again
+-- the table of decimals decodes to the same decimals
 pub decimal_again : (width : DecimalWidth) (precision : ℕ) (scale : ℤ) → is_decimal width precision scale ≡ true
     → decimal_by (decimal_width (decimal_bits_of width)) precision (decimal_scale (cast_unsigned w32 scale)) ≡ Some (tags.decimal width precision scale)
 decimal_again width precision scale h =

@@ -1,11 +1,11 @@
--- No fault holds of the tree that a message is written as.
+-- The tree that is written for a message has no fault.
 use Rattle.std.proofs.Common.{◌≡◌, ℕ, ◌^◌, ◌<◌, ◌≤◌, Bool, true, false, ◌||◌, not, nat_lt, if◌then◌else◌}
 use Rattle.std.proofs.Common.{List, [], ◌∷◌, Option, Some, None, is_some, refl, sym, ap, ◌∙◌, inl, inr, arith}
 use Rattle.std.proofs.lemmas.Bool.{le-ltb, or_from, or_parts}
 use Rattle.arrow_types.specs.DataType as tags
-use Rattle.arrow_types.specs.DataType.{Tag}
+use Rattle.arrow_types.specs.DataType.{TypeId}
 use Rattle.arrow_types.specs.Field as columns
-use Rattle.arrow_types.specs.Field.{Head, Fields, width}
+use Rattle.arrow_types.specs.Field.{FieldHeader, FieldTree, width}
 use Rattle.arrow_types.specs.Notes.{KeyValue, Notes}
 use Rattle.arrow_types.specs.Schema.{is_nested, lacks_entries, types_differ, dictionary_fields}
 use Rattle.arrow_types.specs.TypeSet.{leaves_out, leaves_some_out}
@@ -37,7 +37,7 @@ use Rattle.arrow_meta_writer.proofs.TypeRows.{width_again, fitting_all}
 use Rattle.arrow_meta_writer.proofs.TypeTrees.{whole_type, has_type, supported_type, known_type, opened_or_none}
 use Rattle.arrow_types.proofs.Clashes.{none_differ}
 
--- Pairs pass a test that no KeyValue table fails.
+-- Pairs pass a test that every KeyValue table passes.
 pairs_pass : (test : TableKind → Trees → Bool) → ((xs : Trees) → test kinds.KeyValue xs ≡ false) → (ps : List KeyValue) → any_in test (pair_trees ps) ≡ false
 pairs_pass test none_fails [] = refl
 pairs_pass test none_fails (p ∷ ps) =
@@ -49,18 +49,18 @@ metadata_pass : (test : TableKind → Trees → Bool) → ((xs : Trees) → test
 metadata_pass test none_fails [] = refl
 metadata_pass test none_fails (p ∷ ps) = pairs_pass test none_fails (p ∷ ps)
 
--- A Field table passes a test where it does itself, and its type, its encoding, its children and its pairs do.
-field_passes : (types : TypeSet) (test : TableKind → Trees → Bool) (head : Head) (ps : List KeyValue) (below : Trees) → test (kinds.Field types) (field_parts types head ps below) ≡ false → any test (type_tree types head.tag) ≡ false → any test (encoding_tree head.encoding) ≡ false
+-- A Field table passes a test if it does itself, and its type, its encoding, its children and its pairs do.
+field_passes : (types : TypeSet) (test : TableKind → Trees → Bool) (head : FieldHeader) (ps : List KeyValue) (below : Trees) → test (kinds.Field types) (field_parts types head ps below) ≡ false → any test (type_tree types head.tag) ≡ false → any test (encoding_tree head.encoding) ≡ false
     → any_in test below ≡ false → any test (metadata_tree ps) ≡ false → any test (table (kinds.Field types) (field_parts types head ps below)) ≡ false
 field_passes types test head ps below here type encoding children noted = rw (here, type, encoding, children, noted) refl
 
--- No table is lacking.
+-- No table is missing.
 
 whole_encoding : (e : Option Encoding) → any lacks_table (encoding_tree e) ≡ false
 whole_encoding None = refl
 whole_encoding (Some e) = refl
 
-lacks_none : (types : TypeSet) (fields : Fields) (n : Notes) → any_in lacks_table (field_trees types fields n) ≡ false
+lacks_none : (types : TypeSet) (fields : FieldTree) (n : Notes) → any_in lacks_table (field_trees types fields n) ≡ false
 lacks_none types columns.none n = refl
 lacks_none types (columns.more head children rest) n =
     let below = field_trees types children (first_below n) in
@@ -68,7 +68,7 @@ lacks_none types (columns.more head children rest) n =
     let later = lacks_none types rest (first_rest n) in
     rw (here, later) refl
 
--- Nothing is unsupported but what the set leaves out.
+-- Only what the set leaves out is unsupported.
 
 supported_encoding : (e : Option Encoding) → any is_unsupported (encoding_tree e) ≡ false
 supported_encoding None = refl
@@ -78,14 +78,15 @@ or_nothing : (b : Bool) → (b || false) ≡ b
 or_nothing true = refl
 or_nothing false = refl
 
--- A Field table fails a test where it does itself, or its children do, if its type, its encoding and its pairs pass it.
-field_fails : (types : TypeSet) (test : TableKind → Trees → Bool) (head : Head) (ps : List KeyValue) (below : Trees) (own : Bool) → test (kinds.Field types) (field_parts types head ps below) ≡ own
+-- A Field table fails a test if it does itself or its children do, provided that its type, its encoding and its pairs
+-- pass it.
+field_fails : (types : TypeSet) (test : TableKind → Trees → Bool) (head : FieldHeader) (ps : List KeyValue) (below : Trees) (own : Bool) → test (kinds.Field types) (field_parts types head ps below) ≡ own
     → any test (type_tree types head.tag) ≡ false → any test (encoding_tree head.encoding) ≡ false → any test (metadata_tree ps) ≡ false
     → any test (table (kinds.Field types) (field_parts types head ps below)) ≡ (own || any_in test below)
 field_fails types test head ps below own here type encoding noted = rw (here, type, encoding, noted) (ap (λ b. own || b) (or_nothing (any_in test below)))
 
--- What is unsupported is a type that the set leaves out.
-all_supported : (types : TypeSet) (fields : Fields) (n : Notes) → any_in is_unsupported (field_trees types fields n) ≡ leaves_some_out types fields
+-- An unsupported item is a type that the set leaves out.
+all_supported : (types : TypeSet) (fields : FieldTree) (n : Notes) → any_in is_unsupported (field_trees types fields n) ≡ leaves_some_out types fields
 all_supported types columns.none n = refl
 all_supported types (columns.more head children rest) n =
     let below = field_trees types children (first_below n) in
@@ -96,7 +97,7 @@ all_supported types (columns.more head children rest) n =
 
 -- Nothing is a misfit.
 
-fitting_type : (types : TypeSet) (tag : Tag) (children : Fields) → IsFlawless tag children → any is_misfit (type_tree types tag) ≡ false
+fitting_type : (types : TypeSet) (tag : TypeId) (children : FieldTree) → IsFlawless tag children → any is_misfit (type_tree types tag) ≡ false
 fitting_type types tag children flawless = elim (opened_or_none types tag) [
   | inl absent ↦ ap (any is_misfit) absent
   | inr same ↦ ap (any is_misfit) same ∙ fitting_all tag children flawless
@@ -106,12 +107,12 @@ fitting_encoding : (e : Option Encoding) → any is_misfit (encoding_tree e) ≡
 fitting_encoding None = refl
 fitting_encoding (Some e) = let known = width_again e.index.bits in rw known refl
 
--- the entries of a map fit where it has them
-fitting_entries : (tag : Tag) (children : Fields) → lacks_entries tag children ≡ false → not (entries_fit (type_code (tag_code tag)) children) ≡ false
+-- the entries of a map fit if it has them
+fitting_entries : (tag : TypeId) (children : FieldTree) → lacks_entries tag children ≡ false → not (entries_fit (type_code (tag_code tag)) children) ≡ false
 fitting_entries (tags.map sorted) children mapped = mapped
 fitting_entries tag children mapped = refl
 
-fitting_field : (types : TypeSet) (head : Head) (ps : List KeyValue) (children : Fields) (n : Notes) → IsField head children → AreFields children → IsFlawless head.tag children → AreFlawless children
+fitting_field : (types : TypeSet) (head : FieldHeader) (ps : List KeyValue) (children : FieldTree) (n : Notes) → IsField head children → AreFields children → IsFlawless head.tag children → AreFlawless children
     → leaves_some_out types children ≡ false → is_misfit (kinds.Field types) (field_parts types head ps (field_trees types children n)) ≡ false
 fitting_field types head ps children n h below own flawless within =
     let code = type_code (tag_code head.tag) in
@@ -120,7 +121,7 @@ fitting_field types head ps children n h below own flawless within =
     let entries : not (entries_fit code (fields_from (field_trees types children n))) ≡ false = ap (λ fs. not (entries_fit code fs)) again ∙ fitting_entries head.tag children (own MapEntries) in
     or_from _ _ (ap not fits) entries
 
-all_fitting : (types : TypeSet) (fields : Fields) (n : Notes) → AreFields fields → AreFlawless fields → leaves_some_out types fields ≡ false → any_in is_misfit (field_trees types fields n) ≡ false
+all_fitting : (types : TypeSet) (fields : FieldTree) (n : Notes) → AreFields fields → AreFlawless fields → leaves_some_out types fields ≡ false → any_in is_misfit (field_trees types fields n) ≡ false
 all_fitting types columns.none n h flawless within = refl
 all_fitting types (columns.more head children rest) n h flawless within =
     let in_all = or_parts (leaves_out types head.tag || leaves_some_out types children) (leaves_some_out types rest) within in
@@ -170,11 +171,11 @@ sound_header types max n version (batch b) h within low small =
     let length = good_length max n low small in
     rw (read, length) refl
 
--- No fault holds of a message whose body keeps to the limit.
+-- A message whose body keeps to the limit has no fault.
 pub sound : (types : TypeSet) (max : ℕ) (m : PlainMessage) → IsHeader m.header → leaves_header_out types m.header ≡ false → m.body_len ≤ max → m.body_len < 2 ^ 63 → fault_of max (message_parts types m) ≡ None
 sound types max m h within low small = sound_header types max m.body_len m.version m.header h within low small
 
--- a condition that does not hold, where there is no fault
+-- a condition that does not hold, since there is no fault
 passed_by : (b : Bool) (fault : MetaFault) (rest : Option MetaFault) → (if b then Some fault else rest) ≡ None → (b ≡ false) × (rest ≡ None)
 passed_by true fault rest h = absurd (cc)
 passed_by false fault rest h = (refl, h)
@@ -194,6 +195,6 @@ within_header types max n version (schema s) h =
 within_header types max n version (dictionary id delta b) h = refl
 within_header types max n version (batch b) h = refl
 
--- Where no fault holds of a message, the set leaves none of its types out.
+-- If a message has no fault, the set leaves none of its types out.
 pub within_types : (types : TypeSet) (max : ℕ) (m : PlainMessage) → fault_of max (message_parts types m) ≡ None → leaves_header_out types m.header ≡ false
 within_types types max m h = within_header types max m.body_len m.version m.header h

@@ -1,9 +1,9 @@
--- A field of the program, part by part, and fields one by one.
+-- A field of the program, piece by piece, and fields one by one.
 use Rattle.std.proofs.Common.{◌≡◌, List, length, string_bytes, ◌∙◌, rules, arith}
 use Rattle.arrow_flatbuf.specs.Nodes.{count_nodes}
 use Rattle.arrow_types.proofs.Fields.{width-fields_view}
 use Rattle.arrow_types.specs.Field as columns
-use Rattle.arrow_types.specs.Field.{Head, Fields, width}
+use Rattle.arrow_types.specs.Field.{FieldHeader, FieldTree, width}
 use Rattle.arrow_types.specs.Notes.{Notes, pairs_view}
 use Rattle.arrow_types.specs.View.{field_notes, field_view, fields_view, notes_view, type_view}
 use Rattle.arrow_types.specs.declared.field.Field.{Field, the_lemmas}
@@ -28,7 +28,7 @@ pub field_pairs : (f : Field) → pairs_view f.metadata.items ≡ (field_notes f
 field_pairs f = search (rules, the_lemmas)
 
 -- a vector of fields has as many tables as there are fields
-count_fields : (fs : Fields) (n : Notes) → count_nodes (field_nodes fs n) ≡ width fs
+count_fields : (fs : FieldTree) (n : Notes) → count_nodes (field_nodes fs n) ≡ width fs
 count_fields columns.none n = omega arith
 count_fields (columns.more head children rest) n = omega (arith, count_fields rest (first_rest n))
 

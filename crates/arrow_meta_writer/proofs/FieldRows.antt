@@ -1,4 +1,4 @@
--- The tables of a vector of fields, appended one by one, and the offsets to them before.
+-- The tables of a vector of fields, appended one by one, after the offsets to them.
 use Rattle.std.proofs.Common.{◌≡◌, ℕ, suc, ◌+◌, ◌≤◌, ◌<◌, List, ◌++◌, length}
 use Rattle.std.proofs.Common.{drop, get_or, sym, ap, subst, ◌∙◌, arith}
 use Rattle.std.proofs.lemmas.List.{append-nil, drop_all}
@@ -23,7 +23,7 @@ use Rattle.arrow_meta_writer.proofs.WithEncoding.{last_count}
 abbrev pub nodes_of : List Field → Nodes
 nodes_of fs = field_nodes (fields_view fs) (notes_view fs)
 
--- the tables of the fields from one on
+-- the tables of the fields from an index on
 abbrev pub nodes_from : List Field → ℕ → Nodes
 nodes_from fs i = nodes_of (drop i fs)
 
@@ -69,6 +69,6 @@ fields_typed fs i f h is here below later = record {
 pub none_typed : (fs : List Field) (i : ℕ) → length fs ≤ i → AreNotedFields (fields_view (drop i fs)) (notes_view (drop i fs))
 none_typed fs i h = subst (λ gs. AreNotedFields (fields_view gs) (notes_view gs)) (sym (drop_all i fs h)) (record { fields_are = tt; notes_are = tt })
 
--- how many fields a field's table has
+-- the number of fields of a field's table
 pub field_count : (f : FieldShape) (n : FieldNotes) → count (head_cells f n) ≡ suc (suc (suc (suc (suc (suc (count (metadata_cells n.pairs)))))))
 field_count f n = ap (λ (k : ℕ). suc (suc (suc (suc k)))) (last_count f.head.encoding (children_cells f n))

@@ -1,15 +1,15 @@
--- What a message is laid out as can be written.
+-- The layout of a message can be written.
 use Rattle.std.proofs.Common.{◌≡◌, ◌+◌, ◌^◌, ◌<◌, ◌≤◌, ℤ, pos, negsuc, List, [], ◌∷◌}
 use Rattle.std.proofs.Common.{map, Option, Some, None, ap, arith}
 use Rattle.std.specs.Int.{cast_signed, cast_unsigned, w64}
 use Rattle.std.proofs.lemmas.Int.{to_z-of_z}
 use mir.Val.{SFits}
-use Rattle.arrow_flatbuf.specs.Nodes.{Cells, NodeFits, NodesFit, CellsFit, PairsFit}
+use Rattle.arrow_flatbuf.specs.Nodes.{TableFields, NodeFits, NodesFit, CellsFit, PairsFit}
 use Rattle.arrow_flatbuf.specs.Nodes as laid
 use Rattle.arrow_types.specs.DataType as tags
-use Rattle.arrow_types.specs.DataType.{Tag, bits_of, time_width_of}
+use Rattle.arrow_types.specs.DataType.{TypeId, bits_of, time_width_of}
 use Rattle.arrow_types.specs.Field as columns
-use Rattle.arrow_types.specs.Field.{Head, Fields}
+use Rattle.arrow_types.specs.Field.{FieldHeader, FieldTree}
 use Rattle.arrow_types.specs.Notes.{KeyValue, Notes}
 use Rattle.arrow_types.specs.declared.field.Encoding.{Encoding}
 use Rattle.arrow_types.specs.declared.node.FieldNode.{FieldNode}
@@ -37,20 +37,20 @@ pub long_from : (z : ℤ) → SFits w64 z → IsLong z
 long_from (pos n) h = h.sfits
 long_from (negsuc n) h = h.sfits
 
--- what the bits of a number say, in bits again
+-- the bits of a number, converted to a number and to bits again
 pub bits_again : (z : ℤ) → SFits w64 z → cast_unsigned w64 (cast_signed w64 (cast_unsigned w64 z)) ≡ cast_unsigned w64 z
 bits_again z h = ap (cast_unsigned w64) (to_z-of_z w64 z h)
 
-pub code_fits : (tag : Tag) → tag_code tag < 256
+pub code_fits : (tag : TypeId) → tag_code tag < 256
 code_fits tags.null = omega arith
 code_fits tag = omega arith
 
-encoding_fits : (e : Option Encoding) (rest : Cells) → HasLongId e → CellsFit rest → CellsFit (with_encoding e rest)
+encoding_fits : (e : Option Encoding) (rest : TableFields) → HasLongId e → CellsFit rest → CellsFit (with_encoding e rest)
 encoding_fits None rest h later = later
 encoding_fits (Some e) rest h later =
     ((omega arith, (omega (arith, long_fits e.id h), (int_fits e.index.bits e.index.signed, (flag_fits e.ordered, (omega arith, tt))))), later)
 
-with_encoding_count : (e : Option Encoding) (rest : Cells) → laid.count (with_encoding e rest) ≡ laid.count rest + 1
+with_encoding_count : (e : Option Encoding) (rest : TableFields) → laid.count (with_encoding e rest) ≡ laid.count rest + 1
 with_encoding_count None rest = omega arith
 with_encoding_count (Some e) rest = omega arith
 
@@ -67,13 +67,13 @@ pub metadata_count : (ps : List KeyValue) → laid.count (metadata_cells ps) ≤
 metadata_count [] = omega arith
 metadata_count (p ∷ ps) = omega arith
 
-fields_fit : (fields : Fields) (n : Notes) → AreFields fields → AreFlawless fields → NodesFit (field_nodes fields n)
+fields_fit : (fields : FieldTree) (n : Notes) → AreFields fields → AreFlawless fields → NodesFit (field_nodes fields n)
 fields_fit columns.none n h flawless = tt
 fields_fit (columns.more head children rest) n h flawless =
     let own = first_flawless head children rest flawless in
     let below = below_flawless head children rest flawless in
     let later = rest_flawless head children rest flawless in
-    let last : Cells = laid.offset (laid.tables (field_nodes children (first_below n))) (metadata_cells (first_pairs n)) in (
+    let last : TableFields = laid.offset (laid.tables (field_nodes children (first_below n))) (metadata_cells (first_pairs n)) in (
       (
         omega (arith, with_encoding_count head.encoding last, metadata_count (first_pairs n)),
         (
@@ -119,7 +119,7 @@ pub version_fits : (version : MetadataVersion) → number_of_version version < 6
 version_fits versions.V4 = omega arith
 version_fits versions.V5 = omega arith
 
--- A message can be written, where its body's length is one of 64 bits.
+-- A message can be written if the length of its body fits into 64 bits.
 pub message_fits : (m : PlainMessage) → IsHeader m.header → m.body_len < 2 ^ 64 → NodeFits (message_node m)
 message_fits m h small =
     (omega arith, (version_fits m.version, (header_code_fits m.header, (header_fits m.header h, (small, tt)))))

@@ -1,9 +1,9 @@
-pub mod Standing
+pub mod Placed
 pub mod TypeTrees
 pub mod Flawless
 pub mod Decimals
 pub mod TypeRows
-pub mod StandingMessages
+pub mod PlacedMessages
 pub mod Again
 pub mod Faultless
 pub mod Bounds

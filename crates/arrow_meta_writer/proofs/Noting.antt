@@ -1,10 +1,10 @@
--- Pairs of metadata, appended one by one, and the offsets to them before.
+-- Pairs of metadata, appended one by one, after the offsets to them.
 use Rattle.std.proofs.Common.{◌≡◌, ◌+◌, ◌≤◌, ◌<◌, ℕ, zero, suc, List, [], ◌∷◌, ◌++◌, length, drop, take}
 use Rattle.std.proofs.Common.{get_or, refl, sym, ap, subst, ◌∙◌, arith}
 use Rattle.std.proofs.lemmas.List.{append-nil, drop_all}
 use Rattle.std.specs.declared.alloc.Global.{Global}
 use Rattle.std.specs.Prelude.{Vec}
-use Rattle.arrow_flatbuf.specs.declared.layout.Slot.TheVariants.{Target}
+use Rattle.arrow_flatbuf.specs.declared.layout.FieldValue.TheVariants.{Target}
 use Rattle.arrow_flatbuf.specs.Layout.{up}
 use Rattle.arrow_flatbuf.specs.Nodes.{Node, Nodes, none, more, after, laid, tables, table, count, slots}
 use Rattle.arrow_flatbuf.specs.Nodes.{after_cells, count_nodes, OwnFit}
@@ -21,7 +21,7 @@ Held = Vec ℕ Global × Vec ℕ Global
 abbrev pub pair_nodes_of : List Held → Nodes
 pair_nodes_of ps = pair_nodes (pairs_view ps)
 
--- those of the pairs from one on
+-- the tables of the pairs from an index on
 abbrev pub pairs_left : List Held → ℕ → Nodes
 pairs_left ps i = pair_nodes_of (drop i ps)
 
@@ -39,7 +39,7 @@ pairs_more (x ∷ ps) (suc i) p h is =
 pub pairs_none : (ps : List Held) (i : ℕ) → length ps ≤ i → pairs_left ps i ≡ none
 pairs_none ps i h = ap pair_nodes_of (drop_all i ps h)
 
--- there are as many as pairs
+-- there are as many tables as pairs
 pub count_pairs : (ps : List Held) → count_nodes (pair_nodes_of ps) ≡ length ps
 count_pairs [] = refl
 count_pairs (p ∷ ps) = omega (arith, count_pairs ps)
@@ -64,11 +64,11 @@ pub metadata_fit : (ps : List KeyValue) → OwnFit (metadata_cells ps)
 metadata_fit [] = tt
 metadata_fit (p ∷ ps) = tt
 
--- the field of a table that names metadata laid out from q on, where there are any
+-- the field of a table that names metadata laid out from q on, if there are any
 pub metadata_slots : (q : ℕ) (ps : List KeyValue) → take (count (metadata_cells ps)) (Target (up 4 q) ∷ []) ≡ slots q (metadata_cells ps)
 metadata_slots q [] = refl
 metadata_slots q (p ∷ ps) = refl
 
--- metadata laid out from a place on end at it or behind it
+-- metadata that are laid out from a position end there or after it
 pub metadata_grows : (q : ℕ) (ps : List KeyValue) → q ≤ after_cells q (metadata_cells ps)
 metadata_grows q ps = ahead_cells q (metadata_cells ps)

@@ -17,7 +17,7 @@ not_written : (version : MetadataVersion) → (version ≡ versions.V5 → ⊥) 
 not_written versions.V4 h = refl
 not_written versions.V5 h = absurd (h refl)
 
--- another version has none
+-- a message of another version has no size
 pub other_version : (m : PlainMessage) → (m.version ≡ versions.V5 → ⊥) → None ≡ size_of m
 other_version m h = let version = not_written m.version h in rw version refl
 
@@ -26,14 +26,14 @@ pub written_version : (version : MetadataVersion) → is_written version ≡ tru
 written_version versions.V4 h = absurd (true≢false (sym h))
 written_version versions.V5 h = refl
 
--- nor has a body that is too long
+-- neither has a message with a body that is too long
 pub no_body : (m : PlainMessage) → m.version ≡ versions.V5 → 2 ^ 40 < m.body_len → None ≡ size_of m
 no_body m v h =
     let version = ap is_written v in
     let body : nat_le m.body_len (2 ^ 40) ≡ false = lt-leb m.body_len (2 ^ 40) h in
     rw (version, body) refl
 
--- where the place behind the message is below the cap
+-- if the position after the message is below the cap
 pub some_size : (m : PlainMessage) (n : ℕ) → m.version ≡ versions.V5 → m.body_len ≤ 2 ^ 40 → n ≡ up 8 (capped (after 4 (message_node m))) → n ≤ 2 ^ 30 → Some n ≡ size_of m
 some_size m n v h e low =
     let x = after 4 (message_node m) in
@@ -44,7 +44,7 @@ some_size m n v h e low =
     let size : nat_le (metadata_size m) (2 ^ 30) ≡ true = le-leb (metadata_size m) (2 ^ 30) (omega (arith, exact, low)) in
     rw (version, body, size) (ap Some exact)
 
--- and where it is not
+-- and if it is not
 pub no_size : (m : PlainMessage) (n : ℕ) → m.version ≡ versions.V5 → m.body_len ≤ 2 ^ 40 → n ≡ up 8 (capped (after 4 (message_node m))) → 2 ^ 30 < n → None ≡ size_of m
 no_size m n v h e high =
     let x = after 4 (message_node m) in
@@ -54,7 +54,7 @@ no_size m n v h e high =
     let size : nat_le (metadata_size m) (2 ^ 30) ≡ false = lt-leb (metadata_size m) (2 ^ 30) large in
     rw (version, body, size) refl
 
--- what has a size has some size
+-- a message that has a size has some size
 pub some_from : (o : Option ℕ) → IsSome o → (n : ℕ) × (o ≡ Some n)
 some_from None h = absurd (cc)
 some_from (Some n) h = (n, λ i. Some n)

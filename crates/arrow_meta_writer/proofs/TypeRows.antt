@@ -1,4 +1,4 @@
--- Of each type, that what is written of its table can be written, is no misfit, and says the type again: a row each, by the
+-- The written table of each type can be written, is not a misfit, and decodes to the type again: one row each, by the
 -- numbers of its widths and units.
 use Rattle.std.proofs.Common.{◌≡◌, ◌<◌, pos, Bool, true, false, not, ◌||◌, ◌==◌, if◌then◌else◌, Some, None, refl, ap, arith}
 use Rattle.std.specs.Option.{is_none, unwrap_or}
@@ -6,8 +6,8 @@ use Rattle.std.proofs.lemmas.Bool.{ltb-false, not-false}
 use Rattle.arrow_flatbuf.specs.Nodes.{NodeFits}
 use Rattle.arrow_flatbuf.specs.Nodes as laid
 use Rattle.arrow_types.specs.DataType as tags
-use Rattle.arrow_types.specs.DataType.{Tag, bits_of, is_decimal, time_width_of}
-use Rattle.arrow_types.specs.Field.{Fields}
+use Rattle.arrow_types.specs.DataType.{TypeId, bits_of, is_decimal, time_width_of}
+use Rattle.arrow_types.specs.Field.{FieldTree}
 use Rattle.arrow_types.specs.declared.data_type.BitWidth.{BitWidth}
 use Rattle.arrow_types.specs.declared.data_type.BitWidth.TheVariants as widths
 use Rattle.arrow_types.specs.declared.data_type.DateUnit.{DateUnit}
@@ -32,7 +32,7 @@ use Rattle.arrow_meta_writer.specs.Written.{type_tree}
 use Rattle.arrow_meta_writer.proofs.Decimals.{decimal_again, decimal_bits_fit, precision_fits as digits_fit, scale_fits}
 use Rattle.arrow_meta_writer.proofs.Flawless.{IsFlawless}
 
--- The number of a width or a unit is read as the same again.
+-- The number of a width or a unit is read as the same width or unit.
 
 pub flag_again : (b : Bool) → not (flag b == 0) ≡ b
 flag_again true = refl
@@ -71,7 +71,7 @@ width_of_time times.Millisecond = refl
 width_of_time times.Microsecond = refl
 width_of_time times.Nanosecond = refl
 
--- A byte holds it.
+-- A byte holds this number.
 
 pub flag_fits : (b : Bool) → flag b < 256
 flag_fits true = omega arith
@@ -103,8 +103,8 @@ interval_fits intervals.YearMonth = omega arith
 interval_fits intervals.DayTime = omega arith
 interval_fits intervals.MonthDayNano = omega arith
 
--- a type's table says the type again
-pub tag_of_all : (tag : Tag) (children : Fields) → IsFlawless tag children → tag_by (type_code (tag_code tag)) (parts (type_tree All tag)) ≡ tag
+-- a type's table decodes to the type
+pub tag_of_all : (tag : TypeId) (children : FieldTree) → IsFlawless tag children → tag_by (type_code (tag_code tag)) (parts (type_tree All tag)) ≡ tag
 tag_of_all (tags.int bits signed) children flawless = λ i. tags.int (unwrap_or (width_again bits i) widths.Eight) (flag_again signed i)
 tag_of_all (tags.floating_point precision) children flawless = ap (λ p. tags.floating_point (unwrap_or p precisions.Half)) (precision_again precision)
 tag_of_all (tags.decimal width precision scale) children flawless =
@@ -120,8 +120,8 @@ tag_of_all (tags.map sorted) children flawless = ap tags.map (flag_again sorted)
 tag_of_all (tags.interval unit) children flawless = ap (λ u. tags.interval (unwrap_or u intervals.YearMonth)) (interval_again unit)
 tag_of_all tag children flawless = refl
 
--- a type's table is no misfit
-pub fitting_all : (tag : Tag) (children : Fields) → IsFlawless tag children → any is_misfit (type_tree All tag) ≡ false
+-- a type's table is not a misfit
+pub fitting_all : (tag : TypeId) (children : FieldTree) → IsFlawless tag children → any is_misfit (type_tree All tag) ≡ false
 fitting_all (tags.int bits signed) children flawless = rw (width_again bits) refl
 fitting_all (tags.floating_point precision) children flawless = rw (precision_again precision) refl
 fitting_all (tags.decimal width precision scale) children flawless =
@@ -140,7 +140,7 @@ pub int_fits : (bits : BitWidth) (signed : Bool) → NodeFits (laid.table (int_c
 int_fits bits signed = (omega arith, (omega (arith, bits_fit bits), (flag_fits signed, tt)))
 
 -- a type's table can be written
-pub type_fits : (tag : Tag) (children : Fields) → HasTextZone tag → IsFlawless tag children → NodeFits (laid.table (type_cells tag))
+pub type_fits : (tag : TypeId) (children : FieldTree) → HasTextZone tag → IsFlawless tag children → NodeFits (laid.table (type_cells tag))
 type_fits (tags.int bits signed) children h flawless = int_fits bits signed
 type_fits (tags.floating_point precision) children h flawless = (omega arith, (omega (arith, precision_fits precision), tt))
 type_fits (tags.decimal width precision scale) children h flawless =

@@ -1,11 +1,11 @@
--- The tree that a message is written as: what a reader is to find.
+-- The tree that is written for a message: what a reader has to find.
 use Rattle.std.specs.Prelude.{ℕ, ℤ, Bool, List, [], ◌∷◌, map, Option, Some, None}
 use Rattle.std.specs.Int.{cast_unsigned, w64}
-use Rattle.arrow_flatbuf.specs.Nodes.{Node, Cells, last, absent as gap, scalar, offset}
+use Rattle.arrow_flatbuf.specs.Nodes.{Node, TableFields, last, absent as gap, scalar, offset}
 use Rattle.arrow_flatbuf.specs.Nodes as laid
-use Rattle.arrow_types.specs.DataType.{Tag, bits_of}
+use Rattle.arrow_types.specs.DataType.{TypeId, bits_of}
 use Rattle.arrow_types.specs.Field as columns
-use Rattle.arrow_types.specs.Field.{Head, Fields}
+use Rattle.arrow_types.specs.Field.{FieldHeader, FieldTree}
 use Rattle.arrow_types.specs.Notes.{KeyValue, Notes, SchemaShape}
 use Rattle.arrow_types.specs.declared.type_set.TypeSet.{TypeSet}
 use Rattle.arrow_types.specs.declared.data_type.BitWidth.{BitWidth}
@@ -30,29 +30,29 @@ of_number n = leaf (number n)
 abbrev pub int_parts : BitWidth → Bool → Trees
 int_parts bits signed = more (of_number (bits_of bits)) (more (of_number (flag signed)) none)
 
--- what an offset leads to, where a type's table has one: a text
+-- the content that an offset of a type's table leads to, if it has one: a text
 abbrev pub node_leaf : Node → Leaf
 node_leaf (laid.text s) = text s
 node_leaf node = absent
 
 -- The fields of these forms, as they are found in the cells of a table. Those after the last cell are absent.
-abbrev pub cell_trees : List FieldForm → Cells → Trees
+abbrev pub cell_trees : List FieldForm → TableFields → Trees
 cell_trees [] cells = none
 cell_trees (form ∷ rest) last = more (leaf absent) (cell_trees rest last)
 cell_trees (form ∷ rest) (gap cells) = more (leaf absent) (cell_trees rest cells)
 cell_trees (form ∷ rest) (scalar width n cells) = more (of_number n) (cell_trees rest cells)
 cell_trees (form ∷ rest) (offset node cells) = more (leaf (node_leaf node)) (cell_trees rest cells)
 
--- the table that is opened, where one is
-abbrev pub laid_tree : Option TableKind → Cells → Tree
+-- the table that is opened, if one is
+abbrev pub laid_tree : Option TableKind → TableFields → Tree
 laid_tree None cells = leaf absent
 laid_tree (Some kind) cells = table kind (cell_trees (forms_of kind) cells)
 
--- the table of a type, where a reader of this set of types opens it
-abbrev pub type_tree : TypeSet → Tag → Tree
+-- the table of a type, if a reader of this set of types opens it
+abbrev pub type_tree : TypeSet → TypeId → Tree
 type_tree types tag = laid_tree (type_table types (tag_code tag)) (type_cells tag)
 
--- a field's encoding, where it has one
+-- a field's encoding, if it has one
 abbrev pub encoding_tree : Option Encoding → Tree
 encoding_tree None = leaf absent
 encoding_tree (Some e) =
@@ -68,19 +68,19 @@ abbrev pub pair_trees : List KeyValue → Trees
 pair_trees [] = none
 pair_trees (p ∷ ps) = more (pair_tree p) (pair_trees ps)
 
--- the pairs of a table, absent where there are none
+-- the pairs of a table, absent if there are none
 abbrev pub metadata_tree : List KeyValue → Tree
 metadata_tree [] = leaf absent
 metadata_tree (p ∷ ps) = tables (pair_trees (p ∷ ps))
 
 -- the fields of a Field table with these pairs and children
-abbrev pub field_parts : TypeSet → Head → List KeyValue → Trees → Trees
+abbrev pub field_parts : TypeSet → FieldHeader → List KeyValue → Trees → Trees
 field_parts types h ps children =
     more (leaf (text h.name)) (more (of_number (flag h.nullable)) (more (of_number (tag_code h.tag)) (more (type_tree types h.tag)
     (more (encoding_tree h.encoding) (more (tables children) (more (metadata_tree ps) none))))))
 
--- the Field tables of fields side by side, at which this is noted
-abbrev pub field_trees : TypeSet → Fields → Notes → Trees
+-- the Field tables of sibling fields, with this custom metadata
+abbrev pub field_trees : TypeSet → FieldTree → Notes → Trees
 field_trees types columns.none n = none
 field_trees types (columns.more h children rest) n =
     more (table (kinds.Field types) (field_parts types h (first_pairs n) (field_trees types children (first_below n)))) (field_trees types rest (first_rest n))

@@ -1,8 +1,8 @@
 //! Dictionary batches and record batches as they are written (`Message.fbs`, tables
 //! `DictionaryBatch` and `RecordBatch`, structs `FieldNode` and `Buffer`).
 //!
-//! A number with a sign is written as its bits. The numbers of nodes and of buffers are pairs of
-//! eight bytes each, behind their count at a multiple of 8.
+//! A signed number is written as its bits. The numbers of nodes and of buffers are pairs of eight
+//! bytes each, which follow their count at a multiple of 8.
 ghost use Rattle.std.specs.Prelude.{◌≡◌, ◌≤◌, ◌+◌, ◌++◌, ◌∷◌, [], map, OnOk};
 ghost use Rattle.arrow_flatbuf.specs.Nodes.{after, cells_place, slots, pair_bytes, pairs as pairs_node, table as table_node};
 ghost use Rattle.arrow_meta_reader.specs.Means.{batch_view};
@@ -15,7 +15,7 @@ use crate::sizes::pairs_end;
 use crate::table_slots::{batch_table, dictionary_table};
 use crate::tables::{RECORD_BATCH_FIELDS, batch_table_end, dictionary_table_end};
 use crate::types::bit;
-use arrow_flatbuf::{Slot, TableWriter, Width, aligned, table_place};
+use arrow_flatbuf::{FieldValue, TableWriter, Width, aligned, table_place};
 use arrow_meta_reader::RecordBatch;
 use arrow_types::{Buffer, FieldNode};
 use std::alloc::AllocError;
@@ -58,8 +58,8 @@ pub(crate) fn write_batch(writer: &mut TableWriter, batch: &RecordBatch) -> Resu
     Ok(())
 }
 
-/// The fields of a record batch's table that is laid out from a place on.
-fn batch_slots(place: usize, batch: &RecordBatch) -> [Slot; RECORD_BATCH_FIELDS]
+/// The fields of a record batch's table that is laid out from `place` on.
+fn batch_slots(place: usize, batch: &RecordBatch) -> [FieldValue; RECORD_BATCH_FIELDS]
     requires room { after place (table_node (batch_cells (batch_view batch.now))) ≤ 1073741824 }
     ensures slots { let cells = batch_cells (batch_view batch.now)
         in result ≡ slots (cells_place place cells) cells }

@@ -10,22 +10,22 @@ ghost use Rattle.arrow_meta_writer.specs.Writable.{IsLong, HasLongId};
 use crate::table_slots::encoding_table;
 use crate::tables::{DICTIONARY_ENCODING_FIELDS, INT_FIELDS, encoding_table_end};
 use crate::types::{bit, write_int};
-use arrow_flatbuf::{Slot, TableWriter, table_place};
+use arrow_flatbuf::{FieldValue, TableWriter, table_place};
 use arrow_types::Encoding;
 use std::alloc::AllocError;
 
-/// The field of a field's table that names an encoding laid out from a place on.
-pub(crate) fn encoding_slot(place: usize, encoding: Option<Encoding>) -> Slot
+/// The field of a field's table that names an encoding laid out from `place` on.
+pub(crate) fn encoding_slot(place: usize, encoding: Option<Encoding>) -> FieldValue
     requires { place ≤ 1073741825 }
     ensures { result ≡ encoding_slot place encoding }
 {
     match encoding {
-        None => Slot::Absent,
-        Some(_) => Slot::Target(table_place(place, DICTIONARY_ENCODING_FIELDS)),
+        None => FieldValue::Absent,
+        Some(_) => FieldValue::Target(table_place(place, DICTIONARY_ENCODING_FIELDS)),
     }
 }
 
-/// Appends an encoding, where there is one.
+/// Appends an encoding, if there is one.
 pub(crate) fn write_encoding(
     writer: &mut TableWriter,
     encoding: Option<Encoding>,

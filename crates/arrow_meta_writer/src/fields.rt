@@ -1,7 +1,8 @@
 //! Schemas and fields as they are written (`Schema.fbs`, tables `Schema` and `Field`).
 //!
-//! A vector of fields is its count, an offset to the table of each, and then for each its table,
-//! its name, its type, its encoding, its children and its metadata, with all that belongs to them.
+//! A vector of fields is its count, an offset to the table of each field, and then for each field
+//! its table, its name, its type, its encoding, its children and its metadata, with all that
+//! belongs to them.
 ghost use Rattle.std.specs.Prelude.{◌≡◌, ◌≤◌, ◌+◌, ◌++◌, length, take, OnOk};
 ghost use Rattle.arrow_flatbuf.specs.Nodes.{after, cells_place, count, slots, laid, laid_all};
 ghost use Rattle.arrow_flatbuf.specs.Nodes.{tables, table as table_node};
@@ -18,7 +19,7 @@ use crate::sizes::{encoding_end, field_head_end, fields_end, offsets_end};
 use crate::table_slots::schema_table;
 use crate::tables::{FIELD_FIELDS, SCHEMA_FIELDS, field_table_end, schema_table_end, text_after};
 use crate::types::{bit, type_code, type_end, type_fields, write_type};
-use arrow_flatbuf::{Slot, TableWriter, Width, aligned, table_place};
+use arrow_flatbuf::{FieldValue, TableWriter, Width, aligned, table_place};
 use arrow_types::{Field, Schema};
 use std::alloc::AllocError;
 
@@ -37,9 +38,9 @@ pub(crate) fn write_schema(writer: &mut TableWriter, schema: &Schema) -> Result<
     Ok(())
 }
 
-/// The fields of a schema's table that is laid out from a place on, and one more where it has no
+/// The fields of a schema's table that is laid out from `place` on, and one more if it has no
 /// metadata.
-fn schema_slots(place: usize, schema: &Schema) -> [Slot; 3]
+fn schema_slots(place: usize, schema: &Schema) -> [FieldValue; 3]
     requires room { after place (table_node (schema_cells schema.now)) ≤ 1073741824 }
     ensures slots { let cells = schema_cells schema.now
         in take (count cells) result ≡ slots (cells_place place cells) cells }
@@ -86,7 +87,7 @@ fn write_offsets(writer: &mut TableWriter, fields: &[Field]) -> Result<(), Alloc
     Ok(())
 }
 
-/// How many fields a field's table has.
+/// The number of fields of a field's table.
 fn field_fields(field: &Field) -> usize
     ensures count { result ≡ count (head_cells (field_view field.now) (field_notes field.now)) }
     ensures few { result ≤ 7 }
@@ -112,9 +113,9 @@ fn write_field_head(writer: &mut TableWriter, field: &Field) -> Result<(), Alloc
     Ok(())
 }
 
-/// The fields of a field's table that is laid out from a place on, and one more where it has no
+/// The fields of a field's table that is laid out from `place` on, and one more if it has no
 /// metadata.
-fn field_slots(place: usize, field: &Field) -> [Slot; 7]
+fn field_slots(place: usize, field: &Field) -> [FieldValue; 7]
     requires room { after place (field_node (field_view field.now) (field_notes field.now))
         ≤ 1073741824 }
     ensures slots { let cells = head_cells (field_view field.now) (field_notes field.now)
@@ -131,12 +132,12 @@ fn field_slots(place: usize, field: &Field) -> [Slot; 7]
     let children = encoding_end(data_type, field.dictionary);
     let metadata = fields_end(children, field.children());
     [
-        Slot::Target(aligned(table, Width::Four)),
-        Slot::Scalar(Width::One, bit(field.nullable)),
-        Slot::Scalar(Width::One, type_code(&field.data_type)),
-        Slot::Target(table_place(name, type_fields(&field.data_type))),
+        FieldValue::Target(aligned(table, Width::Four)),
+        FieldValue::Scalar(Width::One, bit(field.nullable)),
+        FieldValue::Scalar(Width::One, type_code(&field.data_type)),
+        FieldValue::Target(table_place(name, type_fields(&field.data_type))),
         encoding_slot(data_type, field.dictionary),
-        Slot::Target(aligned(children, Width::Four)),
-        Slot::Target(aligned(metadata, Width::Four)),
+        FieldValue::Target(aligned(children, Width::Four)),
+        FieldValue::Target(aligned(metadata, Width::Four)),
     ]
 }

@@ -1,32 +1,32 @@
 //! The metadata of Arrow messages, written: from a schema, a dictionary batch or a record batch to
-//! the bytes that mean it, to the byte count.
+//! the bytes that mean it, exact to the byte count.
 //!
-//! The layer takes a [`Message`] of `arrow_meta_reader` and gives the bytes of its metadata. It
-//! stands on `arrow_flatbuf` for what is laid out where, and on the definitions of
-//! `arrow_meta_reader` for what the bytes mean.
+//! The crate takes a [`Message`] of `arrow_meta_reader` and returns the bytes of its metadata. It
+//! builds on `arrow_flatbuf` for the layout, and on the definitions of `arrow_meta_reader` for the
+//! meaning of the bytes.
 //!
-//! - [`encoded_size`] says how many bytes they are, without memory, or that the message is one that
-//!   is not sent.
-//! - [`encode`] answers them, in one piece of memory of just that size.
+//! - [`encoded_size`] returns the number of bytes, without allocating, or None for a message that
+//!   cannot be sent.
+//! - [`encode`] returns the bytes, in a single allocation of exactly that size.
 //!
 //! | Notion | Definition |
 //! |---|---|
 //! | the tables of a message, as written | `specs/Layouts.antt`: `message_node` |
-//! | the tree that they lie as | `specs/Written.antt`: `message_tree` |
+//! | the tree that they form | `specs/Written.antt`: `message_tree` |
 //! | the bytes, and their number | `specs/Metadata.antt`: `metadata`, `size_of` |
 //! | aligned, a 0 byte after each text | `specs/Aligned.antt`: `LiesAligned` |
 //! | what a message is by its types, its limits | `specs/Writable.antt`: `IsHeader`, `Allows` |
-//! | what a reader answers of the bytes | `specs/Again.antt`: `IsAgain` |
+//! | the result of a reader of the bytes | `specs/Again.antt`: `IsAgain` |
 //!
-//! The first two are functions of the message side by side: one is what is written, in the words of
-//! `arrow_flatbuf`, the other what a reader finds, in those of `arrow_meta_reader`. That the one
-//! stands as the other is a theorem, so neither is trusted to fit. The laws of [`laws`] say it of
-//! the bytes alone, with any bytes behind them: so more zero bytes may be appended for a larger
+//! The first two are separate functions of the message: one is what is written, in the terms of
+//! `arrow_flatbuf`, the other is what a reader finds, in the terms of `arrow_meta_reader`. That the
+//! two match is a theorem, so neither is trusted to fit. The laws of [`laws`] state it for the
+//! bytes alone, with any bytes after them: so more zero bytes may be appended for a larger
 //! alignment.
 //!
-//! Of the proofs, `Standing` and `StandingMessages` show that what is laid out stands as the
-//! message's tree, `Again` that the tree says the message, `Faultless` and `Bounds` that no fault
-//! holds of it; `WrittenMeans` joins them.
+//! In the proofs, `Snapshot` and `SnapshotMessages` show that the layout matches the message's
+//! tree, `Again` that decoding the tree gives the message back, `Faultless` and `Bounds` that it
+//! passes every check; `WrittenMeans` joins them.
 #![tactic(auto)]
 
 mod batches;

@@ -1,7 +1,7 @@
 //! Custom metadata as they are written (`Schema.fbs`, table `KeyValue`).
 //!
-//! A table has the field where there are pairs, as its last one. A vector of pairs is its count, an
-//! offset to the table of each, and then for each its table, its key and its value.
+//! A table has the field if there are pairs, as its last one. A vector of pairs is its count, an
+//! offset to the table of each pair, and then for each pair its table, its key and its value.
 ghost use Rattle.std.specs.Prelude.{◌≡◌, ◌≤◌, ◌+◌, ◌++◌, length, OnOk};
 ghost use Rattle.arrow_flatbuf.specs.Layout.{up};
 ghost use Rattle.arrow_flatbuf.specs.Nodes.{after, after_cells, count, laid, laid_all, laid_cells};
@@ -14,10 +14,10 @@ ghost use Rattle.arrow_types.specs.Notes.{pair_view, pairs_view};
 use crate::sizes::offsets_end;
 use crate::table_slots::pair_table;
 use crate::tables::{KEY_VALUE_FIELDS, bytes_after, pair_table_end};
-use arrow_flatbuf::{Slot, TableWriter, Width, aligned, table_place};
+use arrow_flatbuf::{FieldValue, TableWriter, Width, aligned, table_place};
 use std::alloc::AllocError;
 
-/// How many fields a table has for its metadata: 1, or 0 where there are no pairs.
+/// The number of fields of a table for its metadata: 1, or 0 if there are no pairs.
 pub(crate) fn metadata_fields(pairs: &[(Vec<u8>, Vec<u8>)]) -> usize
     ensures count { result ≡ count (metadata_cells (pairs_view pairs.now)) }
     ensures few { result ≤ 1 }
@@ -25,7 +25,7 @@ pub(crate) fn metadata_fields(pairs: &[(Vec<u8>, Vec<u8>)]) -> usize
     if pairs.is_empty() { 0 } else { 1 }
 }
 
-/// The first place after the metadata of a table, where there are any.
+/// The first position after the metadata of a table, if there are any.
 pub(crate) fn metadata_end(place: usize, pairs: &[(Vec<u8>, Vec<u8>)]) -> usize
     requires { place ≤ 1073741825 }
     ensures end { result ≡ capped (after_cells place (metadata_cells (pairs_view pairs.now))) }
@@ -37,7 +37,7 @@ pub(crate) fn metadata_end(place: usize, pairs: &[(Vec<u8>, Vec<u8>)]) -> usize
     pairs_end(place, pairs)
 }
 
-/// The first place after a vector of pairs and all that belongs to them.
+/// The first position after a vector of pairs and all that belongs to them.
 fn pairs_end(place: usize, pairs: &[(Vec<u8>, Vec<u8>)]) -> usize
     requires { place ≤ 1073741825 }
     ensures end { result ≡ capped (after place (tables (pair_nodes (pairs_view pairs.now)))) }
@@ -50,7 +50,7 @@ fn pairs_end(place: usize, pairs: &[(Vec<u8>, Vec<u8>)]) -> usize
     end
 }
 
-/// The first place after the table of a pair, its key and its value.
+/// The first position after the table of a pair, its key and its value.
 fn pair_end(place: usize, pair: &(Vec<u8>, Vec<u8>)) -> usize
     requires { place ≤ 1073741825 }
     ensures end { result ≡ capped (after place (table_node (pair_cells (pair_view pair.now)))) }
@@ -60,7 +60,7 @@ fn pair_end(place: usize, pair: &(Vec<u8>, Vec<u8>)) -> usize
     bytes_after(key, &pair.1)
 }
 
-/// Appends the metadata of a table, where there are any.
+/// Appends the metadata of a table, if there are any.
 pub(crate) fn write_metadata(
     writer: &mut TableWriter,
     pairs: &[(Vec<u8>, Vec<u8>)],
@@ -121,8 +121,8 @@ fn write_pair(writer: &mut TableWriter, pair: &(Vec<u8>, Vec<u8>)) -> Result<(),
     Ok(())
 }
 
-/// The fields of the table of a pair that is laid out from a place on.
-fn pair_slots(place: usize, pair: &(Vec<u8>, Vec<u8>)) -> [Slot; KEY_VALUE_FIELDS]
+/// The fields of the table of a pair that is laid out from `place` on.
+fn pair_slots(place: usize, pair: &(Vec<u8>, Vec<u8>)) -> [FieldValue; KEY_VALUE_FIELDS]
     requires room { after place (table_node (pair_cells (pair_view pair.now))) ≤ 1073741824 }
     ensures slots { let cells = pair_cells (pair_view pair.now)
         in result ≡ slots (cells_place place cells) cells }

@@ -1,9 +1,9 @@
-//! How many bytes metadata take, without memory: where its parts end.
+//! The number of bytes of metadata, without allocating: the position where each of its pieces ends.
 //!
-//! Each call takes the place from which a part is laid out, in bytes from the metadata's first, and
-//! answers the first place after it and all that belongs to it (`specs/Layouts.antt`). Places over
-//! the greatest size of metadata all count as one more than that, so no sum wraps, however long
-//! names are, and no call answers an error.
+//! Each function takes the position from which a piece is laid out, in bytes from the first byte of
+//! the metadata, and returns the first position after the piece and all that belongs to it
+//! (`specs/Layouts.antt`). Positions over the greatest size of metadata are all counted as that
+//! size plus one, so no sum wraps, however long names are, and no function returns an error.
 ghost use Rattle.std.specs.Prelude.{◌≡◌, ◌≤◌, ◌+◌, ◌*◌};
 ghost use Rattle.arrow_flatbuf.specs.Layout.{gap, up};
 ghost use Rattle.arrow_flatbuf.specs.Nodes.{Nodes, after, after_cells, offset, table, tables, count};
@@ -25,11 +25,10 @@ use arrow_flatbuf::{Width, aligned};
 use arrow_meta_reader::{Header, Message, MetadataVersion, RecordBatch};
 use arrow_types::{Encoding, Field, Limits, Schema};
 
-/// The number of bytes that [`crate::encode`] answers for a message: a multiple of 8. Takes no
-/// memory.
+/// The number of bytes that [`crate::encode`] returns for a message: a multiple of 8. Does not
+/// allocate.
 ///
-/// None where they are more than 2^30, where the version is not V5, or where the body has more than
-/// 2^40 bytes.
+/// None if it is more than 2^30, if the version is not V5, or if the body has more than 2^40 bytes.
 pub fn encoded_size(message: &Message) -> Option<u64>
     ensures size { result ≡ size_of (message_view message.now) }
 {
@@ -47,14 +46,14 @@ pub fn encoded_size(message: &Message) -> Option<u64>
     }
 }
 
-/// The first place after a message.
+/// The first position after a message.
 fn message_end(message: &Message) -> usize
     ensures end { result ≡ capped (after 4 (message_node (message_view message.now))) }
 {
     header_end(message_table_end(START), &message.header)
 }
 
-/// The first place after the header's table and all that belongs to it.
+/// The first position after the header's table and all that belongs to it.
 fn header_end(place: usize, header: &Header) -> usize
     requires { place ≤ 1073741825 }
     ensures end { result ≡ capped (after place (table (header_cells (header_view header.now)))) }
@@ -67,7 +66,7 @@ fn header_end(place: usize, header: &Header) -> usize
     }
 }
 
-/// The first place after a schema's table, its fields and its metadata.
+/// The first position after a schema's table, its fields and its metadata.
 fn schema_end(place: usize, schema: &Schema) -> usize
     requires { place ≤ 1073741825 }
     ensures end { result ≡ capped (after place (table (schema_cells schema.now))) }
@@ -78,7 +77,7 @@ fn schema_end(place: usize, schema: &Schema) -> usize
     metadata_end(fields_end(table, schema.fields()), pairs)
 }
 
-/// The first place after a record batch's table and its vectors.
+/// The first position after a record batch's table and its vectors.
 fn batch_end(place: usize, batch: &RecordBatch) -> usize
     requires { place ≤ 1073741825 }
     ensures end { result ≡ capped (after place (table (batch_cells (batch_view batch.now)))) }
@@ -88,7 +87,7 @@ fn batch_end(place: usize, batch: &RecordBatch) -> usize
     pairs_end(nodes, batch.buffers.as_slice().len())
 }
 
-/// The first place after a vector of so many pairs.
+/// The first position after a vector of `count` pairs.
 pub(crate) fn pairs_end(place: usize, count: usize) -> usize
     requires { place ≤ 1073741825 }
     ensures end { result ≡ capped (place + gap 8 (place + 4) + 4 + 16 * count) }
@@ -97,7 +96,7 @@ pub(crate) fn pairs_end(place: usize, count: usize) -> usize
     capped(aligned(place + 4, Width::Eight) + 16 * count.min(TOP))
 }
 
-/// The first place after a vector of fields and all that belongs to them.
+/// The first position after a vector of fields and all that belongs to them.
 #[cycle(sizes)]
 pub(crate) fn fields_end(place: usize, fields: &[Field]) -> usize
     requires { place ≤ 1073741825 }
@@ -114,7 +113,7 @@ pub(crate) fn fields_end(place: usize, fields: &[Field]) -> usize
     end
 }
 
-/// The first place after the offsets of a vector of so many tables.
+/// The first position after the offsets of a vector of `count` tables.
 pub(crate) fn offsets_end(place: usize, count: usize) -> usize
     requires { place ≤ 1073741825 }
     ensures end { result ≡ capped (up 4 place + 4 + 4 * count) }
@@ -123,8 +122,8 @@ pub(crate) fn offsets_end(place: usize, count: usize) -> usize
     capped(aligned(place, Width::Four) + 4 + 4 * count.min(TOP))
 }
 
-/// The first place after a field's table, its name, its type and its encoding: where its children
-/// are laid out from.
+/// The first position after a field's table, its name, its type and its encoding: its children are
+/// laid out from there.
 pub(crate) fn field_head_end(place: usize, field: &Field) -> usize
     requires { place ≤ 1073741825 }
     ensures end { (children : Nodes) → let pairs = (field_notes field.now).pairs in
@@ -143,7 +142,7 @@ pub(crate) fn field_head_end(place: usize, field: &Field) -> usize
     encoding_end(type_end(name, &field.data_type), field.dictionary)
 }
 
-/// The first place after the tables of an encoding, where there is one.
+/// The first position after the tables of an encoding, if there is one.
 pub(crate) fn encoding_end(place: usize, encoding: Option<Encoding>) -> usize
     requires { place ≤ 1073741825 }
     ensures end { result ≡ capped (after_encoding place encoding) }

@@ -1,7 +1,9 @@
-//! Where the tables of a message end, without what belongs to them (`Message.fbs`, `Schema.fbs`).
+//! The positions where the tables of a message end, without what belongs to them (`Message.fbs`,
+//! `Schema.fbs`).
 //!
-//! Places are those of `sizes`: in bytes, over the greatest size all as one. Each list here has the
-//! widths of a table's fields by number; the numbers and the places in them do not matter.
+//! Positions are those of `sizes`: in bytes, with all above the greatest size counted as the same.
+//! Each list here has the widths of a table's fields by number; the numbers and the positions in
+//! them do not matter.
 ghost use Rattle.std.specs.Prelude.{◌≡◌, ◌≤◌, ℤ, Bool, List, length, is_some};
 ghost use Rattle.arrow_flatbuf.specs.Layout.{table_end};
 ghost use Rattle.arrow_flatbuf.specs.Nodes.{Nodes, after, cells_place, text as text_node, byte_string};
@@ -11,46 +13,46 @@ ghost use Rattle.arrow_meta_writer.specs.Layouts.{encoding_cells, field_cells};
 ghost use Rattle.arrow_meta_writer.specs.Layouts.{schema_cells, batch_cells, dictionary_cells};
 ghost use Rattle.arrow_meta_writer.specs.Layouts.{message_cells, metadata_cells, pair_cells};
 ghost use Rattle.arrow_flatbuf.specs.Nodes.{count};
-ghost use Rattle.arrow_types.specs.Field.{Head};
+ghost use Rattle.arrow_types.specs.Field.{FieldHeader};
 ghost use Rattle.arrow_types.specs.Notes.{KeyValue, SchemaShape};
 ghost use Rattle.arrow_types.specs.declared.field.Encoding.{Encoding};
 
 use crate::table_slots::{
     batch_table, dictionary_table, encoding_table, message_table, pair_table, schema_table,
 };
-use arrow_flatbuf::{Slot, Width, bytes_end, table_end, text_end};
+use arrow_flatbuf::{FieldValue, Width, bytes_end, table_end, text_end};
 
 /// One more than the greatest number of bytes that metadata have.
 pub(crate) const TOP: usize = 1_073_741_825;
 
-/// The first place after the offset to the root's table, from which a message is laid out.
+/// The first position after the offset to the root's table, from which a message is laid out.
 pub(crate) const START: usize = 4;
 
-/// How many fields a Message table has.
+/// The number of fields of a Message table.
 pub(crate) const MESSAGE_FIELDS: usize = 4;
 
-/// How many fields a Schema table has before its metadata.
+/// The number of fields of a Schema table before its metadata.
 pub(crate) const SCHEMA_FIELDS: usize = 2;
 
-/// How many fields a Field table has before its metadata.
+/// The number of fields of a Field table before its metadata.
 pub(crate) const FIELD_FIELDS: usize = 6;
 
-/// How many fields a KeyValue table has.
+/// The number of fields of a KeyValue table.
 pub(crate) const KEY_VALUE_FIELDS: usize = 2;
 
-/// How many fields a DictionaryEncoding table has.
+/// The number of fields of a DictionaryEncoding table.
 pub(crate) const DICTIONARY_ENCODING_FIELDS: usize = 4;
 
-/// How many fields an Int table has.
+/// The number of fields of an Int table.
 pub(crate) const INT_FIELDS: usize = 2;
 
-/// How many fields a RecordBatch table has: it is not compressed.
+/// The number of fields of a RecordBatch table: it is not compressed.
 pub(crate) const RECORD_BATCH_FIELDS: usize = 3;
 
-/// How many fields a DictionaryBatch table has.
+/// The number of fields of a DictionaryBatch table.
 pub(crate) const DICTIONARY_BATCH_FIELDS: usize = 3;
 
-/// The first place after a message's table.
+/// The first position after a message's table.
 pub(crate) fn message_table_end(place: usize) -> usize
     requires { place ≤ 1073741825 }
     ensures end { (m : PlainMessage) → result ≡ capped (cells_place place (message_cells m)) }
@@ -59,7 +61,8 @@ pub(crate) fn message_table_end(place: usize) -> usize
     table_after(place, &message_table(0, 0, 0, 0))
 }
 
-/// The first place after a schema's table, which has so many fields for its metadata: 1 or none.
+/// The first position after a schema's table, which has `metadata` fields for its metadata: 1 or
+/// none.
 pub(crate) fn schema_table_end(place: usize, metadata: usize) -> usize
     requires low { place ≤ 1073741825 }
     requires few { metadata ≤ 1 }
@@ -71,24 +74,28 @@ pub(crate) fn schema_table_end(place: usize, metadata: usize) -> usize
     table_after(place, &slots[..SCHEMA_FIELDS + metadata])
 }
 
-/// The first place after a field's table, which has an encoding or none, and so many fields for its
-/// metadata: 1 or none.
+/// The first position after a field's table, which has an encoding or none, and `metadata` fields
+/// for its metadata: 1 or none.
 pub(crate) fn field_table_end(place: usize, has_encoding: bool, metadata: usize) -> usize
     requires low { place ≤ 1073741825 }
     requires few { metadata ≤ 1 }
-    ensures end { (head : Head) (ps : List KeyValue) (children : Nodes)
+    ensures end { (head : FieldHeader) (ps : List KeyValue) (children : Nodes)
         → is_some head.encoding ≡ has_encoding → count (metadata_cells ps) ≡ metadata
         → result ≡ capped (cells_place place (field_cells head ps children)) }
     ensures near { result ≤ 1073741825 }
 {
-    let byte = Slot::Scalar(Width::One, 0);
-    let target = Slot::Target(0);
-    let encoding = if has_encoding { target } else { Slot::Absent };
+    let byte = FieldValue::Scalar(Width::One, 0);
+    let target = FieldValue::Target(0);
+    let encoding = if has_encoding {
+        target
+    } else {
+        FieldValue::Absent
+    };
     let slots = [target, byte, byte, target, encoding, target, target];
     table_after(place, &slots[..FIELD_FIELDS + metadata])
 }
 
-/// The first place after the table of a pair of metadata.
+/// The first position after the table of a pair of metadata.
 pub(crate) fn pair_table_end(place: usize) -> usize
     requires { place ≤ 1073741825 }
     ensures end { (p : KeyValue) → result ≡ capped (cells_place place (pair_cells p)) }
@@ -97,7 +104,7 @@ pub(crate) fn pair_table_end(place: usize) -> usize
     table_after(place, &pair_table(0, 0))
 }
 
-/// The first place after an encoding's table.
+/// The first position after an encoding's table.
 pub(crate) fn encoding_table_end(place: usize) -> usize
     requires { place ≤ 1073741825 }
     ensures end { (e : Encoding) → result ≡ capped (cells_place place (encoding_cells e)) }
@@ -106,7 +113,7 @@ pub(crate) fn encoding_table_end(place: usize) -> usize
     table_after(place, &encoding_table(0, 0, 0))
 }
 
-/// The first place after a dictionary batch's table.
+/// The first position after a dictionary batch's table.
 pub(crate) fn dictionary_table_end(place: usize) -> usize
     requires { place ≤ 1073741825 }
     ensures end { (id : ℤ) (delta : Bool) (b : PlainBatch)
@@ -116,7 +123,7 @@ pub(crate) fn dictionary_table_end(place: usize) -> usize
     table_after(place, &dictionary_table(0, 0, 0))
 }
 
-/// The first place after a record batch's table.
+/// The first position after a record batch's table.
 pub(crate) fn batch_table_end(place: usize) -> usize
     requires { place ≤ 1073741825 }
     ensures end { (b : PlainBatch) → result ≡ capped (cells_place place (batch_cells b)) }
@@ -125,8 +132,8 @@ pub(crate) fn batch_table_end(place: usize) -> usize
     table_after(place, &batch_table(0, 0, 0))
 }
 
-/// The first place after a table of these fields, without what belongs to it.
-pub(crate) fn table_after(place: usize, slots: &[Slot]) -> usize
+/// The first position after a table of these fields, without what belongs to it.
+pub(crate) fn table_after(place: usize, slots: &[FieldValue]) -> usize
     requires low { place ≤ 1073741825 }
     requires few { length slots.now ≤ 1000 }
     ensures end { result ≡ capped (table_end place slots.now) }
@@ -135,7 +142,7 @@ pub(crate) fn table_after(place: usize, slots: &[Slot]) -> usize
     capped(table_end(place, slots))
 }
 
-/// The first place after a text.
+/// The first position after a text.
 pub(crate) fn text_after(place: usize, text: &str) -> usize
     requires { place ≤ 1073741825 }
     ensures end { result ≡ capped (after place (text_node text.now)) }
@@ -144,7 +151,7 @@ pub(crate) fn text_after(place: usize, text: &str) -> usize
     capped(text_end(place, text))
 }
 
-/// The first place after a string of these bytes.
+/// The first position after a string of these bytes.
 pub(crate) fn bytes_after(place: usize, bytes: &[u8]) -> usize
     requires { place ≤ 1073741825 }
     ensures end { result ≡ capped (after place (byte_string bytes.now)) }
@@ -153,7 +160,7 @@ pub(crate) fn bytes_after(place: usize, bytes: &[u8]) -> usize
     capped(bytes_end(place, bytes))
 }
 
-/// A place, or `TOP` where it is behind that.
+/// A position, or `TOP` if it is beyond that.
 pub(crate) fn capped(place: usize) -> usize
     ensures end { result ≡ capped place }
     ensures near { result ≤ 1073741825 }

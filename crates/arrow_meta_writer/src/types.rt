@@ -3,10 +3,10 @@
 //! `Timestamp`, `FixedSizeBinary`, `FixedSizeList`, `Duration`, `Interval`, `Map`).
 //!
 //! `type_slots` has one row for each type: the number of fields, the size and the bytes of a type's
-//! table are computed from that row. A type without parameters has a table without fields. A unit or
-//! a precision is the number of its enum, a width is a number of bits, for `FixedSizeBinary` of bytes;
-//! the size of `FixedSizeList` is a number of values.
-//! Places are those of `sizes`: in bytes, and all above the greatest size count as one.
+//! table are computed from that row. A type without parameters has a table without fields. A unit
+//! or a precision is the number of its enum, a width is a number of bits, for `FixedSizeBinary` of
+//! bytes; the size of `FixedSizeList` is a number of values. Positions are those of `sizes`: in
+//! bytes, with all above the greatest size counted as the same.
 ghost use Rattle.std.specs.Prelude.{◌≡◌, ◌≤◌, ◌<◌, ℕ, [], ◌∷◌, option_map, length, true};
 ghost use Rattle.std.specs.Prelude.{OnOk};
 ghost use Rattle.arrow_flatbuf.specs.Layout.{up};
@@ -25,7 +25,7 @@ ghost use Rattle.arrow_types.specs.Field.{width as field_width};
 ghost use Rattle.arrow_types.specs.View.{type_view};
 
 use crate::tables::{INT_FIELDS, table_after, text_after};
-use arrow_flatbuf::{Slot, TableWriter, Width, aligned};
+use arrow_flatbuf::{FieldValue, TableWriter, Width, aligned};
 use arrow_types::{BitWidth, DataType, DateUnit, DecimalWidth, IntervalUnit, Precision, TimeUnit};
 use std::alloc::AllocError;
 
@@ -61,7 +61,7 @@ pub(crate) fn type_code(data_type: &DataType) -> u64
     }
 }
 
-/// How many fields a type's table has.
+/// The number of fields of a type's table.
 pub(crate) fn type_fields(data_type: &DataType) -> usize
     ensures count { result ≡ count (type_cells (type_view data_type.now).tag) }
     ensures few { result ≤ 3 }
@@ -69,7 +69,7 @@ pub(crate) fn type_fields(data_type: &DataType) -> usize
     type_slots(data_type, 0).as_slice().len()
 }
 
-/// The first place after a type's table and what belongs to it.
+/// The first position after a type's table and what belongs to it.
 pub(crate) fn type_end(place: usize, data_type: &DataType) -> usize
     requires { place ≤ 1073741825 }
     ensures end { result
@@ -98,8 +98,8 @@ pub(crate) fn write_type(writer: &mut TableWriter, data_type: &DataType) -> Resu
     }
 }
 
-/// The fields of a type's table (`Schema.fbs`, tables of the union `Type`). `zone` is the place of
-/// the name of its time zone; only a timestamp with a zone uses it.
+/// The fields of a type's table (`Schema.fbs`, tables of the union `Type`). `zone` is the position
+/// of the name of its time zone; only a timestamp with a zone uses it.
 fn type_slots(data_type: &DataType, zone: usize) -> TypeSlots
     ensures slots { (q : ℕ) → zone ≡ up 4 q
         → listed result ≡ slots q (type_cells (type_view data_type.now).tag) }
@@ -115,13 +115,13 @@ fn type_slots(data_type: &DataType, zone: usize) -> TypeSlots
         } => TypeSlots::Three(decimal_slots(*width, *precision, *scale)),
         DataType::Date(unit) => scalar(Width::Two, date_number(*unit)),
         DataType::Time(unit) => TypeSlots::Two([
-            Slot::Scalar(Width::Two, time_number(*unit)),
-            Slot::Scalar(Width::Four, u64::from(unit.time_width().bits())),
+            FieldValue::Scalar(Width::Two, time_number(*unit)),
+            FieldValue::Scalar(Width::Four, u64::from(unit.time_width().bits())),
         ]),
         DataType::Timestamp(unit, None) => scalar(Width::Two, time_number(*unit)),
         DataType::Timestamp(unit, Some(_)) => TypeSlots::Two([
-            Slot::Scalar(Width::Two, time_number(*unit)),
-            Slot::Target(zone),
+            FieldValue::Scalar(Width::Two, time_number(*unit)),
+            FieldValue::Target(zone),
         ]),
         DataType::FixedSizeBinary(width) => scalar(Width::Four, u64::from(*width)),
         DataType::FixedSizeList(_, size) => scalar(Width::Four, u64::from(*size)),
@@ -137,46 +137,46 @@ fn type_slots(data_type: &DataType, zone: usize) -> TypeSlots
 
 /// One field: a number of this width.
 fn scalar(width: Width, number: u64) -> TypeSlots
-    ensures { listed result ≡ Slot.Scalar width number ∷ [] }
+    ensures { listed result ≡ FieldValue.Scalar width number ∷ [] }
 {
-    TypeSlots::One([Slot::Scalar(width, number)])
+    TypeSlots::One([FieldValue::Scalar(width, number)])
 }
 
 /// The fields of an Int table.
-fn int_slots(bits: BitWidth, signed: bool) -> [Slot; INT_FIELDS]
+fn int_slots(bits: BitWidth, signed: bool) -> [FieldValue; INT_FIELDS]
     ensures slots { result ≡ slots 0 (int_cells bits signed) }
     ensures fits { OwnFit (int_cells bits signed) }
 {
     [
-        Slot::Scalar(Width::Four, u64::from(bits.bits())),
-        Slot::Scalar(Width::One, bit(signed)),
+        FieldValue::Scalar(Width::Four, u64::from(bits.bits())),
+        FieldValue::Scalar(Width::One, bit(signed)),
     ]
 }
 
 /// The fields of a Decimal table. A negative scale is written as the 32 bits of its two's complement.
-fn decimal_slots(width: DecimalWidth, precision: u8, scale: i8) -> [Slot; 3]
+fn decimal_slots(width: DecimalWidth, precision: u8, scale: i8) -> [FieldValue; 3]
     ensures slots { result ≡ slots 0 (type_cells (decimal width precision scale)) }
     ensures fits { OwnFit (type_cells (decimal width precision scale)) }
 {
     [
-        Slot::Scalar(Width::Four, u64::from(precision)),
-        Slot::Scalar(Width::Four, u64::from(i32::from(scale).cast_unsigned())),
-        Slot::Scalar(Width::Four, u64::from(width.bits())),
+        FieldValue::Scalar(Width::Four, u64::from(precision)),
+        FieldValue::Scalar(Width::Four, u64::from(i32::from(scale).cast_unsigned())),
+        FieldValue::Scalar(Width::Four, u64::from(width.bits())),
     ]
 }
 
-/// The fields of a type's table, as many as it has.
+/// The fields of a type's table, exactly those that it has.
 #[derive(Drop)]
 enum TypeSlots {
     Zero,
-    One([Slot; 1]),
-    Two([Slot; 2]),
-    Three([Slot; 3]),
+    One([FieldValue; 1]),
+    Two([FieldValue; 2]),
+    Three([FieldValue; 3]),
 }
 
 impl TypeSlots {
     /// The fields by number.
-    fn as_slice(&self) -> &[Slot]
+    fn as_slice(&self) -> &[FieldValue]
         ensures slots { result.now ≡ listed self.now }
         ensures few { length result.now ≤ 3 }
     {
@@ -189,7 +189,7 @@ impl TypeSlots {
     }
 }
 
-/// The first place after a type's table, without its time zone.
+/// The first position after a type's table, without its time zone.
 fn type_table_end(place: usize, data_type: &DataType) -> usize
     requires { place ≤ 1073741825 }
     ensures end { result ≡ capped (cells_place place (type_cells (type_view data_type.now).tag)) }
@@ -209,7 +209,7 @@ fn zone_of(data_type: &DataType) -> Option<&str>
     }
 }
 
-/// The fields of a type's table that is laid out from a place on.
+/// The fields of a type's table that is laid out from `place` on.
 fn placed_slots(place: usize, data_type: &DataType) -> TypeSlots
     requires room { after place (table_node (type_cells (type_view data_type.now).tag))
         ≤ 1073741824 }
@@ -221,7 +221,7 @@ fn placed_slots(place: usize, data_type: &DataType) -> TypeSlots
     type_slots(data_type, zone)
 }
 
-/// The first place after an Int table.
+/// The first position after an Int table.
 pub(crate) fn int_end(place: usize, bits: BitWidth, signed: bool) -> usize
     requires { place ≤ 1073741825 }
     ensures end { result ≡ capped (after place (table_node (int_cells bits signed))) }

@@ -1,10 +1,10 @@
 //! Messages as the bytes of their metadata, front to back (`Message.fbs`; Columnar Format,
 //! "Encapsulated message format").
 //!
-//! Places count in bytes from the metadata's first. An offset is written before what it names, so
-//! the place of that is counted first (`sizes`, `tables`), and nothing that was written is changed.
-//! Each call appends a part from the first free place on, with all that belongs to it. The only
-//! error is `AllocError`, a growth that was refused.
+//! Positions count in bytes from the first byte of the metadata. An offset is written before what
+//! it names, so the position of that is computed first (`sizes`, `tables`), and nothing that was
+//! written is changed. Each function appends a piece from the first free position on, with all that
+//! belongs to it. The only error is `AllocError`, if an allocation failed.
 ghost use Rattle.std.specs.Prelude.{◌≡◌, ◌≤◌, ◌<◌, ◌↔◌, length, Some, IsSome, OnOk, IfOk};
 ghost use Rattle.arrow_flatbuf.specs.Nodes.{after, cells_place, slots, count, table as table_node};
 ghost use Rattle.arrow_meta_reader.specs.Codes.{number_of_version};
@@ -28,18 +28,18 @@ use crate::tables::{
     DICTIONARY_BATCH_FIELDS, MESSAGE_FIELDS, RECORD_BATCH_FIELDS, SCHEMA_FIELDS, START,
     message_table_end,
 };
-use arrow_flatbuf::{Slot, TableWriter, Width, table_place};
+use arrow_flatbuf::{FieldValue, TableWriter, Width, table_place};
 use arrow_meta_reader::{Header, Message, MetadataVersion};
 use std::alloc::{AllocError, Global};
 
 /// The bytes of a message's metadata (Columnar Format, "Encapsulated message format"), padded with
 /// zero bytes to a multiple of 8.
 ///
-/// Condition: [`encoded_size`] answers a number for it, which is that of the bytes. They mean the
-/// message to every reader whose limits it keeps to; each number stands at a multiple of its size,
-/// and a 0 byte after every name and zone. The bytes grow once, to their size; `AllocError` where
-/// that was refused. They keep their meaning with any bytes after them: the header is one of which
-/// [`crate::laws::written`] says so.
+/// Condition: [`encoded_size`] returns a number for it, which is the number of the bytes. They mean
+/// the message to every reader whose limits it keeps to; each number is at a multiple of its size,
+/// and a 0 byte follows every name and zone. The bytes are allocated once, with their size;
+/// `AllocError` if that failed. They keep their meaning with any bytes after them: the header meets
+/// the condition under which [`crate::laws::written`] states this.
 pub fn encode(alloc: Global, message: &Message) -> Result<Vec<u8>, AllocError>
     requires { IsSome (size_of (message_view message.now)) }
     ensures bytes { IfOk result (λ v. v.items ≡ metadata (message_view message.now)) }
@@ -57,8 +57,8 @@ pub fn encode(alloc: Global, message: &Message) -> Result<Vec<u8>, AllocError>
     encode_in(Vec::with_capacity(alloc, size as usize)?, message)
 }
 
-/// The bytes that [`encode`] answers, in the room of a list: where they fit in it no memory is
-/// asked for. What the list held is dropped, and its room too where a growth was refused.
+/// The bytes that [`encode`] returns, reusing the room of a list: if they fit in it, nothing is
+/// allocated. The contents of the list are dropped, and its room too if an allocation failed.
 pub fn encode_in(room: Vec<u8>, message: &Message) -> Result<Vec<u8>, AllocError>
     requires { IsSome (size_of (message_view message.now)) }
     ensures bytes { IfOk result (λ v. v.items ≡ metadata (message_view message.now)) }
@@ -93,8 +93,8 @@ fn write_message(writer: &mut TableWriter, message: &Message) -> Result<(), Allo
     Ok(())
 }
 
-/// The fields of a message's table that is laid out from a place on.
-fn message_slots(place: usize, message: &Message) -> [Slot; MESSAGE_FIELDS]
+/// The fields of a message's table that is laid out from `place` on.
+fn message_slots(place: usize, message: &Message) -> [FieldValue; MESSAGE_FIELDS]
     requires room { after place (message_node (message_view message.now)) ≤ 1073741824 }
     ensures slots { let cells = message_cells (message_view message.now)
         in result ≡ slots (cells_place place cells) cells }
@@ -130,7 +130,7 @@ fn header_code(header: &Header) -> u64
     }
 }
 
-/// How many fields a header's table has.
+/// The number of fields of a header's table.
 fn header_fields(header: &Header) -> usize
     ensures count { result ≡ count (header_cells (header_view header.now)) }
     ensures few { result ≤ 3 }

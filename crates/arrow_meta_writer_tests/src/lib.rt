@@ -1,5 +1,5 @@
-//! Tests of `arrow_meta_writer`, and of what `arrow_flatbuf` writes, in a crate of their own so
-//! that the libraries are not proved once more with them.
+//! Tests of `arrow_meta_writer`, and of the output of `arrow_flatbuf`, in a separate crate, so that
+//! the libraries are not proved again with them.
 #![tactic(auto)]
 
 #[cfg(test)]

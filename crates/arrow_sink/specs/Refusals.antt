@@ -1,9 +1,9 @@
--- The numbers and the words of a writer's refusals.
+-- The numbers and the texts of a writer's errors.
 use Rattle.std.specs.Prelude.{ℕ, List, codes}
 use Rattle.arrow_sink.specs.declared.write_fault.WriteFault.{WriteFault}
 use Rattle.arrow_sink.specs.declared.write_fault.WriteFault.TheVariants.{SchemaDiffers, TooLarge, DictionariesDiffer, Sink, Broken, Finished, Memory}
 
--- the number of a refusal
+-- the number of an error
 abbrev pub number_of : WriteFault → ℕ
 number_of SchemaDiffers = 1
 number_of TooLarge = 2
@@ -13,7 +13,7 @@ number_of Broken = 5
 number_of Finished = 6
 number_of Memory = 7
 
--- the words of a refusal
+-- the text of an error
 abbrev pub words_of : WriteFault → List ℕ
 words_of SchemaDiffers = codes "another schema"
 words_of TooLarge = codes "past a limit"

@@ -2,7 +2,7 @@
 
 ghost use Rattle.std.specs.Prelude.{◌≡◌, ◌<◌, ◌-◌, ◌^◌};
 ghost use Rattle.std.specs.Fn.{FnOnceReturnsAtMut};
-ghost use Rattle.arrow_sink.specs.Answers.{CountsError, TellsAnswer};
+ghost use Rattle.arrow_sink.specs.Answers.{CountsError, ReportsAnswer};
 ghost use Rattle.arrow_sink.specs.Sinks.{CountsPut};
 
 use crate::sink::{Sink, SinkFault};
@@ -19,7 +19,7 @@ pub struct Counted<W: Write> {
 }
 
 impl<W: Write> Counted<W> {
-    /// A sink over this writer, which has not failed yet. It takes no memory.
+    /// A sink over this writer, which has not failed yet. It allocates nothing.
     pub fn new(writer: W) -> Counted<W>
         ensures writer { result.writer ≡ writer }
         ensures count { result.count ≡ 0 }
@@ -27,7 +27,7 @@ impl<W: Write> Counted<W> {
         Counted { writer, count: 0 }
     }
 
-    /// The writer. It takes no memory.
+    /// The writer. It allocates nothing.
     pub fn into_inner(self) -> W
         ensures { result ≡ self.writer }
     {
@@ -35,13 +35,13 @@ impl<W: Write> Counted<W> {
         writer
     }
 
-    // Makes this call of the writer, and tells what it answered: its value, or an error, which counts.
+    /// Makes this call of the writer, and returns its result: its value, or an error, which counts.
     fn ask<T, F: FnOnce(&mut W) -> io::Result<T>>(&mut self, call: F) -> Result<T, SinkFault>
         requires callable { F.IsAlwaysCallable call }
         requires room { self.old.count < 2 ^ 64 - 1 }
-        ensures told { (answer : _)
+        ensures reported { (answer : _)
             × FnOnceReturnsAtMut F.FnOnce call self.old.writer answer self.new.writer
-            × TellsAnswer answer result }
+            × ReportsAnswer answer result }
         ensures count { CountsError self.old.count self.new.count result }
     {
         match call(&mut self.writer) {
@@ -53,8 +53,8 @@ impl<W: Write> Counted<W> {
         }
     }
 
-    // Offers a piece of this length by this call, and tells what the writer answered: how many bytes
-    // it took, or an error. No byte taken of a piece that has bytes counts too.
+    /// Offers a piece of length `len` by this call, and returns the writer's result: how many bytes
+    /// it took, or an error. Taking no byte of a piece that has bytes counts too.
     fn offer<F: FnOnce(&mut W) -> io::Result<usize>>(
         &mut self,
         call: F,
@@ -62,9 +62,9 @@ impl<W: Write> Counted<W> {
     ) -> Result<usize, SinkFault>
         requires callable { F.IsAlwaysCallable call }
         requires room { self.old.count < 2 ^ 64 - 1 }
-        ensures told { (answer : _)
+        ensures reported { (answer : _)
             × FnOnceReturnsAtMut F.FnOnce call self.old.writer answer self.new.writer
-            × TellsAnswer answer result }
+            × ReportsAnswer answer result }
         ensures count { CountsPut self.old.count self.new.count result len }
     {
         let taken = self.ask(call)?;

@@ -1,5 +1,5 @@
-//! A sink that takes little and an input that gives little, each up to where it fails: to try how a
-//! program bears it.
+//! A sink that takes little and an input that gives little, each up to the point where it fails: to
+//! test how a program handles it.
 
 ghost use Rattle.std.specs.Prelude.{◌≡◌, ◌≤◌, ◌++◌, ◌+◌, ◌-◌, Some, [], length, take, drop, min};
 
@@ -11,17 +11,18 @@ use std::io::Read;
 /// How a sink fails.
 #[derive(Clone, Copy, Debug, PartialEq, Eq)]
 pub enum Failing {
-    /// It answers an error to a piece that it has no room for.
+    /// It returns an error for a piece that it has no room for.
     ByError,
     /// It takes nothing of a piece that it has no room for.
     ByNothing,
-    /// It takes nothing of a piece that it has no room for, and answers an error to each flush.
+    /// It takes nothing of a piece that it has no room for, and returns an error for each flush.
     AtFlush,
 }
 
-/// A sink in memory that takes at most so many bytes of a piece, and so many in all.
+/// A sink in memory that takes at most a given number of bytes of a piece, and a given number in
+/// all.
 ///
-/// Once it has no room it fails at each piece that has bytes. Where memory is wanting it fails in
+/// Once it has no room it fails at each piece that has bytes. If an allocation fails it fails in
 /// the same way.
 #[derive(Drop)]
 pub struct Narrow {
@@ -34,7 +35,7 @@ pub struct Narrow {
 }
 
 impl Narrow {
-    /// A sink that has taken nothing yet. It takes no memory.
+    /// A sink that has taken nothing yet. It allocates nothing.
     pub fn new(alloc: Global, at_once: usize, in_all: usize, failing: Failing) -> Narrow
         ensures taken { result.taken.items ≡ [] }
         ensures once { result.at_once ≡ at_once }
@@ -53,28 +54,28 @@ impl Narrow {
         }
     }
 
-    /// What it took so far. It takes no memory.
+    /// The bytes taken so far. It allocates nothing.
     pub fn taken(&self) -> &[u8]
         ensures { result.now ≡ self.now.taken.items }
     {
         &self.taken
     }
 
-    /// How often it was told to pass on what it took, at most 2^64 - 1 times. It takes no memory.
+    /// The number of calls of `flush`, at most 2^64 - 1. It allocates nothing.
     pub fn flushes(&self) -> u64
         ensures { result ≡ self.now.flushes }
     {
         self.flushes
     }
 
-    /// How many bytes it would take of a piece of this length. It takes no memory.
+    /// How many bytes it would take of a piece of this length. It allocates nothing.
     pub fn room(&self, len: usize) -> usize
         ensures { result ≡ min len (min self.now.at_once self.now.left) }
     {
         len.min(self.at_once.min(self.left))
     }
 
-    // Keeps what it has room for of the piece, nothing where memory is wanting.
+    /// Keeps what it has room for of the piece, nothing if an allocation fails.
     fn keep(&mut self, piece: &[u8]) -> usize
         ensures bound { result ≤ length piece.now }
         ensures taken { self.new.taken.items ≡ self.old.taken.items ++ take result piece.now }
@@ -120,10 +121,11 @@ impl Sink for Narrow {
     }
 }
 
-/// An input over bytes that gives at most so many of them a read, and may fail at a place.
+/// An input over bytes that gives at most a given number of them per read, and may fail at an
+/// offset.
 ///
-/// It gives of a read as much as it can: up to the end, the place, the bound (of which 0 counts as
-/// 1) and the room of the read. From the place on it fails at each read, by an error of one kind.
+/// For a read it gives as much as it can: up to the end, the offset, the bound (0 counts as 1) and
+/// the room of the read. From the offset on it fails at each read, by an error of one kind.
 #[derive(Drop)]
 pub struct Trickle<'a> {
     rest: &'a [u8],
@@ -133,7 +135,7 @@ pub struct Trickle<'a> {
 }
 
 impl<'a> Trickle<'a> {
-    /// An input at its first byte. It takes no memory.
+    /// An input at its first byte. It allocates nothing.
     pub fn new(
         bytes: &'a [u8],
         at_once: usize,
@@ -152,7 +154,7 @@ impl<'a> Trickle<'a> {
         }
     }
 
-    /// How many bytes it gave so far. It takes no memory.
+    /// How many bytes it gave so far. It allocates nothing.
     pub fn given(&self) -> usize
         ensures { result ≡ self.now.given }
     {

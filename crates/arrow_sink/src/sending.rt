@@ -6,11 +6,11 @@ ghost use Rattle.arrow_sink.specs.Sinks.{AcceptsBeginning};
 
 use crate::sink::{Sink, SinkFault};
 
-/// Sends all bytes, offering again what the sink left of them.
+/// Sends all bytes, offering again those that the sink did not take.
 ///
 /// After `Ok` the sink accepted them all, and no call failed. After an error one call failed, the
 /// last one, and the sink accepted a beginning of the bytes. Without bytes no call is made: the
-/// answer is `Ok`, and the sink is as it was.
+/// result is `Ok`, and the sink is as it was.
 pub fn send<S: Sink>(sink: &mut S, bytes: &[u8]) -> Result<(), SinkFault>
     requires { S.failed sink.old < 2 ^ 64 - 1 }
     ensures all { OnOk result (Appends (S.contents sink.old) (S.contents sink.new) bytes.now) }

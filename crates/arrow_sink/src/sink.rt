@@ -1,4 +1,4 @@
-//! What a sink is.
+//! The trait for sinks.
 
 ghost use Rattle.std.specs.Prelude.{◌≡◌, ◌≤◌, ◌<◌, ◌-◌, ◌^◌, ℕ, List, length};
 ghost use Rattle.std.specs.Prelude.{IfOk, None, OnOk, Option, ⊤};
@@ -8,7 +8,7 @@ ghost use Rattle.arrow_sink.specs.Sinks.{Puts, CountsPut, CountsFlush};
 use std::error::Error;
 use std::fmt;
 
-/// That a call of a sink failed.
+/// The error of a call of a sink that failed.
 #[derive(Clone, Copy, Debug, PartialEq, Eq)]
 pub struct SinkFault;
 
@@ -24,22 +24,22 @@ impl fmt::Display for SinkFault {
 
 impl Error for SinkFault {}
 
-/// Where bytes go, in order.
+/// The destination of bytes, in order.
 ///
-/// A call that fails counts as one failure, and so does one that takes no byte of a piece that has
+/// A call that fails counts one failure, and so does a call that takes no byte of a piece that has
 /// bytes. Nothing else does. A caller makes no call of a sink whose count is at 2^64 - 1.
 pub trait Sink {
-    // The bytes that it accepted, where it tells.
+    // The bytes that it accepted, if they are known.
     ghost contents: { Self → Option (List ℕ) } = { λ _. None };
 
     // How many of its calls failed.
     ghost failed: { Self → ℕ };
 
-    // That it passed on all that it accepted, where it tells.
+    // That it passed on all that it accepted, if that is known.
     ghost is_passed_on: { Self → Type 0 } = { λ _. ⊤ };
 
-    /// Offers a piece, and answers how many of its first bytes were accepted: at most all of them.
-    /// Of a piece that is answered with an error none was.
+    /// Offers a piece, and returns how many of its first bytes were accepted: at most all of them.
+    /// With an error, none of the piece was.
     fn put(&mut self, piece: &[u8]) -> Result<usize, SinkFault>
         requires { failed self.old < 2 ^ 64 - 1 }
         ensures bound { IfOk result (λ n. n ≤ length piece.now) }
@@ -53,7 +53,7 @@ pub trait Sink {
         ensures passed { OnOk result (is_passed_on self.new) }
         ensures count { CountsFlush (failed self.old) (failed self.new) result };
 
-    /// How many calls failed so far.
+    /// How many calls have failed so far.
     fn failures(&self) -> u64
         ensures { result ≡ failed self.now };
 }

@@ -1,4 +1,4 @@
-//! Why a writer refuses.
+//! Why a writer rejects a call.
 
 ghost use Rattle.std.specs.Prelude.{◌≡◌};
 ghost use Rattle.arrow_sink.specs.Refusals.{number_of};
@@ -8,17 +8,18 @@ use std::alloc::AllocError;
 use std::error::Error;
 use std::fmt;
 
-/// Why a writer refuses a call, in the order of the numbers. A batch that is refused by the first
-/// three is refused by the first of `SchemaDiffers`, `DictionariesDiffer`, `TooLarge` that applies.
+/// Why a writer rejects a call, in the order of the numbers. A batch that is rejected with one of
+/// the first three is rejected with the first of `SchemaDiffers`, `DictionariesDiffer`, `TooLarge`
+/// that applies.
 #[derive(Clone, Copy, Debug, PartialEq, Eq)]
 pub enum WriteFault {
     /// The schema of the batch is not the writer's.
     SchemaDiffers,
-    /// A limit would be passed by a frame, by a dictionary after its update, or by the place where a
-    /// frame or the end marker ends; an offset would not fit in 32 bits; or a schema has a type that
-    /// is not in the set of the limits.
+    /// A limit would be exceeded by a frame, by a dictionary after its update, or by the offset
+    /// where a frame or the end marker ends; an offset would not fit in 32 bits; or a schema has a
+    /// type that is not in the set of the limits.
     TooLarge,
-    /// Two columns of the batch have different dictionaries of one id.
+    /// Two columns of the batch have different dictionaries with the same id.
     DictionariesDiffer,
     /// The sink failed in the call.
     Sink,
@@ -26,7 +27,7 @@ pub enum WriteFault {
     Broken,
     /// The end marker was sent before.
     Finished,
-    /// A growth was refused.
+    /// An allocation failed.
     Memory,
 }
 
@@ -47,7 +48,7 @@ impl WriteFault {
     }
 }
 
-/// A growth that was refused: `Memory`.
+/// A failed allocation: `Memory`.
 impl From<AllocError> for WriteFault {
     ghost use Rattle.arrow_sink.specs.declared.write_fault.WriteFault.TheVariants.{Memory};
 

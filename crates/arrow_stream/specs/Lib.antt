@@ -26,7 +26,7 @@ pub use Rattle.arrow_stream_laws.specs.Text
 pub use Rattle.arrow_stream_laws.specs.Sent
 pub use Rattle.arrow_stream_laws.specs.Laws as SentLaws
 pub use Rattle.arrow_stream_laws.specs.Writer
-pub use Rattle.arrow_stream_laws.specs.Standing
+pub use Rattle.arrow_stream_laws.specs.Snapshot
 pub use Rattle.arrow_stream_writer.specs.Frame as FrameWriting
 pub use Rattle.arrow_stream_writer.specs.Sizes as FrameSizes
 pub use Rattle.arrow_stream_writer.specs.Lists

@@ -4,7 +4,7 @@ use Rattle.std.proofs.Math.Nat.{mul-add-mod_self_right, zero-mod}
 use Rattle.std.proofs.lemmas.List.Sums.{sum_by-cons}
 use Rattle.std.specs.Int.{div_ceil}
 use Rattle.std.specs.List.{AllByRecursion, sum_by}
-use Rattle.arrow_types.specs.Field.{Fields}
+use Rattle.arrow_types.specs.Field.{FieldTree}
 use Rattle.arrow_types.specs.Limits.{LimitNumbers}
 use Rattle.arrow_types.specs.Notes.{SchemaShape}
 use Rattle.arrow_data.specs.Batch.{Table}
@@ -30,11 +30,11 @@ sum_multiple : (align : ℕ) (ns : List ℕ) → sum_by (rounded align) ns % ali
 sum_multiple align [] = zero-mod align
 sum_multiple align (n ∷ ns) = ap (λ s. s % align) (sum_by-cons (rounded align) n ns) ∙ mul-add-mod_self_right (div_ceil n align) align (sum_by (rounded align) ns) ∙ sum_multiple align ns
 
--- so does a body
-size_multiple : (align : ℕ) (fields : Fields) (raws : List (List PlainValue)) → size_of align fields raws % align ≡ 0
+-- the size of a body is a multiple too
+size_multiple : (align : ℕ) (fields : FieldTree) (raws : List (List PlainValue)) → size_of align fields raws % align ≡ 0
 size_multiple align fields raws = sum_multiple align (sizes_of fields raws)
 
--- a frame of metadata of that size, and of a body that is a multiple
+-- a frame with metadata of that size, and with a body whose size is a multiple
 frame_aligned : {l : LimitNumbers} {content : PlainHeader} {body b : List ℕ} (align : ℕ) (header : PlainHeader) → 0 < align → IsFrameOf l (header_size align header) content body b → length body % align ≡ 0 → length b % align ≡ 0
 frame_aligned {body = body} {b = b} align header some f multiple =
     let m = 8 + metadata_size (record { version = versions.V5; header = header; body_len = 0 }) in
@@ -55,14 +55,14 @@ all_both : (P : Frame → Type 0) (xs ys : List Frame) → AllByRecursion P xs �
 all_both P [] ys h k = k
 all_both P (x ∷ xs) ys h k = (h.0, all_both P xs ys h.1 k)
 
--- those of a batch
+-- the frames of a batch
 part_aligned : {l : LimitNumbers} {o : Options} {shape : SchemaShape} {ds : List (ℤ × ValueList)} {place : ℕ} {t : Table} {fs : List Frame} → 0 < o.align → IsPart l o shape ds place t fs → AreAligned o.align fs
 part_aligned {l = l} {o = o} {shape = shape} {ds = ds} {t = t} some x =
     let updated = updates_aligned l o.align some shape ds (plan o.updates shape.fields ds t) x.updated x.updates in
     let last = frame_aligned o.align (batch (blank_batch shape.fields)) some x.frame (ap (λ n. n % o.align) x.built.columns.sized ∙ size_multiple o.align shape.fields (raws_of t.columns)) in
     subst (AreAligned o.align) (sym x.frames) (all_both (λ (f : Frame). length f.bytes % o.align ≡ 0) x.updated (record_frame shape (lists_after o.updates shape.fields ds t) x.record_batch x.body t.rows x.last ∷ []) updated (last, tt))
 
--- and those of a text
+-- the frames of a connection
 pub text_aligned : {l : LimitNumbers} {o : Options} {shape : SchemaShape} {parts : List (List ℕ)} {batches : List Table} {frames : List Frame} → 0 < o.align → Text l o shape parts batches frames → AreAligned o.align frames
 text_aligned {o = o} {shape = shape} some (begins b known admitted f) = (frame_aligned o.align (schema shape) some f (zero-mod o.align), tt)
 text_aligned {o = o} some (adds parts batches frames t fs text part) =

@@ -1,4 +1,4 @@
--- A chain of frames, and its beginnings.
+-- A chain of frames, and its prefixes.
 use Rattle.std.proofs.Common.{zero, suc, ◌≡◌, ℕ, ◌+◌, ◌-◌, ◌<◌, ◌≤◌, List, [], ◌∷◌, ◌++◌, length, map, take, drop, refl, sym, ap, ◌∙◌, subst, arith, inl, inr, length-append, append_assoc, add-zero}
 use Rattle.std.proofs.lemmas.List.{take-append-le}
 use Rattle.std.proofs.Math.Seq.{take-append-add, drop-append-add, drop-append_seam}
@@ -9,7 +9,7 @@ use Rattle.arrow_stream_reader.specs.State.{StreamState}
 use Rattle.arrow_stream_reader.specs.Frame.{waits, whole, First, short_prefix}
 use Rattle.arrow_stream_reader.specs.Tables.{table_in}
 use Rattle.arrow_stream_laws.specs.Rows.{Rows, rows_of}
-use Rattle.arrow_stream_reader.specs.Front.{Entry, Standing, Front, rests, goes_on}
+use Rattle.arrow_stream_reader.specs.Front.{Entry, Snapshot, Front, rests, goes_on}
 use Rattle.arrow_stream_reader.proofs.Firsts.{First-append, First-short}
 use Rattle.arrow_stream_reader.proofs.Fronts.{at_bytes}
 use Rattle.arrow_stream_laws.specs.Frames.{Frame, frames_bytes, left_by, lying}
@@ -19,12 +19,12 @@ abbrev pub rows_in : List Frame → List Rows
 rows_in [] = []
 rows_in (f ∷ fs) = map rows_of (table_in f.gives) ++ rows_in fs
 
--- what a reader tells of them, if they begin at this place: what each gives, and where it ends
+-- what a reader reports of the frames, if they begin at this offset: what each gives, and where it ends
 abbrev pub entries_from : ℕ → List Frame → List Entry
 entries_from p [] = []
 entries_from p (f ∷ fs) = record { given = f.gives; end = p + length f.bytes } ∷ entries_from (p + length f.bytes) fs
 
--- from this state and place on, each is one whole message to a reader
+-- from this state and offset on, each frame is one complete message to a reader
 abbrev pub Chain : LimitNumbers → StreamState → ℕ → List Frame → Type 0
 Chain limits s p [] = Unit {0}
 Chain limits s p (f ∷ fs) = First limits s p f.bytes (whole (length f.bytes) f.leaves f.gives) × Chain limits f.leaves (p + length f.bytes) fs
@@ -43,8 +43,8 @@ Chain-append l s p (x ∷ xs) ys c d =
     let q : p + length (x.bytes ++ frames_bytes xs) ≡ p + length x.bytes + length (frames_bytes xs) = omega (arith, length-append x.bytes (frames_bytes xs)) in
     (c.0, Chain-append l x.leaves (p + length x.bytes) xs ys c.1 (subst (λ n. Chain l (left_by x.leaves xs) n ys) q d))
 
--- the front of a chain goes on with what follows
-pub chain_then : (l : LimitNumbers) (s : StreamState) (p : ℕ) (fs : List Frame) (c : List ℕ) {es : List Entry} {e : Standing} → Chain l s p fs → Front l (left_by s fs) (p + length (frames_bytes fs)) c es e → Front l s p (frames_bytes fs ++ c) (entries_from p fs ++ es) e
+-- the complete messages of a chain are followed by those of the bytes after it
+pub chain_then : (l : LimitNumbers) (s : StreamState) (p : ℕ) (fs : List Frame) (c : List ℕ) {es : List Entry} {e : Snapshot} → Chain l s p fs → Front l (left_by s fs) (p + length (frames_bytes fs)) c es e → Front l s p (frames_bytes fs ++ c) (entries_from p fs ++ es) e
 chain_then l s p [] c {es} {e} x y = subst (λ n. Front l s n c es e) (add-zero p) y
 chain_then l s p (f ∷ fs) c {es} {e} x y =
     let q : p + length (f.bytes ++ frames_bytes fs) ≡ p + length f.bytes + length (frames_bytes fs) = omega (arith, length-append f.bytes (frames_bytes fs)) in
@@ -59,7 +59,7 @@ take_nil : (n : ℕ) → take n none ≡ none
 take_nil zero = refl
 take_nil (suc n) = refl
 
--- the frames that lie in a beginning
+-- the frames that lie in a prefix
 pub lying-step : (n : ℕ) (f : Frame) (fs : List Frame) → length f.bytes ≤ n → lying n (f ∷ fs) ≡ f ∷ lying (n - length f.bytes) fs
 lying-step n f fs h = rw (le-ltb n (length f.bytes) h)
 
@@ -71,11 +71,11 @@ take_seam n a b h =
     let e : n ≡ length a + (n - length a) = omega arith in
     ap (λ k. take k (a ++ b)) e ∙ take-append-add a b (n - length a)
 
--- what is read of the first n bytes, where these frames lie in them
+-- what is read of the first n bytes, if these frames lie in them
 abbrev pub ReadAs : LimitNumbers → StreamState → ℕ → List Frame → ℕ → List Frame → Type 0
 ReadAs l s p fs n xs = Front l s p (take n (frames_bytes fs)) (entries_from p xs) (record { state = left_by s xs; place = p + length (frames_bytes xs); rest = drop (length (frames_bytes xs)) (take n (frames_bytes fs)); verdict = Open })
 
--- a beginning of a chain's bytes is read as the frames that lie in it
+-- a prefix of a chain's bytes is read as the frames that lie in it
 pub chain_begins : (l : LimitNumbers) (s : StreamState) (p : ℕ) (fs : List Frame) (n : ℕ) → Chain l s p fs → ReadAs l s p fs n (lying n fs)
 chain_begins l s p [] n c =
     let e : take n [] ≡ [] = take_nil n in

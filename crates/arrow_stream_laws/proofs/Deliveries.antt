@@ -1,4 +1,4 @@
--- What a beginning of the bytes of a text is read as.
+-- What a prefix of the bytes of a connection is read as.
 use Rattle.std.proofs.Common.{Some, zero, suc, ◌≡◌, ℕ, ◌+◌, ◌-◌, ◌<◌, ◌≤◌, ◌⊎◌, List, [], ◌∷◌, ◌++◌, length, take, drop, map, refl, sym, ap, ◌∙◌, subst, arith, inl, inr, Bool, true, is_some, length-append, length-take, add-zero}
 use Rattle.std.specs.Prelude.{min}
 use Rattle.std.proofs.lemmas.List.{take-append-le, append-nil, map-append, take_all, take_min}
@@ -25,7 +25,7 @@ use Rattle.arrow_stream_laws.proofs.Chains.{lying-step, lying-stop, take_seam, c
 use Rattle.arrow_stream_laws.proofs.Lyings.{lying_past, lying_within, lying_all, parts-step, parts-stop, parts_past, parts_within, parts_count, no_rows_lying, part_short}
 use Rattle.arrow_stream_laws.proofs.Texts.{part_rows, text_is, text_part, joined_more, rows_in-append, marker_first}
 
--- THE TABLES OF A BEGINNING
+-- THE TABLES OF A PREFIX
 
 take_at_length : (xs ys : List Rows) (n k : ℕ) → n ≡ length xs + k → take n (xs ++ ys) ≡ xs ++ take k ys
 take_at_length xs ys n k e = ap (λ i. take i (xs ++ ys)) e ∙ take-append-add xs ys k
@@ -86,9 +86,9 @@ module _ {l : LimitNumbers} {o : Options} {shape : SchemaShape} where
 first_rows : (n : ℕ) (batches : List Table) → take (min n (length batches)) (map rows_of batches) ≡ take n (map rows_of batches)
 first_rows n batches = ap (λ m. take (min n m) (map rows_of batches)) (sym (rows_count batches)) ∙ take_min n (map rows_of batches)
 
--- WHAT A BEGINNING IS READ AS
+-- WHAT A PREFIX IS READ AS
 
--- the first n bytes of a text are read as the frames that lie in them
+-- the first n bytes of a connection are read as the frames that lie in them
 pub record ReadAs (l : LimitNumbers) (b : List ℕ) (xs : List Frame) : Type 0 where
   pub verdict : Verdict
   pub ends : (verdict ≡ Open) ⊎ (verdict ≡ Done)
@@ -115,7 +115,7 @@ entries_from-append p (x ∷ xs) ys =
     let q : p + length x.bytes + length (frames_bytes xs) ≡ p + length (x.bytes ++ frames_bytes xs) = omega (arith, length-append x.bytes (frames_bytes xs)) in
     ap (λ r. record { given = x.gives; end = p + length x.bytes } ∷ r) (entries_from-append (p + length x.bytes) xs ys ∙ ap (λ k. entries_from (p + length x.bytes) xs ++ entries_from k ys) q)
 
--- the whole of a chain, and then an end marker
+-- a complete chain, and then an end marker
 closed_read : (l : LimitNumbers) (fs : List Frame) (b : List ℕ) → Chain l nothing_yet 0 fs → First l (left_by nothing_yet fs) (length (frames_bytes fs)) b marker → length b ≡ 8 → is_some (left_by nothing_yet fs).schema ≡ true →
     ReadAs l (frames_bytes fs ++ b) (fs ++ marker_frame (left_by nothing_yet fs) b ∷ [])
 closed_read l fs b c m two seen =
@@ -141,7 +141,7 @@ closed_read l fs b c m two seen =
       front = subst (λ r. FrontOf l (frames_bytes fs ++ b) (entries_from 0 (fs ++ last ∷ [])) (record { state = left_by nothing_yet (fs ++ last ∷ []); place = length (frames_bytes (fs ++ last ∷ [])); rest = r; verdict = Done })) rest f3;
     }
 
--- the whole of a chain, and then less than an end marker
+-- a complete chain, and then less than an end marker
 open_read : (l : LimitNumbers) (fs : List Frame) (b : List ℕ) → Chain l nothing_yet 0 fs → length b < 8 → ReadAs l (frames_bytes fs ++ b) fs
 open_read l fs b c short =
     let p = length (frames_bytes fs) in
@@ -204,7 +204,7 @@ module _ {l : LimitNumbers} {o : Options} {shape : SchemaShape} where
             ∙ sym (take_all (later_parts (parts ++ b ∷ []) n) (map rows_of batches) (omega (arith, past, x.count, rows_count batches)))
       ]
 
-  -- what a reader has of the first n bytes of a text
+  -- what a reader has of the first n bytes of a connection
   pub delivered : {finish : Bool} {parts : List (List ℕ)} {batches : List Table} {frames : List Frame} (n : ℕ) → Written l o shape finish parts batches frames → Delivered l parts batches frames n
   delivered {parts = parts} {batches = batches} {frames = frames} n w =
       let r = written_read n w in
@@ -217,7 +217,7 @@ module _ {l : LimitNumbers} {o : Options} {shape : SchemaShape} where
         rows = entries_rows 0 (lying n frames) ∙ written_rows n w ∙ sym (first_rows (later_parts parts n) batches);
       }
 
--- what the frames of a whole text are
+-- what the frames of a connection as it ends are
 pub record WrittenIs (o : Options) (shape : SchemaShape) (parts : List (List ℕ)) (batches : List Table) (frames : List Frame) : Type 0 where
   pub bytes : frames_bytes frames ≡ joined parts
   pub rows : rows_in frames ≡ map rows_of batches
@@ -238,14 +238,14 @@ module _ {l : LimitNumbers} {o : Options} {shape : SchemaShape} where
         dictionaries = ap (λ (s : StreamState). s.dictionaries) (left_by-append nothing_yet frames (last ∷ []) ∙ x.state) ∙ x.sent;
       }
 
-  -- where all bytes lie in the first n, so do all batches
+  -- if all bytes lie in the first n, so do all batches
   pub whole_rows : {finish : Bool} {parts : List (List ℕ)} {batches : List Table} {frames : List Frame} (n : ℕ) → Written l o shape finish parts batches frames → length (joined parts) ≤ n
       → take (later_parts parts n) (map rows_of batches) ≡ map rows_of batches
   whole_rows {frames = frames} n w h =
       let x = written_is w in
       sym (written_rows n w) ∙ ap rows_in (lying_all n frames (omega (arith, ap length x.bytes))) ∙ x.rows
 
-  -- a text is a stream
+  -- the bytes of a connection are a stream
   pub text_stream : {finish : Bool} {parts : List (List ℕ)} {batches : List Table} {frames : List Frame} → Written l o shape finish parts batches frames
       → IsStream l (joined parts) shape (map rows_of batches) (lists_sent o.updates shape.fields [] batches)
   text_stream {parts = parts} {batches = batches} {frames = frames} w =
@@ -254,7 +254,7 @@ module _ {l : LimitNumbers} {o : Options} {shape : SchemaShape} where
       let r = read_at l (take n (joined parts)) (joined parts) (lying n frames) frames (take_all n (joined parts) (omega arith)) (lying_all n frames (omega (arith, ap length x.bytes))) (written_read n w) in
       record {
         entries = entries_from 0 frames;
-        standing = record { state = left_by nothing_yet frames; place = length (frames_bytes frames); rest = drop (length (frames_bytes frames)) (joined parts); verdict = r.verdict };
+        snapshot = record { state = left_by nothing_yet frames; place = length (frames_bytes frames); rest = drop (length (frames_bytes frames)) (joined parts); verdict = r.verdict };
         front = r.front;
         ends = r.ends;
         nothing_left = drop_of_length-le (joined parts) {i = length (frames_bytes frames)} (omega (arith, ap length x.bytes));

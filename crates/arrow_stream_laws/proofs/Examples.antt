@@ -1,5 +1,6 @@
--- The definitions at values: what is chosen, planned, admitted and left of a dictionary that grows, of two dictionaries of one id, of
--- an empty dictionary, without columns and past a limit; where frames end, and how many batches lie in first bytes.
+-- The definitions at values: what is chosen, planned, accepted and left of a dictionary that grows, of two
+-- dictionaries of one id, of an empty dictionary, without columns and past a limit; where frames end, and how many
+-- batches lie in the first bytes.
 use Rattle.std.proofs.Common.{◌≡◌, ℕ, ℤ, pos, ◌+◌, ◌-◌, ◌^◌, Bool, true, false, cond, List, [], ◌∷◌, ◌++◌, length, map, take, Some, None, refl, ap, ◌∙◌, replicate}
 use Rattle.std.specs.List.{list_all}
 use Rattle.std.specs.Prelude.{◌&&◌, not, nat_le}
@@ -7,7 +8,7 @@ use Rattle.std.specs.Coded.{coded_list}
 use Rattle.arrow_flatbuf.specs.Layout.{gap}
 use Rattle.arrow_types.specs.DataType.{utf8}
 use Rattle.arrow_types.specs.Equality.{is_equal, is_equal_decides}
-use Rattle.arrow_types.specs.Field.{Fields, none, more, Head}
+use Rattle.arrow_types.specs.Field.{FieldTree, none, more, FieldHeader}
 use Rattle.arrow_types.specs.Limits.{LimitNumbers, limit_numbers, standard_numbers}
 use Rattle.arrow_types.specs.Notes.{KeyValue, Notes, unnoted, noted, SchemaShape}
 use Rattle.arrow_types.specs.Stored.{schema_code}
@@ -71,19 +72,19 @@ same_no xs ys n = untrue (same_list xs ys) (λ h. n ((is_equal_decides (coded_li
 equal_is_none : (mode : Updates) (xs : List PlainValue) → choice mode (Some xs) xs ≡ updates.None
 equal_is_none mode xs = ap (λ t. cond t updates.None (growth mode xs xs)) (same_yes xs xs refl)
 
--- the old list begins the new one: what comes after it
+-- the old list is a prefix of the new one: the values after it are sent
 grown_is_delta : (old new : List PlainValue) → (old ≡ new → ⊥) → take (length old) new ≡ old → choice modes.Delta (Some old) new ≡ updates.Delta (length old)
 grown_is_delta old new n h =
     ap (λ t. cond t updates.None (growth modes.Delta old new)) (same_no old new n)
     ∙ ap (λ t. cond t (updates.Delta (length old)) updates.Replace) (same_yes (take (length old) new) old h)
 
--- it does not: all of the new one
+-- it is not: all of the new list is sent
 changed_is_replace : (old new : List PlainValue) → (old ≡ new → ⊥) → (take (length old) new ≡ old → ⊥) → choice modes.Delta (Some old) new ≡ updates.Replace
 changed_is_replace old new n h =
     ap (λ t. cond t updates.None (growth modes.Delta old new)) (same_no old new n)
     ∙ ap (λ t. cond t (updates.Delta (length old)) updates.Replace) (same_no (take (length old) new) old h)
 
--- without deltas always all of it
+-- without deltas all of the new list is sent, always
 resent_is_replace : (old new : List PlainValue) → (old ≡ new → ⊥) → choice modes.Resend (Some old) new ≡ updates.Replace
 resent_is_replace old new n = ap (λ t. cond t updates.None updates.Replace) (same_no old new n)
 
@@ -121,25 +122,25 @@ abbrev encoding : Encoding
 encoding = record { id = pos 0; index = record { bits = ThirtyTwo; signed = true }; ordered = false }
 
 -- a nullable field of texts with id 0, named k
-abbrev field : Head
+abbrev field : FieldHeader
 field = record { name = 107 ∷ []; nullable = true; tag = utf8; encoding = Some encoding }
 
-abbrev one_column : Fields
+abbrev one_column : FieldTree
 one_column = more field none none
 
 -- no pairs at any of these fields
-abbrev blank : Fields → Notes
+abbrev blank : FieldTree → Notes
 blank none = unnoted
 blank (more head children rest) = noted [] (blank children) (blank rest)
 
 -- fields as a schema without pairs
-abbrev plain : Fields → SchemaShape
+abbrev plain : FieldTree → SchemaShape
 plain fields = record { fields = fields; pairs = []; notes = blank fields }
 
 abbrev one : SchemaShape
 one = plain one_column
 
--- a column of these indices, which stand for these values of these
+-- a column of these indices, which refer to these values in this list
 abbrev column : List PlainValue → List PlainValue → List PlainValue → Column
 column indices resolved values = record { data_type = record { tag = utf8; children = none }; encoding = Some encoding; raw = indices; resolved = resolved; dictionaries = (pos 0, record { data_type = record { tag = utf8; children = none }; values = values }) ∷ []; offsets = []; below = [] }
 
@@ -158,7 +159,7 @@ second = batch_of (column (index 4 ∷ index 0 ∷ []) (e ∷ a ∷ []) abcde �
 abbrev third : Table
 third = batch_of (column (index 1 ∷ index 3 ∷ []) (c ∷ e ∷ []) acde ∷ []) 2
 
--- the dictionaries where id 0 has these values
+-- the dictionaries in which id 0 has these values
 abbrev having : List PlainValue → List (ℤ × ValueList)
 having values = (pos 0, record { data_type = record { tag = utf8; children = none }; values = values }) ∷ []
 
@@ -192,7 +193,7 @@ third_leaves = ap (λ ws. with_lists one_column ws (having abcde)) third_sends
 all_leave : lists_sent modes.Delta one_column [] (first ∷ second ∷ third ∷ []) ≡ having acde
 all_leave = ap (λ ds. lists_after modes.Delta one_column ds third) second_leaves ∙ third_leaves
 
--- an empty dictionary is sent too, and no second time
+-- an empty dictionary is sent too, but not a second time
 empty_sends : plan modes.Delta one_column [] (batch_of (column [] [] [] ∷ []) 0) ≡ whole_list [] ∷ []
 empty_sends = refl
 
@@ -218,7 +219,7 @@ abbrev ends_from : ℕ → List ℕ → List ℕ
 ends_from p [] = []
 ends_from p (n ∷ ns) = (p + n) ∷ ends_from (p + n) ns
 
--- where the frames of a part end that begins at the place and sends these
+-- where the frames of a batch end, if they begin at the offset and these dictionary batches are sent
 abbrev ends_by : ℕ → Table → List Sending → List ℕ
 ends_by p t ws = ends_from p (map (sending_size 8 one_column) ws ++ record_size 8 one_column t ∷ [])
 
@@ -238,7 +239,7 @@ third_ends : ends modes.Delta (having abcde) 976 third ≡ 1208 ∷ 1368 ∷ []
 unfolding gap
 third_ends = ap (ends_by 976 third) third_sends
 
--- sent whole each time
+-- sent in full each time
 second_ends_whole : ends modes.Resend (having abc) 592 second ≡ 824 ∷ 984 ∷ []
 unfolding gap
 second_ends_whole = ap (ends_by 592 second) second_sends_whole
@@ -252,7 +253,7 @@ third_ends_whole = ap (ends_by 984 third) third_sends_whole
 abbrev options : Updates → Options
 options mode = record { updates = mode; align = 8 }
 
--- the first refusal that applies, by its tests
+-- the first fault that applies, by its tests
 by_tests : (l : LimitNumbers) (o : Options) (shape : SchemaShape) (ds : List (ℤ × ValueList)) (p : ℕ) (t : Table) (x y z : Bool)
     → is_equal schema_code t.schema shape ≡ x → has_one_list t ≡ y → part_fits l o shape.fields ds p t ≡ z
     → admission l o shape ds p t ≡ cond (not x) (Some SchemaDiffers) (cond (not y) (Some DictionariesDiffer) (cond (not z) (Some TooLarge) None))
@@ -268,7 +269,7 @@ same_schema shape = (is_equal_decides schema_code shape shape).1 refl
 one_list : (values : List PlainValue) → same_list values values && true ≡ true
 one_list values = ap (λ t. t && true) (same_yes values values refl)
 
--- whether a part fits that sends these
+-- whether the messages of a batch fit that sends these dictionary batches
 abbrev fits_by : LimitNumbers → ℕ → Table → List Sending → Bool
 fits_by l p t ws =
     list_all (sending_fits l 8 one_column) ws && frame_fits l 8 (batch_size 8 one_column) one_column (raws_of t.columns) t.rows
@@ -286,7 +287,7 @@ third_admitted : admission standard_numbers (options modes.Delta) one (having ab
 unfolding gap
 third_admitted = by_tests standard_numbers (options modes.Delta) one (having abcde) 976 third true true true (same_schema one) (one_list acde) (ap (fits_by standard_numbers 976 third) third_sends)
 
--- at most four rows: the list of five values is refused, though only two of them would be sent
+-- at most four rows: the list of five values is rejected, though only two of them would be sent
 abbrev four_rows : LimitNumbers
 four_rows = limit_numbers (2 ^ 26) (2 ^ 36) 4
 
@@ -294,7 +295,7 @@ second_too_large : admission four_rows (options modes.Delta) one (having abc) 59
 unfolding gap
 second_too_large = by_tests four_rows (options modes.Delta) one (having abc) 592 second true true false (same_schema one) (one_list abcde) (ap (fits_by four_rows 592 second) second_sends)
 
--- the third batch is then compared with what was sent before the refused one
+-- the third batch is then compared with what was sent before the rejected one
 third_sends_instead : plan modes.Delta one_column (having abc) third ≡ whole_list acde ∷ []
 third_sends_instead = ap (λ u. sending (pos 0) u acde ++ []) (changed_is_replace abc acde (λ h. cc) (λ h. cc))
 
@@ -306,7 +307,7 @@ third_ends_instead : ends modes.Delta (having abc) 592 third ≡ 824 ∷ 984 ∷
 unfolding gap
 third_ends_instead = ap (ends_by 592 third) third_sends_instead
 
--- one byte past the last place
+-- one byte past the last offset
 past_the_last_place : admission standard_numbers (options modes.Delta) one [] (2 ^ 62 - 391) first ≡ Some TooLarge
 unfolding gap
 past_the_last_place = by_tests standard_numbers (options modes.Delta) one [] (2 ^ 62 - 391) first true true false (same_schema one) (one_list abc) refl
@@ -328,7 +329,7 @@ schema_too_large = refl
 
 -- TWO COLUMNS OF ONE ID
 
-abbrev two_columns : Fields
+abbrev two_columns : FieldTree
 two_columns = more field none one_column
 
 abbrev two : SchemaShape
@@ -355,7 +356,7 @@ same_lists_admitted = by_tests standard_numbers (options modes.Delta) two [] 200
 sent_once : plan modes.Delta two_columns [] (side_by_side (a ∷ []) (a ∷ [])) ≡ whole_list (a ∷ []) ∷ []
 sent_once = refl
 
--- another schema is told first
+-- a different schema is the first fault
 schema_differs : admission four_rows (options modes.Delta) one [] 200 (side_by_side (a ∷ []) (b ∷ [])) ≡ Some SchemaDiffers
 schema_differs =
     by_tests four_rows (options modes.Delta) one [] 200 (side_by_side (a ∷ []) (b ∷ [])) false (has_one_list (side_by_side (a ∷ []) (b ∷ [])))
@@ -364,7 +365,7 @@ schema_differs =
     other : is_equal schema_code two one ≡ false
     other = untrue (is_equal schema_code two one) (λ h. let same : two_columns ≡ one_column = ap (λ (s : SchemaShape). s.fields) ((is_equal_decides schema_code two one).0 h) in cc)
 
--- so is one that lacks a pair of a key k and a value v, or has it at its field
+-- a schema also differs if it lacks a pair of a key k and a value v, or has it at its field
 abbrev pair : KeyValue
 pair = record { key = 107 ∷ []; value = 118 ∷ [] }
 
@@ -398,7 +399,7 @@ no_columns_admitted : admission standard_numbers (options modes.Delta) (plain no
 unfolding gap
 no_columns_admitted = by_tests standard_numbers (options modes.Delta) (plain none) [] 200 no_columns true true true (same_schema (plain none)) refl refl
 
--- FIRST BYTES, of the parts of the dictionary that grows as deltas
+-- FIRST BYTES, of the messages of the dictionary that grows as deltas
 
 abbrev parts : List (List ℕ)
 parts = replicate 200 0 ∷ replicate 392 0 ∷ replicate 384 0 ∷ replicate 392 0 ∷ replicate 8 0 ∷ []
@@ -418,7 +419,7 @@ before_the_last_byte = refl
 with_the_last_byte : whole_batches parts batches 976 ≡ 2
 with_the_last_byte = refl
 
--- the end marker is no batch
+-- the end marker is not a batch
 with_the_end_marker : whole_batches parts batches 1376 ≡ 3
 with_the_end_marker = refl
 

@@ -1,4 +1,4 @@
--- The frames and the parts that lie in the first bytes.
+-- The frames and the parts of a connection that lie in the first bytes.
 use Rattle.std.proofs.Common.{◌≡◌, ℕ, ◌+◌, ◌-◌, ◌<◌, ◌≤◌, List, [], ◌∷◌, ◌++◌, length, map, refl, sym, ap, ◌∙◌, arith, inl, inr, length-append}
 use Rattle.std.proofs.lemmas.List.{append-nil}
 use Rattle.std.proofs.lemmas.Bool.{cases_lt, le-ltb, lt-ltb}
@@ -10,7 +10,7 @@ use Rattle.arrow_stream_laws.proofs.Chains.{frames_bytes-append, lying-step, lyi
 use Rattle.arrow_stream_laws.proofs.Parts.{NoTables}
 use Rattle.arrow_stream_laws.proofs.Texts.{no_rows}
 
--- FRAMES AND PARTS THAT LIE IN A BEGINNING
+-- FRAMES AND PARTS THAT LIE IN A PREFIX
 
 pub lying_past : (n : ℕ) (xs ys : List Frame) → length (frames_bytes xs) ≤ n → lying n (xs ++ ys) ≡ xs ++ lying (n - length (frames_bytes xs)) ys
 lying_past n [] ys h = let e : n ≡ n - 0 = omega arith in ap (λ k. lying k ys) e
@@ -70,7 +70,7 @@ no_rows_lying n (x ∷ xs) h =
       | inr k ↦ ap rows_in (lying-step n x xs k) ∙ ap (λ r. map rows_of r ++ rows_in (lying (n - length x.bytes) xs)) h.0 ∙ no_rows_lying (n - length x.bytes) xs h.1
     ]
 
--- a part that is not whole gives no table
+-- the messages of a batch that is not complete give no table
 pub part_short : (n : ℕ) (us : List Frame) (f : Frame) → NoTables us → n < length (frames_bytes (us ++ f ∷ [])) → rows_in (lying n (us ++ f ∷ [])) ≡ []
 part_short n us f h k =
     let len = ap length (frames_bytes-append us (f ∷ [])) ∙ length-append (frames_bytes us) (f.bytes ++ []) in

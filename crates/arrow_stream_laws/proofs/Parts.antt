@@ -1,4 +1,4 @@
--- What a writer sends is whole messages, one behind the other: the frames.
+-- A writer sends complete messages, one after another: the frames.
 use Rattle.std.proofs.Common.{◌≡◌, ℕ, ℤ, pos, ◌+◌, ◌^◌, ◌≤◌, ◌&&◌, List, [], ◌∷◌, ◌++◌, length, take, drop, map, refl, sym, ap, ◌∙◌, subst, arith, Bool, true, false, cond, ltb, leb, length-append, Option, Some, None, Ok, is_some}
 use Rattle.std.specs.Prelude.{not, ◌||◌, nat_le, ⊤}
 use Rattle.std.specs.List.{list_all, list_any}
@@ -8,7 +8,7 @@ use Rattle.std.proofs.lemmas.Bool.{le-ltb, leb-true, or_parts}
 use Rattle.arrow_types.specs.Equality.{is_equal, is_equal_decides}
 use Rattle.std.specs.Option.{unwrap_or}
 use Rattle.arrow_types.specs.DataType.{null}
-use Rattle.arrow_types.specs.Field.{Fields, none, more, TypeShape}
+use Rattle.arrow_types.specs.Field.{FieldTree, none, more, TypeShape}
 use Rattle.arrow_types.specs.Limits.{LimitNumbers}
 use Rattle.arrow_types.specs.Notes.{SchemaShape}
 use Rattle.arrow_types.specs.Schema.{IsNoted, dictionary_fields, has_encoding}
@@ -29,7 +29,7 @@ use Rattle.arrow_data.specs.Parts.{values_in}
 use Rattle.arrow_dict.specs.Dictionaries.{placed}
 use Rattle.arrow_dict.specs.ValueTypes.{value_type_of}
 use Rattle.arrow_meta_reader.specs.Means.{PlainBatch, PlainHeader, dictionary}
-use Rattle.arrow_stream_reader.specs.declared.kind.Refusal.TheVariants.{UnknownId, NoBase, Rows}
+use Rattle.arrow_stream_reader.specs.declared.kind.Rejection.TheVariants.{UnknownId, NoBase, Rows}
 use Rattle.arrow_stream_reader.specs.Batch.{columns, base_of, field_of_type, has_bad_length, is_bad_length, with_values}
 use Rattle.arrow_stream_reader.specs.Frame.{is_out_of_order, state_refusal, BodySays, dictionary_comes, First, whole}
 use Rattle.arrow_stream_reader.specs.State.{StreamState, Given, dictionary_given}
@@ -63,14 +63,14 @@ refused : (a : Bool) (k : WriteFault) (o : Option WriteFault) → cond (not a) (
 refused true k o e = (refl, e)
 refused false k o e = absurd (cc)
 
--- what a frame that fits keeps to
-pub record FrameFits (l : LimitNumbers) (z : ℕ) (metadata : ℕ) (fields : Fields) (raws : List (List PlainValue)) (rows : ℕ) : Type 0 where
+-- the limits that a frame that fits keeps to
+pub record FrameFits (l : LimitNumbers) (z : ℕ) (metadata : ℕ) (fields : FieldTree) (raws : List (List PlainValue)) (rows : ℕ) : Type 0 where
   pub metadata_fits : metadata ≤ l.max_metadata
   pub body_fits : size_of z fields raws ≤ l.max_body
   pub rows_fit : rows ≤ l.max_rows
   pub slots_fit : list_all (λ n. nat_le n l.max_rows) (slots_in fields raws) ≡ true
 
-pub frame_fits_so : (l : LimitNumbers) (z : ℕ) (metadata : ℕ) (fields : Fields) (raws : List (List PlainValue)) (rows : ℕ) → frame_fits l z metadata fields raws rows ≡ true → FrameFits l z metadata fields raws rows
+pub frame_fits_so : (l : LimitNumbers) (z : ℕ) (metadata : ℕ) (fields : FieldTree) (raws : List (List PlainValue)) (rows : ℕ) → frame_fits l z metadata fields raws rows ≡ true → FrameFits l z metadata fields raws rows
 frame_fits_so l z metadata fields raws rows e =
     let t1 = leb metadata l.max_metadata in
     let t2 = leb (size_of z fields raws) l.max_body in
@@ -87,7 +87,7 @@ frame_fits_so l z metadata fields raws rows e =
       slots_fit = x.1;
     }
 
--- what a batch that is admitted keeps to
+-- the conditions that an accepted batch meets
 pub record PartFits (l : LimitNumbers) (o : Options) (shape : SchemaShape) (ds : List (ℤ × ValueList)) (place : ℕ) (t : Table) : Type 0 where
   pub same_schema : t.schema ≡ shape
   pub one_list : Agree (listed_of t.columns) (list_of t)
@@ -124,18 +124,18 @@ pub frame_length : {l : LimitNumbers} {size : ℕ} {content : PlainHeader} {body
 frame_length {body = body} f =
     ap length f.bytes ∙ omega (arith, length-append (f.prefix ++ f.metadata) body, length-append f.prefix f.metadata, f.eight, f.sized)
 
--- a frame that the limits and the state allow is one whole message
+-- a frame that the limits and the state allow is one complete message
 pub frame_first : (l : LimitNumbers) (s : StreamState) (p size : ℕ) (content : PlainHeader) (body b : List ℕ) (s' : StreamState) (g : Given) → IsFrameOf l size content body b
     → size ≤ l.max_metadata → p + length b ≤ 2 ^ 62 → is_out_of_order (is_some s.schema) content ≡ false → state_refusal l.max_rows s content ≡ None
     → BodySays s content body (Ok (s', g)) → First l s p b (whole (length b) s' g)
 frame_first l s p size content body b s' g f small near order free says =
     frame_whole l s p size content f.prefix f.metadata body b s' g f.eight f.continued f.number f.sized f.some f.bytes (_, f.means, refl) small near order free says
 
--- what is built is laid out as a reader asks for
-pub layout_of : {align : ℕ} {fields : Fields} {raws : List (List PlainValue)} {rows : ℕ} {record_batch : PlainBatch} {body : List ℕ} → IsBuilt align fields raws rows record_batch body → IsLayout body fields record_batch
+-- what is built has the layout that a reader needs
+pub layout_of : {align : ℕ} {fields : FieldTree} {raws : List (List PlainValue)} {rows : ℕ} {record_batch : PlainBatch} {body : List ℕ} → IsBuilt align fields raws rows record_batch body → IsLayout body fields record_batch
 layout_of x = record { there = (omega (arith, x.columns.just_nodes), omega (arith, x.columns.just_buffers)); laid = x.columns.laid; long = x.level }
 
--- NO ROWS TOO MANY
+-- NOT TOO MANY ROWS
 
 slot_good : (max s : ℕ) (z : ℤ) → z ≡ pos s → leb s max ≡ true → is_bad_length max z ≡ false
 slot_good max s z e h = ap (is_bad_length max) e ∙ le-ltb max s (leb-true s max h)
@@ -153,7 +153,7 @@ slots_good max (n ∷ ns) (s ∷ ss) e h =
     let there : map (λ (n : FieldNode). n.length) ns ≡ map pos ss = cc in
     neither (is_bad_length max n.length) (list_any (λ (n : FieldNode). is_bad_length max n.length) ns) (slot_good max s n.length here w.0) (slots_good max ns ss there w.1)
 
-pub lengths_good : (l : LimitNumbers) (z : ℕ) (metadata : ℕ) (fields : Fields) (raws : List (List PlainValue)) (rows : ℕ) (record_batch : PlainBatch) (body : List ℕ) → IsBuilt z fields raws rows record_batch body
+pub lengths_good : (l : LimitNumbers) (z : ℕ) (metadata : ℕ) (fields : FieldTree) (raws : List (List PlainValue)) (rows : ℕ) (record_batch : PlainBatch) (body : List ℕ) → IsBuilt z fields raws rows record_batch body
     → FrameFits l z metadata fields raws rows → has_bad_length l.max_rows fields record_batch ≡ false
 lengths_good l z metadata fields raws rows record_batch body x f =
     let all : take (taken_nodes fields) record_batch.nodes ≡ record_batch.nodes = take_all (taken_nodes fields) record_batch.nodes (omega (arith, x.columns.just_nodes)) in
@@ -172,7 +172,7 @@ if_all None P p = p
 if_all (Some e) P p = tt
 
 -- without encodings there are no indices
-flat_indexed : (body : List ℕ) (ds : List (ℤ × ValueList)) (fields : Fields) (ns : List FieldNode) (bs : List Buffer) → has_encoding fields ≡ false → AreIndexed body ds fields ns bs
+flat_indexed : (body : List ℕ) (ds : List (ℤ × ValueList)) (fields : FieldTree) (ns : List FieldNode) (bs : List Buffer) → has_encoding fields ≡ false → AreIndexed body ds fields ns bs
 flat_indexed body ds none ns bs e = tt
 flat_indexed body ds (more h c rest) ns bs e =
     let own = or_parts (is_some h.encoding || has_encoding c) (has_encoding rest) e in
@@ -188,7 +188,7 @@ flat_values (Some u) t e h =
     let same : u ≡ t = cc in
     ap (λ b. (false || b) || false) (ap (λ (x : TypeShape). has_encoding x.children) same ∙ h)
 
--- what the one column of values leaves
+-- the state after the one column of values
 values_left : (body : List ℕ) (s : StreamState) (id : ℤ) (delta : Bool) (o : Option TypeShape) (t : TypeShape) (vs : List PlainValue) (ns : List FieldNode) (bs : List Buffer) → o ≡ Some t
     → raws_of (columns_of body [] (field_of_type o) ns bs) ≡ vs ∷ []
     → with_values s id delta (columns_of body [] (field_of_type o) ns bs) ≡ record s { dictionaries = placed id (record { data_type = t; values = base_of delta (listed s.dictionaries id) ++ vs }) s.dictionaries }
@@ -204,7 +204,7 @@ values_left body s id delta (Some u) t vs ns bs e r =
     get [] = []
     get (x ∷ xs) = x
 
-type_is : (fields : Fields) (id : ℤ) (t : TypeShape) → value_type_of (dictionary_fields fields) id ≡ Some t → value_type fields id ≡ t
+type_is : (fields : FieldTree) (id : ℤ) (t : TypeShape) → value_type_of (dictionary_fields fields) id ≡ Some t → value_type fields id ≡ t
 type_is fields id t e = unwrapped (value_type_of (dictionary_fields fields) id) t e where
   unwrapped : (o : Option TypeShape) (t : TypeShape) → o ≡ Some t → unwrap_or o (record { tag = null; children = none }) ≡ t
   unwrapped None t e = absurd (cc)
@@ -223,7 +223,7 @@ NoTables [] = ⊤
 NoTables (f ∷ fs) = (table_in f.gives ≡ []) × NoTables fs
 
 module _ (l : LimitNumbers) (z : ℕ) (shape : SchemaShape) where
-  -- the frame of an update is one whole message
+  -- the frame of an update is one complete message
   pub update_first : (ds : List (ℤ × ValueList)) (w : Sending) (b : List ℕ) (p : ℕ) → IsNoted shape → IsChosen shape.fields ds w → IsUpdate l z shape.fields w b → sending_fits l z shape.fields w ≡ true → p + length b ≤ 2 ^ 62
       → First l (state_of shape ds) p b (whole (length b) (state_of shape (with_list shape.fields w ds)) (dictionary_given w.id))
   update_first ds w b p known chosen u fits near =
@@ -237,14 +237,14 @@ module _ (l : LimitNumbers) (z : ℕ) (shape : SchemaShape) where
       let f = frame_fits_so l z (dictionary_size z own) own (w.carried ∷ []) (length w.carried) two.0 in
       let base = base_of w.is_delta (listed ds w.id) in
       let total : length base + count_of u.record_batch.length ≡ length w.whole =
-      ap (λ n. length base + count_of n) x.long ∙ sym (length-append base w.carried) ∙ ap length chosen.behind in
+      ap (λ n. length base + count_of n) x.long ∙ sym (length-append base w.carried) ∙ ap length chosen.after in
       let none_against : state_refusal l.max_rows s (dictionary w.id w.is_delta u.record_batch) ≡ None =
       allowed_if (is_some o) (w.is_delta && not (is_some (listed ds w.id))) (has_bad_length l.max_rows own u.record_batch) (ltb l.max_rows (length base + count_of u.record_batch.length))
       (ap is_some named) chosen.there (lengths_good l z (dictionary_size z own) own (w.carried ∷ []) (length w.carried) u.record_batch u.body x f)
       (le-ltb l.max_rows (length base + count_of u.record_batch.length) (let few = leb-true (length w.whole) l.max_rows two.1 in omega arith)) in
       let indexed = flat_indexed u.body [] own u.record_batch.nodes u.record_batch.buffers (flat_values o t named (values_flat shape.fields w.id t known.schema named)) in
       let left = values_left u.body s w.id w.is_delta o t w.carried u.record_batch.nodes u.record_batch.buffers named (x.columns.raw [])
-      ∙ ap (λ vs. state_of shape (placed w.id (record { data_type = t; values = vs }) ds)) chosen.behind
+      ∙ ap (λ vs. state_of shape (placed w.id (record { data_type = t; values = vs }) ds)) chosen.after
       ∙ ap (λ y. state_of shape (placed w.id (record { data_type = y; values = w.whole }) ds)) (sym (type_is shape.fields w.id t named)) in
       frame_first l s p (dictionary_size z own) (dictionary w.id w.is_delta u.record_batch) u.body b (state_of shape (with_list shape.fields w ds)) (dictionary_given w.id) u.frame f.metadata_fits near refl none_against
       (dictionary_comes (columns (layout_of x) x.columns.text indexed) (ap (λ y. Ok (y, dictionary_given w.id)) (sym left)))

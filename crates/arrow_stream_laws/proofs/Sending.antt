@@ -1,8 +1,8 @@
--- What is sent is a function of what the batches hold.
+-- The bytes that are sent are a function of what the batches hold.
 use Rattle.std.proofs.Common.{◌≡◌, ℕ, ℤ, Bool, List, [], ◌∷◌, ◌++◌, map, refl, sym, ap, ◌∙◌}
 use Rattle.std.specs.List.{flat_map}
 use Rattle.std.proofs.lemmas.List.{append-nil}
-use Rattle.arrow_types.specs.Field.{Fields}
+use Rattle.arrow_types.specs.Field.{FieldTree}
 use Rattle.arrow_types.specs.Limits.{LimitNumbers}
 use Rattle.arrow_types.specs.Notes.{SchemaShape}
 use Rattle.arrow_data.specs.Batch.{Table}
@@ -21,13 +21,13 @@ use Rattle.arrow_stream_laws.specs.Text.{AreUpdates, IsPart, IsUpdate, Text, Wri
 use Rattle.arrow_stream_laws.proofs.Chains.{frames_bytes-append}
 use Rattle.arrow_stream_laws.proofs.Texts.{text_is}
 
--- a record batch and a body are those that are stored
-built_batch : {align : ℕ} {fields : Fields} {raws : List (List PlainValue)} {rows : ℕ} {record_batch : PlainBatch} {body : List ℕ} → IsBuilt align fields raws rows record_batch body
+-- a record batch and a body are those that `stored` gives
+built_batch : {align : ℕ} {fields : FieldTree} {raws : List (List PlainValue)} {rows : ℕ} {record_batch : PlainBatch} {body : List ℕ} → IsBuilt align fields raws rows record_batch body
     → record_batch ≡ batch_of (stored align fields raws) rows
 built_batch x = λ i. record { length = x.long i; nodes = (x.one i).nodes; buffers = (x.one i).buffers }
 
--- so a frame of them is the one of what is stored
-update_is : {l : LimitNumbers} {align : ℕ} {fields : Fields} {w : Sending} {b : List ℕ} → IsUpdate l align fields w b → b ≡ update_bytes align fields w
+-- so a frame of them is the one of what `stored` gives
+update_is : {l : LimitNumbers} {align : ℕ} {fields : FieldTree} {w : Sending} {b : List ℕ} → IsUpdate l align fields w b → b ≡ update_bytes align fields w
 update_is {align = align} {fields = fields} {w = w} u =
     u.frame.one
     ∙ (λ i. frame_of (dictionary_size align (fields_for fields w.id)) (dictionary w.id w.is_delta (built_batch u.built i)) (u.built.one i).bytes)
@@ -49,8 +49,8 @@ part_is {l = l} {o = o} {shape = shape} {ds = ds} {t = t} x =
     x.frame.one ∙ (λ i. frame_of (batch_size o.align shape.fields) (batch (built_batch x.built i)) (x.built.one i).bytes) in
     ap frames_bytes x.frames ∙ frames_bytes-append x.updated (f ∷ []) ∙ (λ i. first i ++ (append-nil x.last ∙ last) i)
 
--- the parts of one batch more
-parts_more : (o : Options) (fields : Fields) (ds : List (ℤ × ValueList)) (ts : List Table) (t : Table)
+-- the parts with one more batch
+parts_more : (o : Options) (fields : FieldTree) (ds : List (ℤ × ValueList)) (ts : List Table) (t : Table)
     → parts_of o fields ds (map content_of (ts ++ t ∷ [])) ≡ parts_of o fields ds (map content_of ts) ++ part_of o fields (lists_sent o.updates fields ds ts) (content_of t) ∷ []
 parts_more o fields ds [] t = refl
 parts_more o fields ds (x ∷ ts) t = ap (λ r. part_of o fields ds (content_of x) ∷ r) (parts_more o fields (lists_after o.updates fields ds x) ts t)
@@ -64,7 +64,7 @@ text_sent {o = o} {shape = shape} (adds parts batches frames t fs text y) =
     let last = part_is y ∙ ap (λ ds. part_of o shape.fields ds (content_of t)) lists in
     (λ i. text_sent text i ++ last i ∷ []) ∙ ap (λ r. schema_bytes o shape ∷ r) (sym (parts_more o shape.fields [] batches t))
 
--- what is sent of a connection
+-- what is sent on a connection
 pub written_sent : {l : LimitNumbers} {o : Options} {shape : SchemaShape} {finish : Bool} {parts : List (List ℕ)} {batches : List Table} {frames : List Frame}
     → Written l o shape finish parts batches frames → parts ≡ sent_of o shape finish (map content_of batches)
 written_sent {o = o} {shape = shape} (unfinished parts batches frames text) = text_sent text ∙ sym (append-nil (schema_bytes o shape ∷ parts_of o shape.fields [] (map content_of batches)))

@@ -1,10 +1,10 @@
--- What a writer sends is a chain of frames that give the rows of its batches.
+-- A writer sends a chain of frames that give the rows of its batches.
 use Rattle.std.proofs.Common.{◌≡◌, ℕ, ℤ, ◌+◌, ◌^◌, List, [], ◌∷◌, ◌++◌, length, map, refl, sym, ap, ◌∙◌, subst, arith, Bool, true, false, cond, leb, length-append, append_assoc, Some, None, Ok, is_some}
 use Rattle.std.specs.Prelude.{◌&&◌, not}
 use Rattle.arrow_types.specs.TypeSet.{leaves_some_out}
 use Rattle.std.proofs.lemmas.List.{append-nil, map-append}
 use Rattle.std.proofs.lemmas.Bool.{leb-true}
-use Rattle.arrow_types.specs.Field.{Fields}
+use Rattle.arrow_types.specs.Field.{FieldTree}
 use Rattle.arrow_types.specs.Limits.{LimitNumbers}
 use Rattle.arrow_types.specs.Notes.{SchemaShape}
 use Rattle.arrow_types.specs.Schema.{IsNoted}
@@ -16,7 +16,7 @@ use Rattle.arrow_body_reader.specs.Sound.{columns_of}
 use Rattle.arrow_body_reader.proofs.Columns.{columns_typed}
 use Rattle.arrow_body_reader.proofs.Readings.{columns_resolve}
 use Rattle.arrow_meta_reader.specs.Means.{schema, batch}
-use Rattle.arrow_stream_reader.specs.declared.kind.Refusal.TheVariants as kinds
+use Rattle.arrow_stream_reader.specs.declared.kind.Rejection.TheVariants as kinds
 use Rattle.arrow_stream_reader.specs.Batch.{columns}
 use Rattle.arrow_stream_reader.specs.Frame.{BodySays, schema_comes, batch_comes, First, marker, state_refusal}
 use Rattle.arrow_stream_reader.specs.State.{StreamState, batch_given, schema_given, nothing_yet}
@@ -33,11 +33,11 @@ use Rattle.arrow_stream_laws.specs.Frames.{Frame, frames_bytes, left_by, IsMarke
 use Rattle.arrow_stream_laws.proofs.Chains.{Chain, rows_in}
 use Rattle.arrow_stream_laws.specs.Text.{state_of, table_read, record_frame, IsPart, joined, Text, begins, adds}
 use Rattle.arrow_stream_laws.proofs.Chains.{frames_bytes-append, left_by-append, Chain-append}
-use Rattle.arrow_stream_laws.proofs.Columns.{columns_stand, have_entries, raw_same, resolved_same}
+use Rattle.arrow_stream_laws.proofs.Columns.{columns_hold, have_entries, raw_same, resolved_same}
 use Rattle.arrow_stream_laws.proofs.Lists.{plan_sent, ids_agree}
 use Rattle.arrow_stream_laws.proofs.Parts.{layout_of, part_fits_so, frame_length, frame_first, lengths_good, NoTables, updates_chain}
 
--- A PART
+-- THE MESSAGES OF A BATCH
 
 -- what the frames of a batch are
 pub record PartIs (l : LimitNumbers) (o : Options) (shape : SchemaShape) (ds : List (ℤ × ValueList)) (p : ℕ) (t : Table) (fs : List Frame) : Type 0 where
@@ -67,14 +67,14 @@ module _ {l : LimitNumbers} {o : Options} {shape : SchemaShape} where
       let up = updates_chain l o.align shape ds ws p x.updated known sent.chosen x.updates f.updates_fit (omega arith) in
       let agree = ids_agree (values_by es) (list_of t) shape.fields sent.lists_are in
       let typed : AreOf shape.fields t.columns = subst (λ (v : SchemaShape). AreOf v.fields t.columns) f.same_schema x.known.table.typed in
-      let stand = columns_stand (list_of t) t.columns x.known.columns f.one_list in
-      let indexed = x.built.columns.indexed es (have_entries (values_by es) (list_of t) shape.fields t.columns typed agree stand) in
+      let lie = columns_hold (list_of t) t.columns x.known.columns f.one_list in
+      let indexed = x.built.columns.indexed es (have_entries (values_by es) (list_of t) shape.fields t.columns typed agree lie) in
       let ns = x.record_batch.nodes in
       let bs = x.record_batch.buffers in
       let cs = columns_of x.body es shape.fields ns bs in
       let raw : raws_of cs ≡ raws_of t.columns = raw_same x.body es [] shape.fields ns bs ∙ x.built.columns.raw [] in
       let resolved : resolved_of cs ≡ resolved_of t.columns =
-      resolved_same es (list_of t) shape.fields cs t.columns (columns_typed x.body es shape.fields ns bs) typed agree (columns_resolve x.body es shape.fields ns bs indexed) stand raw in
+      resolved_same es (list_of t) shape.fields cs t.columns (columns_typed x.body es shape.fields ns bs) typed agree (columns_resolve x.body es shape.fields ns bs indexed) lie raw in
       let table = table_read shape es x.record_batch x.body t.rows in
       let same_schema : shape ≡ t.schema = sym f.same_schema in
       let rows : rows_of table ≡ rows_of t = λ i. record { schema = same_schema i; raw = raw i; resolved = resolved i; count = t.rows } in
@@ -100,7 +100,7 @@ module _ {l : LimitNumbers} {o : Options} {shape : SchemaShape} where
         sized = ap (λ y. length (frames_bytes y)) x.frames ∙ ap length (frames_bytes-append x.updated (last ∷ [])) ∙ length-append (frames_bytes x.updated) (x.last ++ []) ∙ ap (λ n. n + length (x.last ++ [])) up.sized ∙ ap (λ n. us + n) (ap length (append-nil x.last) ∙ len);
       }
 
--- A TEXT
+-- A CONNECTION
 
 pub joined-append : (ps qs : List (List ℕ)) → joined (ps ++ qs) ≡ joined ps ++ joined qs
 joined-append [] qs = refl
@@ -121,12 +121,12 @@ pub part_rows : {l : LimitNumbers} {o : Options} {shape : SchemaShape} {ds : Lis
 part_rows x =
     ap rows_in x.frames ∙ rows_in-append x.updated (x.last ∷ []) ∙ ap (λ r. r ++ rows_in (x.last ∷ [])) (no_rows x.updated x.no_tables) ∙ ap (λ r. r ++ []) x.gives
 
--- the dictionaries after one batch more
-sent_more : (mode : Updates) (fields : Fields) (ds : List (ℤ × ValueList)) (ts : List Table) (t : Table) → lists_sent mode fields ds (ts ++ t ∷ []) ≡ lists_after mode fields (lists_sent mode fields ds ts) t
+-- the dictionaries after one more batch
+sent_more : (mode : Updates) (fields : FieldTree) (ds : List (ℤ × ValueList)) (ts : List Table) (t : Table) → lists_sent mode fields ds (ts ++ t ∷ []) ≡ lists_after mode fields (lists_sent mode fields ds ts) t
 sent_more mode fields ds [] t = refl
 sent_more mode fields ds (x ∷ ts) t = sent_more mode fields (lists_after mode fields ds x) ts t
 
--- what the frames of a text are
+-- what the frames of a connection are
 pub record TextIs (l : LimitNumbers) (o : Options) (shape : SchemaShape) (parts : List (List ℕ)) (batches : List Table) (frames : List Frame) : Type 0 where
   pub known : IsNoted shape
   pub lists : List (ℤ × ValueList)
@@ -142,7 +142,7 @@ schema_fits true true c e = (refl, refl)
 schema_fits true false c e = absurd (cc)
 schema_fits false b c e = absurd (cc)
 
--- the end marker stands where a text ends
+-- the end marker follows the messages of a connection
 pub marker_first : (l : LimitNumbers) (shape : SchemaShape) (ds : List (ℤ × ValueList)) (s : StreamState) (p : ℕ) (b : List ℕ) → s ≡ state_of shape ds → IsMarker b → marker_fits p ≡ true → First l s p b marker
 marker_first l shape ds s p b e m h =
     marker_whole l s p b m.eight m.continued m.number (ap (λ (x : StreamState). is_some x.schema) e) (leb-true (p + 8) (2 ^ 62) h)

@@ -11,12 +11,12 @@ use Rattle.arrow_meta_reader.specs.Means.{PlainHeader, PlainMessage}
 use Rattle.arrow_meta_writer.specs.Metadata.{metadata}
 use Rattle.arrow_stream_reader.specs.declared.reader.Verdict.TheVariants.{Open, Done}
 use Rattle.arrow_stream_reader.specs.Frame.{has_continuation, number_at}
-use Rattle.arrow_stream_reader.specs.Front.{Entry, Standing, FrontOf}
+use Rattle.arrow_stream_reader.specs.Front.{Entry, Snapshot, FrontOf}
 use Rattle.arrow_stream_reader.specs.State.{StreamState, Given}
 use Rattle.arrow_stream_reader.specs.Tables.{tables_of}
 use Rattle.arrow_stream_laws.specs.Rows.{Rows, rows_of}
 
--- A frame, or the end marker: its bytes, what it gives, and the state that it leaves.
+-- A frame, or the end marker: its bytes, what it gives, and the state after it.
 pub record Frame : Type 0 where
   pub bytes : List ℕ
   pub gives : Given
@@ -32,22 +32,22 @@ abbrev pub left_by : StreamState → List Frame → StreamState
 left_by s [] = s
 left_by s (f ∷ fs) = left_by f.leaves fs
 
--- the first frames, as far as they lie wholly in the first n bytes
+-- the first frames, as long as they lie completely in the first n bytes
 abbrev pub lying : ℕ → List Frame → List Frame
 lying n [] = []
 lying n (f ∷ fs) = if nat_lt n (length f.bytes) then [] else f ∷ lying (n - length f.bytes) fs
 
--- the first entries, as far as they end at place n or before
+-- the first entries, as long as they end at offset n or before
 abbrev pub ending_by : ℕ → List Entry → List Entry
 ending_by n [] = []
 ending_by n (e ∷ es) = if nat_lt n e.end then [] else e ∷ ending_by n es
 
--- where the last of them ends, or p
+-- where the last of the entries ends, or p if there are none
 abbrev pub last_end : ℕ → List Entry → ℕ
 last_end p [] = p
 last_end p (e ∷ es) = last_end e.end es
 
--- the eight bytes before metadata of so many bytes: the continuation, then their number
+-- the eight bytes before n bytes of metadata: the continuation, then the number n
 abbrev pub prefix_bytes : ℕ → List ℕ
 prefix_bytes n = 255 ∷ 255 ∷ 255 ∷ 255 ∷ number_bytes 4 n
 
@@ -55,7 +55,7 @@ prefix_bytes n = 255 ∷ 255 ∷ 255 ∷ 255 ∷ number_bytes 4 n
 abbrev pub padded : PlainMessage → ℕ → List ℕ
 padded m size = metadata m ++ replicate (size - length (metadata m)) 0
 
--- the frame of the message with this body, whose metadata take so many bytes
+-- the frame of the message with this body, whose metadata take `size` bytes
 abbrev pub framed : PlainMessage → ℕ → List ℕ → List ℕ
 framed m size body = prefix_bytes size ++ padded m size ++ body
 
@@ -63,10 +63,10 @@ framed m size body = prefix_bytes size ++ padded m size ++ body
 abbrev pub message_of : PlainHeader → List ℕ → PlainMessage
 message_of content body = record { version = versions.V5; header = content; body_len = length body }
 
--- b is the frame of this content and this body: the continuation and the size of the metadata, which is not 0, in eight bytes; the
--- metadata, which mean a message of version V5 with the content and the length of the body; the body (Columnar Format,
--- "Encapsulated message format"; Schema.fbs, enum "MetadataVersion"). Of all metadata that mean this message they are those that the
--- function `metadata` gives, and zero bytes after them.
+-- b is the frame of this content and this body: the continuation and the size of the metadata, which is not 0, in
+-- eight bytes; the metadata, which decode to a message of version V5 with the content and the length of the body; the
+-- body (Columnar Format, "Encapsulated message format"; Schema.fbs, enum "MetadataVersion"). Of all metadata that
+-- decode to this message they are those that the function `metadata` gives, followed by zero bytes.
 pub record IsFrameOf (limits : LimitNumbers) (size : ℕ) (content : PlainHeader) (body b : List ℕ) : Type 0 where
   pub prefix : List ℕ
   pub metadata : List ℕ
@@ -86,15 +86,15 @@ pub record IsMarker (b : List ℕ) : Type 0 where
   pub number : number_at b 4 ≡ 0
   pub one : b ≡ prefix_bytes 0
 
--- b is a stream: whole messages, perhaps closed by the end marker, and nothing after them; they set the schema, give these rows in
--- their order and leave these dictionaries (Columnar Format, "IPC Streaming Format").
+-- b is a stream: complete messages, perhaps closed by the end marker, and nothing after them; they set the schema,
+-- give these rows in their order and leave these dictionaries (Columnar Format, "IPC Streaming Format").
 pub record IsStream (limits : LimitNumbers) (b : List ℕ) (shape : SchemaShape) (given : List Rows) (last : List (ℤ × ValueList)) : Type 0 where
   pub entries : List Entry
-  pub standing : Standing
-  pub front : FrontOf limits b entries standing
-  pub ends : (standing.verdict ≡ Open) ⊎ (standing.verdict ≡ Done)
-  pub nothing_left : standing.rest ≡ []
-  pub place : standing.place ≡ length b
-  pub schema : standing.state.schema ≡ Some shape
+  pub snapshot : Snapshot
+  pub front : FrontOf limits b entries snapshot
+  pub ends : (snapshot.verdict ≡ Open) ⊎ (snapshot.verdict ≡ Done)
+  pub nothing_left : snapshot.rest ≡ []
+  pub place : snapshot.place ≡ length b
+  pub schema : snapshot.state.schema ≡ Some shape
   pub rows : map rows_of (tables_of entries) ≡ given
-  pub dictionaries : standing.state.dictionaries ≡ last
+  pub dictionaries : snapshot.state.dictionaries ≡ last

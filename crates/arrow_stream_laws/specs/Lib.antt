@@ -8,4 +8,4 @@ pub mod Text
 pub mod Sent
 pub mod Laws
 pub mod Writer
-pub mod Standing
+pub mod Snapshot

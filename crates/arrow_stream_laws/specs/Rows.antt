@@ -25,7 +25,7 @@ pub record Rows : Type 0 where
 abbrev pub rows_of : Table → Rows
 rows_of t = record { schema = t.schema; raw = raws_of t.columns; resolved = resolved_of t.columns; count = t.rows }
 
--- the values of the batch's dictionary of an id, the one that is listed first for it, none where no column refers to one
+-- the values of the batch's dictionary of an id, the one that is listed first for it, none if no column refers to one
 abbrev pub list_of : Table → ℤ → List PlainValue
 list_of t = values_by (listed_of t.columns)
 
@@ -33,7 +33,7 @@ list_of t = values_by (listed_of t.columns)
 abbrev pub has_one_list : Table → Bool
 has_one_list t = list_all (λ (d : ℤ × ValueList). same_list (list_of t d.0) d.1.values) (listed_of t.columns)
 
--- what is known of every batch and of each of its columns
+-- what holds of every batch and of each of its columns
 pub record IsKnown (t : Table) : Type 0 where
   pub table : IsTable t
   pub columns : AllByRecursion IsColumn t.columns

@@ -1,22 +1,22 @@
-//! Laws of the definitions, which no code stands behind. Each is the contract of a function that
-//! does nothing. Those that say what a reader has of some bytes also say that bytes have one front,
-//! so that there is nothing else to have of them.
+//! Laws of the definitions, without code. Each is the contract of a function that does nothing.
+//! Those that state what a reader has of some bytes also state that the complete messages of bytes
+//! are unique, so that there is nothing else to have of them.
 
 ghost use Rattle.arrow_stream_reader.specs.Laws.{OneFront};
 ghost use Rattle.arrow_stream_laws.specs.Laws.{DeliveredBeginning, FramesAreAligned};
 ghost use Rattle.arrow_stream_laws.specs.Laws.{FramesOfABeginning, TextIsAStream};
 ghost use Rattle.arrow_stream_laws.specs.Sent.{OneText};
-ghost use Rattle.arrow_stream_laws.specs.Standing.{BrokenIsDelivered, EndIsDelivered, MarkerBroken};
-ghost use Rattle.arrow_stream_laws.specs.Standing.{MarkerSent, PartBroken, PartSent, SchemaSent};
-ghost use Rattle.arrow_stream_laws.specs.Standing.{SentIsAStream, StartIsDelivered};
+ghost use Rattle.arrow_stream_laws.specs.Snapshot.{BrokenIsDelivered, EndIsDelivered, MarkerBroken};
+ghost use Rattle.arrow_stream_laws.specs.Snapshot.{MarkerSent, PartBroken, PartSent, SchemaSent};
+ghost use Rattle.arrow_stream_laws.specs.Snapshot.{SentIsAStream, StartIsDelivered};
 
-/// The frames of a beginning of a stream are the first frames of the stream and no others.
+/// The frames of a prefix of a stream are the first frames of the stream and no others.
 pub fn frames_of_a_beginning()
     ensures single { OneFront }
     ensures begins { FramesOfABeginning }
 {}
 
-/// The text of a connection is a stream of the rows of its batches, and its last dictionaries are
+/// The bytes of a connection are a stream of the rows of its batches, and its last dictionaries are
 /// those that were sent for these.
 pub fn text_is_a_stream()
     ensures stream { TextIsAStream }
@@ -28,23 +28,24 @@ pub fn one_text()
     ensures { OneText }
 {}
 
-/// Of the first bytes of the text of a connection, however many, nothing is refused: a reader has
-/// the rows of just the batches whose last byte is among them, and the dictionaries after the frames
-/// that lie there wholly.
+/// The first bytes of a connection, however many, are never rejected: a reader has the rows of
+/// exactly the batches whose last byte is among them, and the dictionaries after the frames that
+/// lie there completely.
 pub fn delivered_beginning()
     ensures single { OneFront }
     ensures delivered { DeliveredBeginning }
 {}
 
-/// Each frame of the text of a connection takes a multiple of the alignment, so that each of them
-/// begins at one, and with `IsTidy` each buffer too.
+/// The size of each frame of a connection is a multiple of the alignment, so that each frame begins
+/// at such a multiple, and with `IsCanonical` each buffer does too.
 pub fn frames_are_aligned()
     ensures aligned { FramesAreAligned }
 {}
 
-/// Where a writer stands after its calls, by what its sink accepted: at the schema, at one part and
-/// one batch more, finished, or broken with a beginning of the parts sent.
-pub fn calls_stand()
+/// The state of a writer after its calls, by what its sink accepted: the schema is sent, one more
+/// part and one more batch are sent, the writer is finished, or it is broken and a prefix of the
+/// parts is sent.
+pub fn calls_keep_position()
     ensures schema { SchemaSent }
     ensures part { PartSent }
     ensures broken { PartBroken }
@@ -52,10 +53,10 @@ pub fn calls_stand()
     ensures broken_at_end { MarkerBroken }
 {}
 
-/// What a sink that tells accepted of a writer is a stream of the rows of the batches that were
-/// accepted; where it failed, in the schema's frame, in the part of a batch or in the end marker, it
-/// is a beginning of such a text, of which a reader has the rows of just the batches that came
-/// wholly.
+/// What a sink accepted from a writer, if the sink reports it, is a stream of the rows of the
+/// batches that were accepted. If the sink failed, in the schema's frame, in the messages of a
+/// batch or in the end marker, it is a prefix of the bytes of such a connection, and a reader has
+/// of it the rows of exactly the batches that came completely.
 pub fn sent_is_a_stream()
     ensures stream { SentIsAStream }
     ensures broken_at_start { StartIsDelivered }

@@ -1,24 +1,24 @@
--- What the steps of reading rest on: sizes that were judged are small, and what is held shows its parts.
+-- Lemmas for the steps of reading: sizes that passed the checks are small, and the bytes held show their parts.
 use Rattle.std.proofs.Common.{◌≡◌, ℕ, ◌+◌, ◌-◌, ◌^◌, ◌<◌, ◌≤◌, inl, inr, Bool, true, false, cond, ltb, eqb, List, [], ◌++◌, length, take, drop, refl, sym, ap, ◌∙◌, subst, arith, Option, Some, None, Result, Ok, Err, length-append, length-drop, length-take}
 use Rattle.std.specs.Prelude.{is_some, not}
 use Rattle.std.proofs.lemmas.Bool.{ltb-false}
 use Rattle.std.proofs.lemmas.List.{append_assoc, take_all}
 use Rattle.arrow_types.specs.Limits.{LimitNumbers}
 use Rattle.arrow_meta_reader.specs.declared.fault.MetaFault.{MetaFault}
-use Rattle.arrow_stream_reader.specs.declared.kind.Refusal.{Refusal}
-use Rattle.arrow_stream_reader.specs.declared.kind.Refusal.TheVariants.{Continuation, MetadataSize, BodyLength, Order, NoSchema}
+use Rattle.arrow_stream_reader.specs.declared.kind.Rejection.{Rejection}
+use Rattle.arrow_stream_reader.specs.declared.kind.Rejection.TheVariants.{Continuation, MetadataSize, BodyLength, Order, NoSchema}
 use Rattle.arrow_stream_reader.specs.declared.prefix.Prefix.{Prefix}
 use Rattle.arrow_stream_reader.specs.declared.prefix.Prefix.TheVariants as prefixes
 use Rattle.arrow_stream_reader.specs.Message.{Message}
 use Rattle.arrow_stream_reader.specs.State.{StreamState, Given}
 use Rattle.arrow_stream_reader.specs.Meaning.{Means}
 use Rattle.arrow_stream_reader.specs.Frame.{prefix_says, judged, state_refusal, refused_first, is_out_of_order, MetadataSays, number_at, has_continuation, BodySays, bad_metadata, bad_body, message_comes, HasPrefix, HasMetadata, HasBody}
-use Rattle.arrow_stream_reader.specs.declared.message.Content.{Content as HeldContent}
+use Rattle.arrow_stream_reader.specs.declared.message.MessageBody.{MessageBody as HeldContent}
 use Rattle.arrow_stream_reader.specs.declared.message.Message.{Message as HeldMessage}
 use Rattle.arrow_stream_reader.specs.declared.state.State.{State}
 use Rattle.arrow_stream_reader.specs.Views.{Applies, IsFit, Ready, content_of, message_of, plain, MessageRead}
-use Rattle.arrow_stream_reader.specs.declared.stop.Stop.{Stop}
-use Rattle.arrow_stream_reader.specs.declared.stop.Stop.TheVariants.{Refused, Memory}
+use Rattle.arrow_stream_reader.specs.declared.decode_error.DecodeError.{DecodeError}
+use Rattle.arrow_stream_reader.specs.declared.decode_error.DecodeError.TheVariants.{Refused, Memory}
 use Rattle.arrow_stream_reader.specs.declared.decoder.Decoder.{Decoder}
 use Rattle.arrow_stream_reader.specs.declared.reader.Verdict.TheVariants.{Open}
 use Rattle.arrow_stream_reader.specs.declared.decoder.Phase.{Phase}
@@ -30,7 +30,7 @@ use Rattle.arrow_stream_reader.specs.Decoder.{Filled, Finishes, IsAt, NotApplied
 use Rattle.arrow_stream_reader.proofs.Firsts.{HasMetadata-append, metadata_held, body_held}
 use Rattle.arrow_stream_reader.proofs.Meanings.{meaning_small}
 
--- where the tests of a prefix answer a size, both limits were kept
+-- if the tests of a prefix return a size, both limits were kept
 size_cases : (a b c d e : Bool) (n m : ℕ) →
     cond a (Err Continuation) (cond b (Err MetadataSize) (cond c (Err MetadataSize) (cond d (Ok (prefixes.Metadata n)) (cond e (Err NoSchema) (Ok prefixes.EndMarker))))) ≡ Ok (prefixes.Metadata m) → (b ≡ false) × (c ≡ false) × (n ≡ m)
 size_cases true b c d e n m q = absurd (cc)
@@ -40,7 +40,7 @@ size_cases false false false false true n m q = absurd (cc)
 size_cases false false false false false n m q = absurd (cc)
 size_cases false false false true e n m q = (refl, refl, (cc))
 
--- a size that a prefix says is within the limits
+-- the size in a prefix is within the limits
 prefix_small : (l : LimitNumbers) (seen : Bool) (p : ℕ) (b : List ℕ) (m : ℕ) →
     prefix_says l seen p b ≡ Ok (prefixes.Metadata m) → (m ≤ l.max_metadata) × (p + 8 + m ≤ 2 ^ 62)
 prefix_small l seen p b m e =
@@ -57,8 +57,9 @@ marker_cases false true c d e n q = absurd (cc)
 marker_cases false false true d e n q = absurd (cc)
 marker_cases false false false d e n q = refl
 
--- what the place does not refuse ends by the last place and is in order, and nothing else stands against it
-placed_cases : (a b : Bool) (k : Option Refusal) (u t : Message) →
+-- a message that is not rejected for its offset or order ends by the last offset and is in order, and what was read
+-- before decides no kind
+placed_cases : (a b : Bool) (k : Option Rejection) (u t : Message) →
     Ok t ≡ refused_first (cond a (Some BodyLength) (cond b (Some Order) None)) (refused_first k (Ok u)) →
     (a ≡ false) × (b ≡ false) × (k ≡ None) × (u ≡ t)
 placed_cases true b k u t e = absurd (cc)
@@ -66,7 +67,8 @@ placed_cases false true k u t e = absurd (cc)
 placed_cases false false None u t e = (refl, refl, refl, (cc))
 placed_cases false false (Some k) u t e = absurd (cc)
 
--- A message that is judged is meant, ends by the last place, is in order, and nothing stands against it.
+-- A message that passed the checks is meant by its metadata, ends by the last offset and is in order, and what was
+-- read before decides no kind.
 record IsJudged (n : ℕ) (s : StreamState) (p : ℕ) (d : Result Message MetaFault) (t : Message) : Type 0 where
   pub meant : d ≡ Ok t
   pub near : p + t.body_len ≤ 2 ^ 62
@@ -88,12 +90,12 @@ is_judged n s p (Ok u) t e =
 is_judged n s p (Err f) t e = absurd (cc)
 
 module _ {l : LimitNumbers} {s : StreamState} {p : ℕ} where
-  -- a prefix says a size within the limit, which ends by the last place
+  -- the size in a prefix is within the limit, and the metadata end by the last offset
   pub size_small : {b : List ℕ} {m : ℕ} → HasPrefix l s p b (Ok (prefixes.Metadata m)) →
       (m ≤ l.max_metadata) × (p + 8 + m ≤ 2 ^ 62)
   size_small {b} {m} h = prefix_small l (is_some s.schema) p (take 8 b) m h.says
 
-  -- an end marker ends by the last place
+  -- an end marker ends by the last offset
   pub marker_small : {b : List ℕ} → HasPrefix l s p b (Ok prefixes.EndMarker) → p + 8 ≤ 2 ^ 62
   marker_small {b} h =
       let c = take 8 b in
@@ -104,7 +106,7 @@ module _ {l : LimitNumbers} {s : StreamState} {p : ℕ} where
   judged_at : {b : List ℕ} {m : ℕ} {t : Message} (h : HasMetadata l s p b m (Ok t)) → IsJudged l.max_rows s (p + 8 + length (take m (drop 8 b))) h.says.meant t
   judged_at {b} {m} {t} h = is_judged l.max_rows s (p + 8 + length (take m (drop 8 b))) h.says.meant t h.says.says
 
-  -- the parts of a frame are within their limits, and it ends by the last place
+  -- the parts of a frame are within their limits, and it ends by the last offset
   pub frame_small : {b : List ℕ} {m : ℕ} {t : Message} → HasMetadata l s p b m (Ok t) →
       (m ≤ l.max_metadata) × (t.body_len ≤ l.max_body) × (p + 8 + m + t.body_len ≤ 2 ^ 62)
   frame_small {b} {m} {t} h =
@@ -113,23 +115,23 @@ module _ {l : LimitNumbers} {s : StreamState} {p : ℕ} where
       let means = subst (λ r. Means l (take m (drop 8 b)) r) w.meant h.says.means in
       ((size_small h.prefix).0, meaning_small l (take m (drop 8 b)) t means, omega (arith, w.near))
 
-  -- a message that was judged is in order
+  -- a message that passed the checks is in order
   pub message_in_order : {b : List ℕ} {m : ℕ} {t : Message} → HasMetadata l s p b m (Ok t) → is_out_of_order (is_some s.schema) t.content ≡ false
   message_in_order h = let w = judged_at h in w.in_order
 
-  -- a message that was judged may be applied
+  -- a message that passed the checks may be applied
   pub is_ready : {b : List ℕ} {m : ℕ} {t : Message} → l.max_rows ≤ 2147483647 → HasMetadata l s p b m (Ok t) → Ready s t.content
   is_ready few h = let w = judged_at h in record { max_rows = l.max_rows; ceiling = few; in_order = w.in_order; none = w.none }
 
-  -- a body that is all the bytes behind the metadata
-  pub body_said : {b : List ℕ} {m : ℕ} {t : Message} {r : Result (StreamState × Given) Refusal} (body : List ℕ) → body ≡ drop (8 + m) b →
+  -- the body is all the bytes after the metadata
+  pub body_said : {b : List ℕ} {m : ℕ} {t : Message} {r : Result (StreamState × Given) Rejection} (body : List ℕ) → body ≡ drop (8 + m) b →
       HasMetadata l s p b m (Ok t) → length b ≡ 8 + m + t.body_len → BodySays s t.content body r → HasBody l s p b m t r
   body_said {b} {m} {t} {r} body e g n says =
       let all : take t.body_len (drop (8 + m) b) ≡ body = take_all t.body_len (drop (8 + m) b) (omega (arith, length-drop (8 + m) b)) ∙ sym e in
       record { metadata = g; within = omega arith; says = subst (λ x. BodySays s t.content x r) (sym all) says }
 
-  -- a metadata that was read from the bytes held
-  pub metadata_read : {h : List ℕ} {m : ℕ} {r : Result Message Refusal} (d : List ℕ) → d ≡ h →
+  -- metadata that were read from the bytes held
+  pub metadata_read : {h : List ℕ} {m : ℕ} {r : Result Message Rejection} (d : List ℕ) → d ≡ h →
       HasPrefix l s p h (Ok (prefixes.Metadata m)) → length h ≡ 8 + m →
       MetadataSays l s (p + 8) (take (length d - 8) (drop 8 d)) r → HasMetadata l s p h m r
   metadata_read {h} {m} {r} d e g n says = record {
@@ -142,14 +144,14 @@ module _ {l : LimitNumbers} {s : StreamState} {p : ℕ} where
   }
 
   -- a prefix that was read from the bytes held
-  pub prefix_read : {h : List ℕ} {r : Result Prefix Refusal} (d : List ℕ) (seen : Bool) → d ≡ h →
+  pub prefix_read : {h : List ℕ} {r : Result Prefix Rejection} (d : List ℕ) (seen : Bool) → d ≡ h →
       seen ≡ is_some s.schema → length h ≡ 8 → r ≡ prefix_says l seen p d → HasPrefix l s p h r
   prefix_read {h} d seen e k n says = record {
     within = omega arith;
     says = ap (prefix_says l (is_some s.schema) p) (take_all 8 h (omega arith) ∙ sym e) ∙ ap (λ x. prefix_says l x p d) (sym k) ∙ sym says;
   }
 
--- no more is held than one message may have, and of a stream that is not open nothing
+-- no more bytes are held than one message may have, and none of a stream that is not open
 pub held_small : (l : LimitNumbers) (s : StreamState) (p : ℕ) (h : List ℕ) (f : Phase) → (verdict_of f ≡ Open → Shown l s p h f) →
     ((verdict_of f ≡ Open → ⊥) → h ≡ []) → length h ≤ 8 + l.max_metadata + l.max_body
 held_small l s p h phases.Prefix x e = let y = x refl in omega arith
@@ -165,12 +167,12 @@ open_by l s p h (phases.Body m t) x = refl
 open_by l s p h phases.Ended x = absurd x
 open_by l s p h (phases.Failed k) x = absurd x
 
--- a decoder that is at what its held bytes have shown is of an open stream
+-- a decoder whose phase is what its held bytes have shown has an open stream
 pub is_open : (w : Decoder) → IsAt w → verdict_of w.phase ≡ Open
 is_open w at = open_by w.limits (plain w.state) w.place w.held.items w.phase at.shown
 
--- what stops a metadata that was read from the bytes held stops the decoder
-pub metadata_stops : {old new : Decoder} {h b : List ℕ} {m : ℕ} (d c : List ℕ) (stop : Stop) → d ≡ h →
+-- an error of metadata that were read from the bytes held stops the decoder
+pub metadata_stops : {old new : Decoder} {h b : List ℕ} {m : ℕ} (d c : List ℕ) (stop : DecodeError) → d ≡ h →
     HasPrefix old.limits (plain old.state) old.place h (Ok (prefixes.Metadata m)) →
     length h ≡ 8 + m → h ++ c ≡ b →
     MessageRead old.limits (plain old.state) (old.place + 8) (take (length d - 8) (drop 8 d)) (Err stop) → Stopped old b new →
@@ -178,17 +180,17 @@ pub metadata_stops : {old new : Decoder} {h b : List ℕ} {m : ℕ} (d c : List 
 metadata_stops {b = b} d c (Refused k) e g n rest says x = record { stopped = x; first = bad_metadata (metadata_held b c (sym rest) (metadata_read d e g n says)) }
 metadata_stops d c Memory e g n rest says x = x
 
--- what is held was filled
-module _ {old piece : List ℕ} {want n : ℕ} {new : List ℕ} where
-  -- less than was wanted: all of the piece
-  pub all_taken : Filled old piece want n new → length new < want → new ≡ old ++ piece
+-- the held bytes were filled from a piece
+module _ {old piece : List ℕ} {target n : ℕ} {new : List ℕ} where
+  -- fewer bytes than wanted: all of the piece was taken
+  pub all_taken : Filled old piece target n new → length new < target → new ≡ old ++ piece
   all_taken f h = elim f.enough [ inl e ↦ absurd (omega arith) | inr w ↦ w.1 ]
 
-  -- not less than was wanted: just that many
-  pub filled : Filled old piece want n new → want ≤ length new → length new ≡ want
+  -- not fewer than wanted: exactly that many
+  pub filled : Filled old piece target n new → target ≤ length new → length new ≡ target
   filled f h = elim f.enough [ inl e ↦ e | inr w ↦ absurd (omega arith) ]
 
--- the decoder at a message of which all bytes are held, in a state and with a message handed back
+-- the decoder when all bytes of a message are held, in a state and with a message that was returned
 abbrev handed_back : Decoder → State → ℕ → HeldContent → ℕ → Decoder
 handed_back old st m c n = record {
   alloc = old.alloc;
@@ -219,8 +221,8 @@ module _ (old : Decoder) (st : State) (m : ℕ) (t : HeldMessage) (c : HeldConte
     };
   }
 
-  -- a message that is not applied stops the decoder where it was
-  pub not_finished : (body : List ℕ) (stop : Stop) → body ≡ drop (8 + m) (old.held.items ++ rest) → old.limits.max_rows ≤ 2147483647 → IsFit (plain st) →
+  -- a message that is not applied stops the decoder at its old offset
+  pub not_finished : (body : List ℕ) (stop : DecodeError) → body ≡ drop (8 + m) (old.held.items ++ rest) → old.limits.max_rows ≤ 2147483647 → IsFit (plain st) →
       Applies (plain old.state) (content_of t.content) body (Err (stop, c)) (plain st) →
       Finishes old (old.held.items ++ rest) m (message_of t) (Err stop) (handed_back old st m c t.body_len)
   not_finished body (Refused k) e few fit a =
@@ -228,7 +230,7 @@ module _ (old : Decoder) (st : State) (m : ℕ) (t : HeldMessage) (c : HeldConte
   not_finished body Memory e few fit a =
       (not_applied few fit a.1 a.2, (a.0.0, body_said body e (HasMetadata-append rest known) (length-append old.held.items rest ∙ whole) a.0.1))
 
--- what becomes of the message is what the step to which it belongs does
+-- the result for the message is what the decoder's step does
 module _ (old : Decoder) (h : HeldBytes) (f : Phase) (new : Decoder) where
   abbrev filled_up : Decoder
   filled_up = record { alloc = old.alloc; limits = old.limits; state = old.state; place = old.place; held = h; phase = f }
@@ -242,8 +244,8 @@ module _ (old : Decoder) (h : HeldBytes) (f : Phase) (new : Decoder) where
     at = not.at;
   }
 
-  -- b begins with the message, of which the first bytes are held
-  pub finish_works : (b rest more : List ℕ) (m : ℕ) (t : Message) (r : Result Step Stop) → (h.items ++ rest) ++ more ≡ b →
+  -- b begins with the message, whose first bytes are held
+  pub finish_works : (b rest more : List ℕ) (m : ℕ) (t : Message) (r : Result Step DecodeError) → (h.items ++ rest) ++ more ≡ b →
       length old.held.items ≤ length h.items → length (h.items ++ rest) ≡ 8 + m + t.body_len →
       Finishes filled_up (h.items ++ rest) m t r new → Works old b r new
   finish_works b rest more m t (Ok steps.Short) e covers whole x = absurd x

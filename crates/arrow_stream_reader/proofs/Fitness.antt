@@ -1,4 +1,4 @@
--- Dictionaries have the types of the fields that give their ids, as loading asks for.
+-- Dictionaries have the types of the fields that give their ids, as loading needs.
 use Rattle.std.proofs.Common.{◌≡◌, ℕ, zero, suc, ℤ, Bool, true, false, cond, List, [], ◌∷◌, ◌++◌, Option, Some, None, IsTrue, is_some, refl, sym, ap, ◌∙◌, subst, ⊎_elim}
 use Rattle.std.specs.Prelude.{◌||◌, ◌&&◌, slice_get, option_map}
 use Rattle.std.specs.List.{AllByRecursion}
@@ -6,8 +6,8 @@ use Rattle.std.specs.Ordering.{int_eq}
 use Rattle.std.proofs.lemmas.Bool.{cases_Bool}
 use Rattle.std.proofs.lemmas.Bool.Decides.{Decides-int_eq}
 use Rattle.std.proofs.lemmas.Bool.{or_parts}
-use Rattle.arrow_types.specs.DataType.{Tag}
-use Rattle.arrow_types.specs.Field.{Fields, none, more, fields_of, FieldShape, TypeShape}
+use Rattle.arrow_types.specs.DataType.{TypeId}
+use Rattle.arrow_types.specs.Field.{FieldTree, none, more, fields_of, FieldShape, TypeShape}
 use Rattle.arrow_types.specs.Notes.{SchemaShape}
 use Rattle.arrow_types.specs.Schema.{DictionaryField, IsSchema, dictionary_fields, dictionary_of, has_encoding, is_nested}
 use Rattle.arrow_types.specs.declared.field.Encoding.{Encoding}
@@ -43,8 +43,8 @@ module _ (P : DictionaryField → Type 0) where
   all_places [] h = tt
   all_places (x ∷ xs) h = (h zero x refl, all_places xs (λ i y e. h (suc i) y e))
 
--- what a field with this encoding says of its dictionary
-abbrev own_at : Option Encoding → Tag → Fields → List DictionaryField
+-- the dictionary field of a field with this encoding, if it has one
+abbrev own_at : Option Encoding → TypeId → FieldTree → List DictionaryField
 own_at o t c = elim o [ None ↦ [] | Some e ↦ record { id = e.id; value_type = record { tag = t; children = c } } ∷ [] ]
 
 -- NO ENCODING BELOW A DICTIONARY
@@ -52,11 +52,11 @@ own_at o t c = elim o [ None ↦ [] | Some e ↦ record { id = e.id; value_type 
 abbrev IsFlat : DictionaryField → Type 0
 IsFlat d = has_encoding d.value_type.children ≡ false
 
-own_flat : (o : Option Encoding) (t : Tag) (c : Fields) → (is_some o && has_encoding c) ≡ false → AllByRecursion IsFlat (own_at o t c)
+own_flat : (o : Option Encoding) (t : TypeId) (c : FieldTree) → (is_some o && has_encoding c) ≡ false → AllByRecursion IsFlat (own_at o t c)
 own_flat None t c e = tt
 own_flat (Some x) t c e = (e, tt)
 
-all_flat : (f : Fields) → is_nested f ≡ false → AllByRecursion IsFlat (dictionary_fields f)
+all_flat : (f : FieldTree) → is_nested f ≡ false → AllByRecursion IsFlat (dictionary_fields f)
 all_flat none n = tt
 all_flat (more h c r) n =
     let own = or_parts (is_some h.encoding && has_encoding c || is_nested c) (is_nested r) n in
@@ -76,7 +76,7 @@ named_flat [] id t all e = absurd (cc)
 named_flat (d ∷ ds) id t all e = first_flat (int_eq d.id id) d (value_type_of ds id) t all.0 (named_flat ds id t all.1) e
 
 -- the values of a dictionary have no encoding below
-pub values_flat : (f : Fields) (id : ℤ) (t : TypeShape) → IsSchema f → value_type_of (dictionary_fields f) id ≡ Some t → has_encoding t.children ≡ false
+pub values_flat : (f : FieldTree) (id : ℤ) (t : TypeShape) → IsSchema f → value_type_of (dictionary_fields f) id ≡ Some t → has_encoding t.children ≡ false
 values_flat f id t s e = named_flat (dictionary_fields f) id t (all_flat f s.bounded.flat) e
 
 -- FIT FIELDS
@@ -89,8 +89,8 @@ flat_node : (ds : List (ℤ × ValueList)) (o : Option Encoding) (t : TypeShape)
 flat_node ds None t e = tt
 flat_node ds (Some x) t e = absurd (cc)
 
--- fields without an encoding are fit for all dictionaries
-pub flat_fit : (ds : List (ℤ × ValueList)) (f : Fields) → has_encoding f ≡ false → AreFit ds f
+-- fields without an encoding fit all dictionaries
+pub flat_fit : (ds : List (ℤ × ValueList)) (f : FieldTree) → has_encoding f ≡ false → AreFit ds f
 flat_fit ds none e = tt
 flat_fit ds (more h c r) e =
     let own = or_parts (is_some h.encoding || has_encoding c) (has_encoding r) e in
@@ -100,24 +100,24 @@ flat_fit ds (more h c r) e =
       flat_fit ds r own.1,
     )
 
--- so is the field of a dictionary's values
+-- so does the field of a dictionary's values
 pub value_fit : (ds : List (ℤ × ValueList)) (t : TypeShape) → has_encoding t.children ≡ false → AreFit ds (fields_of (value_field t ∷ []))
 value_fit ds t e = (record { typed = tt; flat = λ h. e }, flat_fit ds t.children e, tt)
 
--- a dictionary that is listed for a field's id has the type
+-- a dictionary that is listed for the id of a field has the field's value type
 abbrev IsTyped : List (ℤ × ValueList) → DictionaryField → Type 0
 IsTyped ds d = IsOfType d.value_type (listed ds d.id)
 
-typed_node : (ds : List (ℤ × ValueList)) (o : Option Encoding) (t : Tag) (c : Fields) → AllByRecursion (IsTyped ds) (own_at o t c) →
+typed_node : (ds : List (ℤ × ValueList)) (o : Option Encoding) (t : TypeId) (c : FieldTree) → AllByRecursion (IsTyped ds) (own_at o t c) →
     IsOfType (record { tag = t; children = c }) (dictionary_for ds o)
 typed_node ds None t c h = tt
 typed_node ds (Some e) t c h = h.0
 
-flat_below : (o : Option Encoding) (c : Fields) → (is_some o && has_encoding c) ≡ false → IsTrue (is_some o) → has_encoding c ≡ false
+flat_below : (o : Option Encoding) (c : FieldTree) → (is_some o && has_encoding c) ≡ false → IsTrue (is_some o) → has_encoding c ≡ false
 flat_below None c e h = absurd (cc)
 flat_below (Some x) c e h = e
 
-typed_fit : (ds : List (ℤ × ValueList)) (f : Fields) → is_nested f ≡ false → AllByRecursion (IsTyped ds) (dictionary_fields f) → AreFit ds f
+typed_fit : (ds : List (ℤ × ValueList)) (f : FieldTree) → is_nested f ≡ false → AllByRecursion (IsTyped ds) (dictionary_fields f) → AreFit ds f
 typed_fit ds none n h = tt
 typed_fit ds (more h c r) n all =
     let own = or_parts (is_some h.encoding && has_encoding c || is_nested c) (is_nested r) n in
@@ -143,7 +143,7 @@ state_fit s fit known =
     (all_places (IsTyped s.dictionaries) fields (λ i d e. of_type (listed s.dictionaries d.id) d.value_type
     (λ v there. fit.typed d.id d.value_type v (each_named fields i d known.one_type e) there)))
 
--- they go on fitting where one of the type of its id is placed
+-- they still fit after a dictionary is placed that has the type of its id
 pub placed_fit : (s : StreamState) (id : ℤ) (t : TypeShape) (d : ValueList) (ds : List (ℤ × ValueList)) → IsFit s →
     value_type_of (dictionary_fields (fields_in s.schema)) id ≡ Some t → d.data_type ≡ t → ds ≡ placed id d s.dictionaries →
     IsFit (record { schema = s.schema; dictionaries = ds })
@@ -172,16 +172,16 @@ pub record IsFound (o : Option TypeShape) (f : FieldShape) : Type 0 where
   pub named : o ≡ Some type
   pub is : f ≡ value_field type
 
--- what is found is the field of some type's values
+-- a field that is found is the field of some type's values
 pub found_field : (o : Option TypeShape) (f : FieldShape) → Some f ≡ option_map value_field o → IsFound o f
 found_field None f e = absurd (cc)
 found_field (Some t) f e = record { type = t; named = refl; is = (cc) }
 
--- it is the field of the values
+-- it is the field of the dictionary's values
 pub one_value_field : (schema : Option SchemaShape) (id : ℤ) (f : FieldShape) → IsFound (value_type_of (dictionary_fields (fields_in schema)) id) f →
     fields_of (f ∷ []) ≡ value_fields schema id
 one_value_field schema id f h = ap (λ x. fields_of (x ∷ [])) h.is ∙ sym (ap field_of_type h.named)
 
--- without dictionaries such a field is as loading asks for
+-- without dictionaries such a field is as loading needs
 pub found_fit : (o : Option TypeShape) (f : FieldShape) → IsFound o f → ((t : TypeShape) → o ≡ Some t → has_encoding t.children ≡ false) → AreFit [] (fields_of (f ∷ []))
 found_fit o f h flat = subst (λ x. AreFit [] (fields_of (x ∷ []))) (sym h.is) (value_fit [] h.type (flat h.type h.named))

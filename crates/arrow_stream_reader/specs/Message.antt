@@ -2,7 +2,7 @@
 use Rattle.std.specs.Prelude.{ℕ}
 use Rattle.arrow_meta_reader.specs.Means.{PlainHeader}
 
--- a message: what it holds, and how many bytes of body follow its metadata
+-- a message: its content, and the number of bytes of the body after its metadata
 pub record Message : Type 0 where
   pub content : PlainHeader
   pub body_len : ℕ

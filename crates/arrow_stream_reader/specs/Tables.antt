@@ -1,10 +1,10 @@
--- The batches that whole messages give (Columnar Format, "IPC Streaming Format").
+-- The batches that complete messages give (Columnar Format, "IPC Streaming Format").
 use Rattle.std.specs.Prelude.{List, [], ◌∷◌, ◌++◌}
 use Rattle.arrow_data.specs.Batch.{Table}
 use Rattle.arrow_stream_reader.specs.Front.{Entry}
 use Rattle.arrow_stream_reader.specs.State.{Given, schema_given, dictionary_given, batch_given, ended}
 
--- the batch that a whole message gives, if it gives one
+-- the batch that a complete message gives, if it gives one
 abbrev pub table_in : Given → List Table
 table_in schema_given = []
 table_in (dictionary_given id) = []

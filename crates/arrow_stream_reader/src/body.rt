@@ -9,9 +9,9 @@ ghost use Rattle.arrow_meta_reader.specs.Means.{batch_view};
 ghost use Rattle.arrow_stream_reader.specs.Batch.{Loads};
 ghost use Rattle.arrow_stream_reader.specs.Views.{HasNoColumns};
 
-use crate::kind::Refusal;
-use crate::stop::Stop;
-use arrow_body_reader::{BodyFault, check, have_length, load_typed};
+use crate::decode_error::DecodeError;
+use crate::kind::Rejection;
+use arrow_body_reader::{BodyFault, check, check_row_count, load_typed};
 use arrow_data::{Array, Dictionary, SharedBody, SharedType};
 use arrow_meta_reader::RecordBatch;
 use arrow_types::Field;
@@ -19,18 +19,18 @@ use bytes::Bytes;
 use std::alloc::{AllocError, Global};
 use std::marker::Model;
 
-/// The body of a message. A clause sees its bytes.
+/// The body of a message. Contracts see its bytes.
 #[derive(Drop)]
 pub(crate) struct Body<'a> {
-    source: Source<'a>,
+    source: BodyBytes<'a>,
 }
 
 /// Where the bytes of a body lie.
 #[derive(Drop)]
-pub(crate) enum Source<'a> {
-    /// In memory that is lent: columns have a copy.
+pub(crate) enum BodyBytes<'a> {
+    /// In borrowed memory: columns have a copy.
     Lent(&'a [u8]),
-    /// In the memory of the whole message, from this place on: columns share it.
+    /// In the memory of the complete message, from this offset on: columns share it.
     Shared(&'a Bytes, usize),
 }
 
@@ -47,12 +47,12 @@ impl<'a> Model for Body<'a> {
 }
 
 impl<'a> Body<'a> {
-    /// Bytes of which columns have a copy.
+    /// Bytes that columns copy.
     pub(crate) fn lent(bytes: &'a [u8]) -> Body<'a>
         ensures same { result ≡ bytes.now }
     {
         Body {
-            source: Source::Lent(bytes),
+            source: BodyBytes::Lent(bytes),
         }
     }
 
@@ -62,7 +62,7 @@ impl<'a> Body<'a> {
         ensures same { result ≡ drop start message.now }
     {
         Body {
-            source: Source::Shared(message, start),
+            source: BodyBytes::Shared(message, start),
         }
     }
 
@@ -71,25 +71,25 @@ impl<'a> Body<'a> {
         ensures same { result.now ≡ self.now }
     {
         match &self.source {
-            Source::Lent(bytes) => bytes,
-            Source::Shared(message, start) => &message.as_slice()[*start..],
+            BodyBytes::Lent(bytes) => bytes,
+            BodyBytes::Shared(message, start) => &message.as_slice()[*start..],
         }
     }
 
-    /// The bytes for columns: a copy of those that are lent, or the shared ones.
+    /// The bytes for columns: a copy of borrowed bytes, or the shared ones.
     fn own(&self, alloc: Global) -> Result<SharedBody, AllocError>
         ensures same { IfOk result (λ b. b ≡ self.now) }
     {
         let bytes = match &self.source {
-            Source::Lent(bytes) => Bytes::copy_from_slice(alloc, bytes)?,
-            Source::Shared(message, start) => message.slice(*start..)?,
+            BodyBytes::Lent(bytes) => Bytes::copy_from_slice(alloc, bytes)?,
+            BodyBytes::Shared(message, start) => message.slice(*start..)?,
         };
         SharedBody::new(alloc, bytes)
     }
 }
 
-/// What the columns of a body are: their fields with the types of the nodes, and the dictionaries in
-/// which indices are looked up.
+/// The schema of a body's columns: their fields with the types of the nodes, and the dictionaries
+/// in which indices are looked up.
 #[derive(Clone, Copy)]
 pub(crate) struct BodySchema<'a> {
     pub(crate) fields: &'a [Field],
@@ -97,7 +97,7 @@ pub(crate) struct BodySchema<'a> {
     pub(crate) dictionaries: &'a [(i64, Dictionary)],
 }
 
-/// How many rows a batch has whose length is not negative.
+/// The number of rows of a batch whose length is not negative.
 pub(crate) fn row_count(record_batch: &RecordBatch) -> usize
     requires sign { pos 0 ≤ℤ record_batch.now.length }
     ensures count { result ≡ count_of record_batch.now.length }
@@ -106,17 +106,17 @@ pub(crate) fn row_count(record_batch: &RecordBatch) -> usize
 }
 
 /// The columns of the fields that a body holds, or the first of Layout, Text and Index that applies
-/// to any of them. They share one body, which is copied where it is lent, and shared itself where it
-/// is not. They also share the types of the nodes.
+/// to any of them. They share one body: a copy of it if it is borrowed, else the body itself. They
+/// also share the types of the nodes.
 ///
-/// The record batch is what the metadata tell of the body: the number of its rows, its nodes and its
+/// The record batch is what the metadata say of the body: the number of its rows, its nodes and its
 /// buffers.
 pub(crate) fn load_columns(
     alloc: Global,
     schema: &BodySchema,
     record_batch: &RecordBatch,
     body: &Body,
-) -> Result<Vec<Array>, Stop>
+) -> Result<Vec<Array>, DecodeError>
     requires sign { pos 0 ≤ℤ record_batch.now.length }
     requires typed { schema.now.types.now ≡ node_types (fields_view schema.now.fields.now) }
     requires fit { AreFit schema.now.dictionaries.now (fields_view schema.now.fields.now) }
@@ -126,15 +126,15 @@ pub(crate) fn load_columns(
         (λ stop. HasNoColumns body.now schema.now.dictionaries.now (fields_view schema.now.fields.now)
         (batch_view record_batch.now) stop) }
 {
-    if !have_length(schema.fields, &record_batch.nodes, row_count(record_batch)) {
-        return Err(Stop::Refused(Refusal::Layout));
+    if !check_row_count(schema.fields, &record_batch.nodes, row_count(record_batch)) {
+        return Err(DecodeError::Refused(Rejection::Layout));
     }
     let columns = columns_in(alloc, schema, record_batch, body)?;
     Ok(columns)
 }
 
-// The same, whatever the number of rows is; where the copy of the body is refused its fault is told
-// first, as ever.
+/// The same, whatever the number of rows is; if the allocation for the copy of the body fails, a
+/// fault of the body is still reported first.
 fn columns_in(
     alloc: Global,
     schema: &BodySchema,

@@ -8,60 +8,60 @@ ghost use Rattle.arrow_stream_reader.specs.Views.{IsFit, plain, message_of};
 ghost use Rattle.arrow_stream_reader.specs.declared.decoder.Phase.TheVariants as phases;
 ghost use Rattle.arrow_stream_reader.specs.Decoder.{Finishes, IsAt, Works, Rewound};
 
-use crate::held::Held;
+use crate::decode_error::DecodeError;
 use crate::item::Item;
-use crate::kind::Refusal;
+use crate::kind::Rejection;
 use crate::message::Message;
 use crate::metadata::{Position, read_message};
+use crate::pending_bytes::PendingBytes;
 use crate::prefix::{Prefix, read_prefix};
-use crate::state::{State, apply};
-use crate::stop::Stop;
+use crate::state::{State, handle_message};
 use arrow_types::Limits;
 use std::alloc::Global;
 use std::mem;
 
-/// Where a stream stands: how far its message in work has come, or what ended it.
+/// Where a stream has come to: how far its current message has come, or what ended the stream.
 #[derive(Drop)]
 pub(crate) enum Phase {
-    /// Its first eight bytes are not whole.
+    /// Its first eight bytes are not complete.
     Prefix,
-    /// Its metadata, of this size, are not whole.
+    /// Its metadata, of this size, are not complete.
     Metadata(u64),
-    /// Its metadata have this size and announce this message, whose body is not whole.
+    /// Its metadata have this size and announce this message, whose body is not complete.
     Body(u64, Message),
-    /// The end marker was whole.
+    /// The end marker was complete.
     Ended,
-    /// The message in work is refused.
-    Failed(Refusal),
+    /// The current message is rejected.
+    Failed(Rejection),
 }
 
-/// What a piece brought.
+/// The result of a piece.
 #[derive(Drop)]
 pub(crate) enum Step {
-    /// Less than a whole message.
+    /// Less than a complete message.
     Short,
     /// The end marker.
     EndMarker,
-    /// A whole message.
+    /// A complete message.
     Whole(Item),
 }
 
-/// The message in work, and what the messages before it left.
+/// The current message, and the state after the messages before it.
 #[derive(Drop)]
 pub(crate) struct Decoder {
     pub(crate) alloc: Global,
     pub(crate) limits: Limits,
     pub(crate) state: State,
-    /// Where the message in work begins.
+    /// The offset at which the current message begins.
     pub(crate) place: u64,
-    /// The bytes of the message in work.
-    pub(crate) held: Held,
+    /// The bytes of the current message.
+    pub(crate) held: PendingBytes,
     pub(crate) phase: Phase,
 }
 
 impl Decoder {
-    /// Goes on with a piece, up to the end of one message.
-    pub(crate) fn step(&mut self, piece: &[u8]) -> Result<Step, Stop>
+    /// Continues with a piece, up to the end of one message.
+    pub(crate) fn step(&mut self, piece: &[u8]) -> Result<Step, DecodeError>
         requires at { IsAt self.old }
         ensures works { Works self.old (self.old.held.items ++ piece.now) result self.new }
     {
@@ -72,8 +72,8 @@ impl Decoder {
         }
     }
 
-    /// Goes on where nothing is known of the message.
-    fn read_prefix(&mut self, piece: &[u8]) -> Result<Step, Stop>
+    /// Continues when nothing is known of the message.
+    fn read_prefix(&mut self, piece: &[u8]) -> Result<Step, DecodeError>
         requires within { length self.old.held.items ≤ 8 }
         requires near { self.old.place ≤ 2 ^ 62 }
         requires fit { IsFit (plain self.old.state) }
@@ -91,8 +91,8 @@ impl Decoder {
         }
     }
 
-    /// Goes on where the size of the metadata is known.
-    fn read_metadata(&mut self, size: u64, piece: &[u8]) -> Result<Step, Stop>
+    /// Continues when the size of the metadata is known.
+    fn read_metadata(&mut self, size: u64, piece: &[u8]) -> Result<Step, DecodeError>
         requires known { HasPrefix self.old.limits (plain self.old.state) self.old.place
             self.old.held.items (Ok (prefixes.Metadata size)) }
         requires within { length self.old.held.items ≤ 8 + size }
@@ -115,8 +115,8 @@ impl Decoder {
         self.read_body(size, message, &piece[taken..])
     }
 
-    /// Goes on where the metadata are known.
-    fn read_body(&mut self, size: u64, message: Message, piece: &[u8]) -> Result<Step, Stop>
+    /// Continues when the metadata are known.
+    fn read_body(&mut self, size: u64, message: Message, piece: &[u8]) -> Result<Step, DecodeError>
         requires known { HasMetadata self.old.limits (plain self.old.state) self.old.place
             self.old.held.items size (Ok (message_of message)) }
         requires within { length self.old.held.items ≤ 8 + size + message.body_len }
@@ -127,27 +127,27 @@ impl Decoder {
         let start = 8 + size as usize;
         let body_len = message.body_len as usize;
         if self.held.len() == start && body_len <= piece.len() {
-            return self.finish(size, message, &piece[..body_len]);
+            return self.decode_body(size, message, &piece[..body_len]);
         }
         let whole = start + body_len;
         let Ok(_) = self.held.fill(piece, whole) else {
             self.phase = Phase::Body(size, message);
-            return Err(Stop::Memory);
+            return Err(DecodeError::Memory);
         };
         if self.held.len() < whole {
             self.phase = Phase::Body(size, message);
             return Ok(Step::Short);
         }
-        let Ok(()) = self.held.share(start) else {
+        let Ok(()) = self.held.make_shared(start) else {
             self.phase = Phase::Body(size, message);
-            return Err(Stop::Memory);
+            return Err(DecodeError::Memory);
         };
-        self.finish(size, message, &[])
+        self.decode_body(size, message, &[])
     }
 
-    /// Applies a message of which all bytes are there, and no others: those held, and those of
-    /// `rest` after them. Either no byte of its body is held, or all are.
-    fn finish(&mut self, size: u64, message: Message, rest: &[u8]) -> Result<Step, Stop>
+    /// Applies a message whose bytes are all there, and no others: those held, and those of `rest`
+    /// after them. Either no byte of its body is held, or all are.
+    fn decode_body(&mut self, size: u64, message: Message, rest: &[u8]) -> Result<Step, DecodeError>
         requires known { HasMetadata self.old.limits (plain self.old.state) self.old.place
             self.old.held.items size (Ok (message_of message)) }
         requires whole { length self.old.held.items + length rest.now
@@ -160,7 +160,7 @@ impl Decoder {
     {
         let body_len = message.body_len;
         let body = self.held.body(8 + size as usize, rest);
-        match apply(&mut self.state, self.alloc, message.content, &body) {
+        match handle_message(&mut self.state, self.alloc, message.content, &body) {
             Ok(item) => {
                 self.place += self.held.len() as u64 + rest.len() as u64;
                 self.held.clear();
@@ -174,7 +174,7 @@ impl Decoder {
         }
     }
 
-    /// Goes back to the first bytes held.
+    /// Goes back to the first `count` of the bytes held.
     pub(crate) fn rewind(&mut self, count: usize)
         requires at { IsAt self.old }
         requires within { count ≤ length self.old.held.items }
@@ -193,7 +193,7 @@ impl Decoder {
         }
     }
 
-    /// Goes past the end marker, whose first bytes are those held.
+    /// Moves past the end marker, whose first bytes are those held.
     pub(crate) fn end(&mut self)
         requires near { self.old.place + 8 ≤ 2 ^ 62 }
         ensures limits { self.new.limits ≡ self.old.limits }
@@ -207,8 +207,8 @@ impl Decoder {
         self.phase = Phase::Ended;
     }
 
-    /// Drops what is held of a message that is refused so.
-    pub(crate) fn fail(&mut self, refusal: Refusal)
+    /// Drops the held bytes of a message that is rejected with this kind.
+    pub(crate) fn fail(&mut self, refusal: Rejection)
         ensures limits { self.new.limits ≡ self.old.limits }
         ensures state { plain self.new.state ≡ plain self.old.state }
         ensures place { self.new.place ≡ self.old.place }

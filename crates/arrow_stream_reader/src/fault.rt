@@ -1,22 +1,22 @@
-//! Faults: why a call of a reader answers no item, and where.
+//! Faults: why a call of a reader returns no item, and where.
 
 use crate::kind::Kind;
 use std::error::Error;
 use std::fmt;
 
-/// Why a call of a reader answers no item.
+/// Why a call of a reader returns no item.
 ///
-/// `place` is that of the first byte of the message in work, counted in bytes from 0 at the
-/// stream's beginning.
+/// `place` is the offset of the first byte of the current message, in bytes from 0 at the beginning
+/// of the stream.
 #[derive(Clone, Copy, Debug, PartialEq, Eq)]
 pub struct Fault {
-    /// Why.
+    /// The kind of the fault.
     pub kind: Kind,
-    /// The place of the first byte of the message.
+    /// The offset of the first byte of the message.
     pub place: u64,
 }
 
-/// `fault at byte P: KIND`, with the place in decimal and the kind's name.
+/// `fault at byte P: KIND`, with the offset in decimal and the kind's name.
 impl fmt::Display for Fault {
     ghost use Rattle.std.specs.Prelude.{Some};
     ghost use Rattle.arrow_stream_reader.specs.Kind.{fault_text};

@@ -1,13 +1,13 @@
-//! Why a stream is refused, with the numbers and the names by which the kinds are told.
+//! Why a stream is rejected, with the numbers and names of the kinds.
 
 use std::error::Error;
 use std::fmt;
 
-/// Why the bytes of a stream are refused: the kinds 1 to 17, in the order of their numbers. What
-/// stands here is said of bytes alone, so that no reader can have failed by want of memory or by an
-/// end that is still to come.
+/// Why the bytes of a stream are rejected: the kinds 1 to 17, in the order of their numbers. These
+/// kinds depend only on bytes, so no reader can have failed because an allocation failed or because
+/// of an end that is still to come.
 #[derive(Clone, Copy)]
-pub(crate) enum Refusal {
+pub(crate) enum Rejection {
     Continuation,
     MetadataSize,
     Metadata,
@@ -27,38 +27,39 @@ pub(crate) enum Refusal {
     NoSchema,
 }
 
-/// Why a call of a reader answers no item, in the order of the kinds' numbers, 1 to 19. Of several
-/// kinds that hold of a message the one with the least number is answered, among those that are
-/// decided by then: kinds 1, 2 and 17 by the first eight bytes of a message, 3 to 13 by its whole
-/// metadata, 14 to 16 by its whole body.
+/// Why a call of a reader returns no item, in the order of the kinds' numbers, 1 to 19. If several
+/// kinds apply to a message, the one with the least number is returned, among those that are
+/// decided by then: kinds 1, 2 and 17 by the first eight bytes of a message, 3 to 13 by its
+/// complete metadata, 14 to 16 by its complete body.
 #[derive(Clone, Copy, Debug, PartialEq, Eq)]
 pub enum Kind {
     /// 1: the first four bytes of a message are not `FF FF FF FF`.
     Continuation = 1,
-    /// 2: a size of the metadata below 0 or above `max_metadata`, or with which they go on behind
-    /// place 2^62.
+    /// 2: the size of the metadata is below 0 or above `max_metadata`, or so large that they would
+    /// end past offset 2^62.
     MetadataSize,
-    /// 3: something of the metadata that is looked at is not readable, a table that must be there
-    /// is absent, or a fixed limit is passed: 32 levels, 65,536 fields, 65,536 pairs of custom
+    /// 3: something in the metadata that is inspected is not readable, a table that must be there
+    /// is absent, or a fixed limit is exceeded: 32 levels, 65,536 fields, 65,536 pairs of custom
     /// metadata, or `max_metadata` bytes of names, zones, keys and values.
     Metadata,
     /// 4: the metadata's version is neither V4 nor V5.
     Version,
-    /// 5: the header is absent, or is not one that is read.
+    /// 5: the header is absent, or is not one that the reader accepts.
     Header,
-    /// 6: the body's length is negative or over `max_body`, or the body would end past place 2^62.
+    /// 6: the body's length is negative or over `max_body`, or the body would end past offset 2^62.
     BodyLength,
     /// 7: a second schema, or a batch before the schema.
     Order,
-    /// 8: the schema is big-endian, or has a type that is not read or not in the set of the limits, a
-    /// dictionary of an unknown kind, or a dictionary below a dictionary.
+    /// 8: the schema is big-endian, or has a type that the reader does not support or that is not
+    /// in the set of the limits, a dictionary of an unknown kind, or a dictionary below a
+    /// dictionary.
     Unsupported,
-    /// 9: the schema has a width, a precision or a unit outside its list, a type with another number of
-    /// children, or one dictionary id with unequal value types.
+    /// 9: the schema has a width, a precision or a unit outside its list, a type with a wrong
+    /// number of children, or one dictionary id with unequal value types.
     Schema,
     /// 10: the body is compressed.
     Compressed,
-    /// 11: the dictionary's id is in no field of the schema.
+    /// 11: no field of the schema has the dictionary's id.
     UnknownId,
     /// 12: a delta for an id without a dictionary.
     NoBase,
@@ -69,18 +70,18 @@ pub enum Kind {
     Layout,
     /// 15: a valid text is not UTF-8.
     Text,
-    /// 16: a valid index is negative, or not below the length of its dictionary as it stands at
-    /// this message.
+    /// 16: a valid index is negative, or not below the length of its dictionary as it is at this
+    /// message.
     Index,
-    /// 17: the stream ended, by its end marker or otherwise, and no schema message was whole.
+    /// 17: the stream ended, by its end marker or otherwise, before a schema message was complete.
     NoSchema,
     /// 18: the stream ended inside a message.
     Truncated,
-    /// 19: a growth was refused. Nothing is said of the bytes.
+    /// 19: an allocation failed. This says nothing of the bytes.
     Memory,
 }
 
-impl Refusal {
+impl Rejection {
     ghost use Rattle.std.specs.Prelude.{◌≡◌};
     ghost use Rattle.arrow_stream_reader.specs.Kind.{kind_of};
 
@@ -89,23 +90,23 @@ impl Refusal {
         ensures same { result ≡ kind_of self }
     {
         match self {
-            Refusal::Continuation => Kind::Continuation,
-            Refusal::MetadataSize => Kind::MetadataSize,
-            Refusal::Metadata => Kind::Metadata,
-            Refusal::Version => Kind::Version,
-            Refusal::Header => Kind::Header,
-            Refusal::BodyLength => Kind::BodyLength,
-            Refusal::Order => Kind::Order,
-            Refusal::Unsupported => Kind::Unsupported,
-            Refusal::Schema => Kind::Schema,
-            Refusal::Compressed => Kind::Compressed,
-            Refusal::UnknownId => Kind::UnknownId,
-            Refusal::NoBase => Kind::NoBase,
-            Refusal::Rows => Kind::Rows,
-            Refusal::Layout => Kind::Layout,
-            Refusal::Text => Kind::Text,
-            Refusal::Index => Kind::Index,
-            Refusal::NoSchema => Kind::NoSchema,
+            Rejection::Continuation => Kind::Continuation,
+            Rejection::MetadataSize => Kind::MetadataSize,
+            Rejection::Metadata => Kind::Metadata,
+            Rejection::Version => Kind::Version,
+            Rejection::Header => Kind::Header,
+            Rejection::BodyLength => Kind::BodyLength,
+            Rejection::Order => Kind::Order,
+            Rejection::Unsupported => Kind::Unsupported,
+            Rejection::Schema => Kind::Schema,
+            Rejection::Compressed => Kind::Compressed,
+            Rejection::UnknownId => Kind::UnknownId,
+            Rejection::NoBase => Kind::NoBase,
+            Rejection::Rows => Kind::Rows,
+            Rejection::Layout => Kind::Layout,
+            Rejection::Text => Kind::Text,
+            Rejection::Index => Kind::Index,
+            Rejection::NoSchema => Kind::NoSchema,
         }
     }
 }
@@ -114,7 +115,7 @@ impl Kind {
     ghost use Rattle.std.specs.Prelude.{◌≡◌};
     ghost use Rattle.arrow_stream_reader.specs.Kind.{name_of, number_of};
 
-    /// The kind's number, from 1: its place in the list of them.
+    /// The kind's number, from 1: its position in the list of kinds.
     pub fn number(self) -> u8
         ensures number { result ≡ number_of self }
     {

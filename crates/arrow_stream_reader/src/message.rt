@@ -3,9 +3,9 @@
 use crate::stream_schema::StreamSchema;
 use arrow_meta_reader::RecordBatch;
 
-/// What a message holds, by its header.
+/// The content of a message, by its header.
 #[derive(Drop)]
-pub(crate) enum Content {
+pub(crate) enum MessageBody {
     /// The schema of the stream.
     Schema(StreamSchema),
     /// Values for the dictionary of this id: with true they are appended to it, with false they
@@ -18,15 +18,15 @@ pub(crate) enum Content {
 /// What the metadata of a message announce.
 #[derive(Drop)]
 pub(crate) struct Message {
-    pub(crate) content: Content,
-    /// How many bytes of body follow the metadata.
+    pub(crate) content: MessageBody,
+    /// The number of bytes of the body after the metadata.
     pub(crate) body_len: u64,
 }
 
-/// Values for the dictionary of an id, behind those that are there or in place of them (Message.fbs,
-/// table "DictionaryBatch").
+/// Values for the dictionary of an id, appended to those that are there or replacing them
+/// (Message.fbs, table "DictionaryBatch").
 #[derive(Clone, Copy)]
-pub(crate) struct DictionaryBatch<'a> {
+pub(crate) struct DictionaryUpdate<'a> {
     pub(crate) id: i64,
     pub(crate) is_delta: bool,
     pub(crate) record_batch: &'a RecordBatch,

@@ -3,46 +3,46 @@
 ghost use Rattle.std.specs.Prelude.{◌≡◌, ◌+◌, ◌≤◌, [], length, option_map, Ok, Err, None, IfOk};
 ghost use Rattle.std.specs.Prelude.{IfErr};
 ghost use Rattle.arrow_stream_reader.specs.declared.reader.Verdict.TheVariants.{Open, Done, Bad};
-ghost use Rattle.arrow_stream_reader.specs.declared.kind.Refusal.{Refusal as Refused};
+ghost use Rattle.arrow_stream_reader.specs.declared.kind.Rejection.{Rejection as Refused};
 ghost use Rattle.arrow_stream_reader.specs.Kind.{kind_of};
-ghost use Rattle.arrow_stream_reader.specs.Stream.{FailsFor, GoesOn, ReadsOn, ReaderStands, TakesPiece};
+ghost use Rattle.arrow_stream_reader.specs.Stream.{FailsFor, GoesOn, ReadsOn, IsReaderAt, TakesPiece};
 ghost use Rattle.arrow_stream_reader.specs.Stream.{MemoryAlone, ended_so, fresh};
 
+use crate::decode_error::DecodeError;
 use crate::decoder::{Decoder, Phase, Step};
 use crate::fault::Fault;
-use crate::held::Held;
 use crate::item::Item;
-use crate::kind::{Kind, Refusal};
+use crate::kind::{Kind, Rejection};
+use crate::pending_bytes::PendingBytes;
 use crate::state::State;
-use crate::stop::Stop;
 use arrow_dict::Store;
 use arrow_types::{Limits, Schema};
 use std::alloc::Global;
 use std::marker::Model;
 
-/// What stands behind the messages that were whole, as the phase of the decoder tells. It is public
-/// for definitions alone: no call takes or gives one.
+/// What follows the complete messages, according to the phase of the decoder. It is public only for
+/// definitions: no call takes or returns one.
 #[derive(Clone, Copy)]
 pub enum Verdict {
-    /// A message that is not whole, or nothing yet.
+    /// A message that is not complete, or nothing yet.
     Open,
     /// The end marker.
     Done,
-    /// A message that is refused.
-    Bad(Refusal),
+    /// A message that is rejected.
+    Bad(Rejection),
 }
 
 /// Reads a stream whose bytes come in any pieces (Columnar Format, "IPC Streaming Format").
 ///
-/// A reader is given pieces by [`StreamReader::read`], which hands out one item at a time, and is
-/// told by [`StreamReader::end`] that no more will come. It keeps the bytes of one unfinished
-/// message, the schema, the dictionaries as they stand and its place, and nothing else. Memory that
-/// a batch shared takes the next message, where the batch was dropped before. Where a stream was cut
-/// into pieces changes no answer.
+/// The caller passes pieces to [`StreamReader::read`], which returns one item at a time, and calls
+/// [`StreamReader::end`] when no more will come. The reader keeps the bytes of one unfinished
+/// message, the schema, the current dictionaries and its offset, and nothing else. Memory that a
+/// batch shared is used for the next message, if the batch was dropped before. How a stream is cut
+/// into pieces changes no result.
 ///
-/// After a refusal the reader has failed: it takes nothing and answers the same fault, until
-/// [`StreamReader::restart`]. After the end marker it takes nothing either. Where a growth was
-/// refused nothing has changed and nothing was taken, and the same call may be made again.
+/// After an error the reader has failed: it takes nothing and returns the same fault, until
+/// [`StreamReader::restart`]. After the end marker it takes nothing either. If an allocation
+/// failed, nothing has changed and nothing was taken, and the same call may be made again.
 #[derive(Drop)]
 pub struct StreamReader {
     decoder: Decoder,
@@ -64,10 +64,10 @@ impl Model for StreamReader {
 }
 
 impl StreamReader {
-    /// A reader to which nothing was given, with these limits. It takes no memory.
+    /// A reader that has received nothing, with these limits. It allocates nothing.
     pub fn new(alloc: Global, limits: Limits) -> Self
         ensures fresh { result ≡ fresh limits }
-        ensures start { ReaderStands result [] [] }
+        ensures start { IsReaderAt result [] [] }
     {
         StreamReader {
             decoder: Decoder {
@@ -75,30 +75,30 @@ impl StreamReader {
                 limits,
                 state: State::new(alloc),
                 place: 0,
-                held: Held::new(alloc),
+                held: PendingBytes::new(alloc),
                 phase: Phase::Prefix,
             },
         }
     }
 
-    /// Takes bytes of a piece up to the end of one message, and answers how many it took, with the
-    /// item that the message gave; or takes the whole piece, where no message of it is whole, and
-    /// answers no item. The bytes behind an item are left for the next call.
+    /// Takes bytes of a piece up to the end of one message, and returns how many it took, with the
+    /// item that the message gave; or takes the whole piece, if no message is complete in it, and
+    /// returns no item. The bytes after an item are left for the next call.
     ///
-    /// A schema message gives [`Item::Schema`] once its body is whole too, which is not looked at.
-    /// A dictionary batch is applied once it is whole, and gives [`Item::Dictionary`]. A record
-    /// batch gives [`Item::Batch`], whose columns share one copy of its body and keep the
-    /// dictionaries as they stand then. The end marker gives [`Item::End`]. After it nothing is
-    /// taken, and the answer is `(0, None)`.
+    /// A schema message gives [`Item::Schema`] once its body is complete too, which is not
+    /// inspected. A dictionary batch is applied once it is complete, and gives
+    /// [`Item::Dictionary`]. A record batch gives [`Item::Batch`], whose columns share one copy of
+    /// its body and keep the dictionaries as they are at that message. The end marker gives
+    /// [`Item::End`]. After it nothing is taken, and the result is `(0, None)`.
     ///
-    /// A fault tells the least kind of those decided, and the place of the message's first byte.
+    /// A fault reports the least kind of those decided, and the offset of the message's first byte.
     /// Kinds 1, 2 and 17 are decided by the first eight bytes of a message, kinds 3 to 13 by its
-    /// whole metadata, and kinds 14 to 16 by its whole body: `read` answers each in the call that
-    /// brings the last byte that decides it, and none sooner. After such a fault the reader holds
-    /// nothing, takes nothing and answers the same fault. After `Memory` it is unchanged and took
-    /// nothing.
+    /// complete metadata, and kinds 14 to 16 by its complete body: `read` returns each in the call
+    /// that brings the last byte that decides it, and none sooner. After such a fault the reader
+    /// holds nothing, takes nothing and returns the same fault. After `Memory` it is unchanged and
+    /// took nothing.
     ///
-    /// An empty piece, a piece after the end marker and a piece after a refusal take no memory.
+    /// An empty piece, a piece after the end marker and a piece after an error allocate nothing.
     pub fn read(&mut self, piece: &[u8]) -> Result<(usize, Option<Item>), Fault>
         ensures takes { IfOk result (λ taken. TakesPiece piece.now taken) }
         ensures reads { ReadsOn self.old piece.now result self.new }
@@ -126,7 +126,7 @@ impl StreamReader {
         }
     }
 
-    /// What stands behind the messages that were whole.
+    /// What follows the complete messages.
     fn verdict(&self) -> Verdict
         ensures same { result ≡ self.now.at.verdict }
     {
@@ -137,7 +137,7 @@ impl StreamReader {
         }
     }
 
-    /// Goes on where no refusal and no end has come.
+    /// Continues a stream without an error and without an end so far.
     fn go_on(&mut self, piece: &[u8]) -> Result<(usize, Option<Item>), Fault>
         requires open { self.old.at.verdict ≡ Open }
         ensures takes { IfOk result (λ taken. TakesPiece piece.now taken) }
@@ -160,14 +160,14 @@ impl StreamReader {
                 self.decoder.end();
                 Ok((8 - before, Some(Item::End)))
             }
-            Err(Stop::Refused(refusal)) => {
+            Err(DecodeError::Refused(refusal)) => {
                 self.decoder.fail(refusal);
                 Err(Fault {
                     kind: refusal.kind(),
                     place,
                 })
             }
-            Err(Stop::Memory) => {
+            Err(DecodeError::Memory) => {
                 self.decoder.rewind(before);
                 Err(Fault {
                     kind: Kind::Memory,
@@ -177,11 +177,11 @@ impl StreamReader {
         }
     }
 
-    /// What a stream that ends here answers, with the place of the message in work. It changes
-    /// nothing, and takes no memory.
+    /// The result of ending the stream here, with the offset of the current message. It changes
+    /// nothing, and allocates nothing.
     ///
-    /// After a refusal it is that fault. Else, after the end marker, `Ok`. Else `NoSchema` where no
-    /// schema message was whole, `Truncated` where bytes of an unfinished message are held, and
+    /// After an error it is that fault. Else, after the end marker, `Ok`. Else `NoSchema` if no
+    /// schema message was complete, `Truncated` if bytes of an unfinished message are held, and
     /// `Ok` at the end of a message.
     pub fn end(&self) -> Result<(), Fault>
         ensures ended { result ≡ ended_so self.now.at }
@@ -199,19 +199,19 @@ impl StreamReader {
         })
     }
 
-    /// Begins a new stream, with the same limits: nothing of the old one is left. It takes no
-    /// memory.
+    /// Begins a new stream, with the same limits: nothing of the old one is left. It allocates
+    /// nothing.
     pub fn restart(&mut self)
         ensures fresh { self.new ≡ fresh self.old.limits }
-        ensures start { ReaderStands self.new [] [] }
+        ensures start { IsReaderAt self.new [] [] }
     {
         self.decoder.restart();
     }
 
-    /// How many bytes are held of an unfinished message: those taken since the last whole message,
-    /// 0 after a refusal or the end marker. They are never more than 8, the most bytes of a
-    /// metadata and the most bytes of a body together, and grow with what has come, whatever a
-    /// message declares.
+    /// The number of bytes held of an unfinished message: those taken since the last complete
+    /// message, 0 after an error or the end marker. It is never more than 8, the most bytes of
+    /// metadata and the most bytes of a body together, and grows with the bytes received, whatever
+    /// a message declares.
     pub fn held(&self) -> u64
         ensures held { result ≡ length self.now.at.rest }
         ensures closed { (self.now.at.verdict ≡ Open → ⊥) → result ≡ 0 }
@@ -220,16 +220,16 @@ impl StreamReader {
         self.decoder.held.len() as u64
     }
 
-    /// The place of the first byte of the message in work, counted in bytes from 0 at the stream's
-    /// beginning. After a refusal it is that of the message that was refused, and after the end
-    /// marker that behind it.
+    /// The offset of the first byte of the current message, in bytes from 0 at the beginning of the
+    /// stream. After an error it is that of the message that was rejected, and after the end marker
+    /// the one past it.
     pub fn place(&self) -> u64
         ensures place { result ≡ self.now.at.place }
     {
         self.decoder.place
     }
 
-    /// The stream's schema, `None` before its message was whole. It takes no memory.
+    /// The stream's schema, `None` before its message was complete. It allocates nothing.
     pub fn schema(&self) -> Option<&Schema>
         ensures schema { option_map (λ s. s.now) result ≡ self.now.at.state.schema }
     {
@@ -239,7 +239,7 @@ impl StreamReader {
         }
     }
 
-    /// The stream's dictionaries as the whole messages left them. It takes no memory.
+    /// The stream's dictionaries after the complete messages. It allocates nothing.
     pub fn dictionaries(&self) -> &Store
         ensures dictionaries { result.now ≡ self.now.at.state.dictionaries }
     {

@@ -1,38 +1,38 @@
-//! What stands against a message by what was read before it.
+//! The checks of a message against its offset, the order of messages and what was read before it.
 
 ghost use Rattle.std.specs.Prelude.{◌≡◌, ◌≤◌, ◌^◌, ◌+◌, nat_lt};
 ghost use Rattle.std.specs.List.{list_any};
 ghost use Rattle.arrow_types.specs.View.{fields_view};
 ghost use Rattle.arrow_meta_reader.specs.Means.{batch_view, header_view};
 ghost use Rattle.arrow_stream_reader.specs.Batch.{is_bad_length, has_bad_length};
-ghost use Rattle.arrow_stream_reader.specs.Frame.{state_refusal, dictionary_refusal, is_out_of_order, misplaced};
+ghost use Rattle.arrow_stream_reader.specs.Frame.{state_refusal, dictionary_refusal, is_out_of_order, check_order};
 ghost use Rattle.arrow_stream_reader.specs.Views.{plain};
 
 use crate::body::row_count;
-use crate::kind::Refusal;
-use crate::message::DictionaryBatch;
+use crate::kind::Rejection;
+use crate::message::DictionaryUpdate;
 use crate::state::State;
 use arrow_body_reader::nodes_of;
 use arrow_meta_reader::{Header, RecordBatch};
 use arrow_types::{Field, FieldNode, Limits};
 
-/// The kind that the place of a message decides, if one does: a body that would end past the last
-/// place, or the order of messages.
-pub(crate) fn misplaced(end: u64, body_len: u64, out_of_order: bool) -> Option<Refusal>
+/// The kind that is decided by the offset and order of a message, if any: a body that would end
+/// past the last offset, or the order of messages.
+pub(crate) fn check_order(end: u64, body_len: u64, out_of_order: bool) -> Option<Rejection>
     requires near { end ≤ 2 ^ 62 }
-    ensures kind { result ≡ misplaced end body_len out_of_order }
+    ensures kind { result ≡ check_order end body_len out_of_order }
 {
     if Limits::LAST_PLACE - end < body_len {
-        return Some(Refusal::BodyLength);
+        return Some(Rejection::BodyLength);
     }
     if out_of_order {
-        return Some(Refusal::Order);
+        return Some(Rejection::Order);
     }
     None
 }
 
-/// Whether a message with this header may not stand here: a schema behind a schema, a batch before
-/// it.
+/// Whether a message with this header may not come here: a second schema, or a batch before the
+/// schema.
 pub(crate) fn is_out_of_order(has_schema: bool, header: &Header) -> bool
     ensures order { result ≡ is_out_of_order has_schema (header_view header.now) }
 {
@@ -43,14 +43,14 @@ pub(crate) fn is_out_of_order(has_schema: bool, header: &Header) -> bool
     }
 }
 
-/// The kind that stands against the message by what was read before it, if one does.
-pub(crate) fn state_refusal(max_rows: u64, state: &State, header: &Header) -> Option<Refusal>
+/// The kind with which the message is rejected because of what was read before it, if any.
+pub(crate) fn state_refusal(max_rows: u64, state: &State, header: &Header) -> Option<Rejection>
     ensures kind { result ≡ state_refusal max_rows (plain state.now) (header_view header.now) }
 {
     match header {
         Header::Schema(_) => None,
         Header::Dictionary(id, is_delta, record_batch) => {
-            let dictionary_batch = DictionaryBatch {
+            let dictionary_batch = DictionaryUpdate {
                 id: *id,
                 is_delta: *is_delta,
                 record_batch,
@@ -59,7 +59,7 @@ pub(crate) fn state_refusal(max_rows: u64, state: &State, header: &Header) -> Op
         }
         Header::Batch(record_batch) => {
             if has_bad_length(max_rows, state.fields(), record_batch) {
-                Some(Refusal::Rows)
+                Some(Rejection::Rows)
             } else {
                 None
             }
@@ -67,38 +67,38 @@ pub(crate) fn state_refusal(max_rows: u64, state: &State, header: &Header) -> Op
     }
 }
 
-/// The kind that stands against a dictionary batch, if one does.
+/// The kind with which a dictionary batch is rejected, if any.
 fn dictionary_refusal(
     max_rows: u64,
     state: &State,
-    dictionary_batch: &DictionaryBatch,
-) -> Option<Refusal>
+    dictionary_batch: &DictionaryUpdate,
+) -> Option<Rejection>
     ensures kind { result ≡ dictionary_refusal max_rows (plain state.now) dictionary_batch.now.id
         dictionary_batch.now.is_delta (batch_view dictionary_batch.now.record_batch.now) }
 {
-    let DictionaryBatch {
+    let DictionaryUpdate {
         id,
         is_delta,
         record_batch,
     } = *dictionary_batch;
     let Some(field) = state.value_field(id) else {
-        return Some(Refusal::UnknownId);
+        return Some(Rejection::UnknownId);
     };
     let base = state.base_len(id);
     if is_delta && base.is_none() {
-        return Some(Refusal::NoBase);
+        return Some(Rejection::NoBase);
     }
     if has_bad_length(max_rows, field.fields(), record_batch) {
-        return Some(Refusal::Rows);
+        return Some(Rejection::Rows);
     }
     let found = if is_delta { base.unwrap_or(0) } else { 0 };
     if grows_over(max_rows, found, row_count(record_batch)) {
-        return Some(Refusal::Rows);
+        return Some(Rejection::Rows);
     }
     None
 }
 
-/// Whether values and those behind them are more than the limit.
+/// Whether `found` values and `more` after them exceed the limit.
 fn grows_over(max_rows: u64, found: usize, more: usize) -> bool
     ensures over { result ≡ nat_lt max_rows (found + more) }
 {

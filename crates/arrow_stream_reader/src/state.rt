@@ -1,4 +1,4 @@
-//! What the messages of a stream leave to the ones behind them.
+//! What the messages of a stream leave to those after them.
 
 ghost use Rattle.std.specs.Prelude.{◌≡◌, ◌≤ℤ◌, pos, [], false, Some, None, is_some, option_map};
 ghost use Rattle.std.specs.Prelude.{length, IsTrue};
@@ -13,10 +13,10 @@ ghost use Rattle.arrow_stream_reader.specs.Views.{Applies, Gives, HeldValues, Is
 ghost use Rattle.arrow_stream_reader.specs.Views.{content_of, plain};
 
 use crate::body::{Body, BodySchema, load_columns, row_count};
+use crate::decode_error::DecodeError;
 use crate::item::Item;
-use crate::kind::Refusal;
-use crate::message::{Content, DictionaryBatch};
-use crate::stop::Stop;
+use crate::kind::Rejection;
+use crate::message::{DictionaryUpdate, MessageBody};
 use crate::stream_schema::StreamSchema;
 use arrow_data::{Array, Batch, Dictionary};
 use arrow_dict::{Store, ValueField};
@@ -24,17 +24,17 @@ use arrow_meta_reader::RecordBatch;
 use arrow_types::Field;
 use std::alloc::Global;
 
-/// What the whole messages have left.
+/// The state after the complete messages.
 #[derive(Drop)]
 pub(crate) struct State {
-    /// The stream's schema, once its message was whole.
+    /// The stream's schema, once its message was complete.
     pub(crate) schema: Option<StreamSchema>,
-    /// The dictionaries as they stand.
+    /// The current dictionaries.
     pub(crate) dictionaries: Store,
 }
 
 impl State {
-    /// What a stream begins with.
+    /// The state at the beginning of a stream.
     pub(crate) fn new(alloc: Global) -> State
         ensures nothing { plain result ≡ nothing_yet }
         ensures fit { IsFit (plain result) }
@@ -71,7 +71,7 @@ impl State {
         }
     }
 
-    /// How many values the dictionary with this id has, if there is one.
+    /// The number of values of the dictionary with this id, if there is one.
     pub(crate) fn base_len(&self, id: i64) -> Option<usize>
         ensures count { result
             ≡ option_map (λ d. length d.values) (listed (plain self.now).dictionaries id) }
@@ -101,12 +101,17 @@ impl State {
     }
 
     /// The rows of a record batch with this body.
-    fn batch(&self, alloc: Global, record_batch: &RecordBatch, body: &Body) -> Result<Batch, Stop>
+    fn batch(
+        &self,
+        alloc: Global,
+        record_batch: &RecordBatch,
+        body: &Body,
+    ) -> Result<Batch, DecodeError>
         requires ready { Ready (plain self.now) (batch (batch_view record_batch.now)) }
         requires fit { IsFit (plain self.now) }
         ensures gives { Gives (plain self.now) (batch_view record_batch.now) body.now result }
     {
-        let schema = self.schema.as_ref().ok_or(Refusal::Order)?;
+        let schema = self.schema.as_ref().ok_or(Rejection::Order)?;
         let types = schema.types();
         let schema = schema.shared();
         let dictionaries = self.dictionaries.entries();
@@ -124,9 +129,9 @@ impl State {
     fn values(
         &self,
         alloc: Global,
-        dictionary_batch: &DictionaryBatch,
+        dictionary_batch: &DictionaryUpdate,
         body: &Body,
-    ) -> Result<Array, Stop>
+    ) -> Result<Array, DecodeError>
         requires sign { pos 0 ≤ℤ dictionary_batch.now.record_batch.now.length }
         requires named { IsTrue (is_some (value_type_of
             (dictionary_fields (fields_in (plain self.now).schema)) dictionary_batch.now.id)) }
@@ -135,7 +140,7 @@ impl State {
     {
         let field = self
             .value_field(dictionary_batch.id)
-            .ok_or(Refusal::UnknownId)?;
+            .ok_or(Rejection::UnknownId)?;
         let body_schema = BodySchema {
             fields: field.fields(),
             types: field.types(),
@@ -145,14 +150,14 @@ impl State {
         Ok(arrays.swap_remove(0))
     }
 
-    /// Takes the values of a dictionary batch with this body: in place of those of its id, or
-    /// behind them.
+    /// Takes the values of a dictionary batch with this body: they replace those of its id, or
+    /// follow them.
     fn update(
         &mut self,
         alloc: Global,
-        dictionary_batch: &DictionaryBatch,
+        dictionary_batch: &DictionaryUpdate,
         body: &Body,
-    ) -> Result<(), Stop>
+    ) -> Result<(), DecodeError>
         requires ready { Ready (plain self.old) (dictionary dictionary_batch.now.id
             dictionary_batch.now.is_delta (batch_view dictionary_batch.now.record_batch.now)) }
         requires fit { IsFit (plain self.old) }
@@ -173,14 +178,14 @@ impl State {
     }
 }
 
-/// Applies a message whose body is whole, and answers what it gives. Where the body is refused or a
-/// growth is, nothing has changed and the message is handed back.
-pub(crate) fn apply(
+/// Applies a message whose body is complete, and returns the item that it gives. If the body is
+/// rejected or an allocation fails, nothing has changed and the message is returned.
+pub(crate) fn handle_message(
     state: &mut State,
     alloc: Global,
-    content: Content,
+    content: MessageBody,
     body: &Body,
-) -> Result<Item, (Stop, Content)>
+) -> Result<Item, (DecodeError, MessageBody)>
     requires ready { Ready (plain state.old) (content_of content) }
     requires fit { IsFit (plain state.old) }
     ensures applies { Applies (plain state.old) (content_of content) body.now result
@@ -188,23 +193,23 @@ pub(crate) fn apply(
     ensures fit { IsFit (plain state.new) }
 {
     match content {
-        Content::Schema(schema) => {
+        MessageBody::Schema(schema) => {
             state.begin(schema);
             Ok(Item::Schema)
         }
-        Content::Dictionary(id, is_delta, record_batch) => {
-            let dictionary_batch = DictionaryBatch {
+        MessageBody::Dictionary(id, is_delta, record_batch) => {
+            let dictionary_batch = DictionaryUpdate {
                 id,
                 is_delta,
                 record_batch: &record_batch,
             };
             let updated = state.update(alloc, &dictionary_batch, body);
-            updated.map_err(|stop| (stop, Content::Dictionary(id, is_delta, record_batch)))?;
+            updated.map_err(|stop| (stop, MessageBody::Dictionary(id, is_delta, record_batch)))?;
             Ok(Item::Dictionary(id))
         }
-        Content::Batch(record_batch) => {
+        MessageBody::Batch(record_batch) => {
             let read = state.batch(alloc, &record_batch, body);
-            Ok(Item::Batch(read.map_err(|stop| (stop, Content::Batch(record_batch)))?))
+            Ok(Item::Batch(read.map_err(|stop| (stop, MessageBody::Batch(record_batch)))?))
         }
     }
 }

@@ -1,4 +1,5 @@
-//! A stream's schema, with what its dictionaries hold and the types that its columns share.
+//! A stream's schema, with the fields of its dictionaries' values and the types that its columns
+//! share.
 
 ghost use Rattle.std.specs.Prelude.{◌≡◌, IfOk, option_map};
 ghost use Rattle.arrow_data.specs.Shared.{node_types};
@@ -13,7 +14,7 @@ use std::marker::Model;
 use std::rc::Rc;
 
 /// The schema of a stream, the types of the nodes of its fields, which the columns of all batches
-/// share, and for each dictionary id a field of the dictionary's values. A clause sees the schema.
+/// share, and for each dictionary id a field of the dictionary's values. Contracts see the schema.
 #[derive(Drop)]
 pub(crate) struct StreamSchema {
     schema: Rc<Schema>,
@@ -41,7 +42,7 @@ impl Model for StreamSchema {
 }
 
 impl StreamSchema {
-    /// That of the schema, or `AllocError` where a growth was refused.
+    /// The stream schema of this schema, or `AllocError` if an allocation failed.
     pub(crate) fn of(alloc: Global, schema: Schema) -> Result<StreamSchema, AllocError>
         ensures same { IfOk result (λ c. c ≡ schema) }
     {

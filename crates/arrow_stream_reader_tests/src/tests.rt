@@ -1,8 +1,8 @@
-//! What no stream of `vectors/` shows: what calls answer one after the other, limits of one's own,
-//! the byte that decides, long bodies, and that calls succeed.
+//! What no stream of `vectors/` shows: the results of consecutive calls, custom limits, the byte
+//! that decides, long bodies, and that calls succeed.
 //!
-//! A row names parts of streams, from one place of each to another, and changes bytes of these at
-//! places counted from the first byte of all.
+//! A row names parts of streams, each from one offset to another, and changes bytes of these at
+//! offsets counted from the first byte of all.
 
 mod answers;
 mod calls;

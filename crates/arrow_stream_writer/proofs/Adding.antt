@@ -6,7 +6,7 @@ use Rattle.std.proofs.lemmas.List.{append-nil, drop_more, take-append-drop, take
 use Rattle.arrow_types.specs.Equality.{is_equal_decides}
 use Rattle.std.specs.Option.{unwrap_or}
 use Rattle.arrow_types.specs.DataType.{null}
-use Rattle.arrow_types.specs.Field.{Fields, TypeShape, none}
+use Rattle.arrow_types.specs.Field.{FieldTree, TypeShape, none}
 use Rattle.arrow_types.specs.Limits.{LimitNumbers}
 use Rattle.arrow_types.specs.Notes.{SchemaShape}
 use Rattle.arrow_types.specs.Schema.{dictionary_fields, dictionary_ids}
@@ -41,7 +41,7 @@ all_true p (x ∷ xs) ys a b = both (p x) (list_all p xs) (list_all p (xs ++ ys)
   both true t u h f = f h
   both false t u h f = h
 
--- not all of one of them is not all of both
+-- if a test fails in one of two lists, it fails in both together
 not_all_left : {A : Type 0} (p : A → Bool) (xs ys : List A) → list_all p xs ≡ false → list_all p (xs ++ ys) ≡ false
 not_all_left p [] ys h = absurd (cc)
 not_all_left p (x ∷ xs) ys h = left (p x) (list_all p xs) (list_all p (xs ++ ys)) h (λ e. not_all_left p xs ys e) where
@@ -79,7 +79,7 @@ one_built l align shape ds ws bytes b w x u = record {
   same = frames_bytes-append x.frames (update_frame shape (with_lists shape.fields ws ds) w b ∷ []) ∙ ap (λ r. frames_bytes x.frames ++ r) (append-nil b) ∙ ap (λ r. r ++ b) x.same;
 }
 
--- the dictionary batches of one id more
+-- the dictionary batches of one more id
 sendings_more : (mode : Updates) (ds : List (ℤ × ValueList)) (lists : ℤ → List PlainValue) (ids : List ℤ) (id : ℤ)
     → sendings mode ds lists (ids ++ id ∷ []) ≡ sendings mode ds lists ids ++ sending_for mode ds id (lists id)
 sendings_more mode ds lists [] id = append-nil (sending_for mode ds id (lists id))
@@ -110,7 +110,7 @@ adds_frame terms w old new p s n vs x = record {
   next = n ∙ ap (with_list terms.shape.fields w) x.next ∙ sym (with_lists-append terms.shape.fields vs (w ∷ []) old.tracked.sent);
 }
 
--- dictionary batches of which some are refused are refused
+-- dictionary batches some of which are rejected are rejected together
 refused_all : (terms : Terms) (us ws vs : List Sending) (fault : WriteFault) → RefusesUpdates terms ws fault → RefusesUpdates terms (us ++ ws ++ vs) fault
 refused_all terms us ws vs TooLarge h = not_all_left (sending_fits terms.limits terms.align terms.shape.fields) (us ++ ws) vs (not_all_right (sending_fits terms.limits terms.align terms.shape.fields) us ws h)
 refused_all terms us ws vs Memory h = h
@@ -131,7 +131,7 @@ parted mode ds lists (x ∷ us) id vs =
     let rest = sendings mode ds lists vs in
     ap (λ r. own ++ r) (parted mode ds lists us id vs) ∙ sym (append_assoc own (front ++ here) rest) ∙ ap (λ r. r ++ rest) (sym (append_assoc own front here))
 
--- a delta begins inside of the new values
+-- a delta begins within the new values
 pub delta_inside : (mode : Updates) (o : Option (List PlainValue)) (new : List PlainValue) (n : ℕ) → choice mode o new ≡ updates.Delta n → n ≤ length new
 delta_inside mode None new n e = absurd (cc)
 delta_inside modes.Resend (Some old) new n e = never (same_list old new) e where
@@ -145,7 +145,7 @@ delta_inside modes.Delta (Some old) new n e =
       by_tests false true f h = let same : length old ≡ n = cc in subst (λ m. m ≤ length new) same (f refl)
       by_tests false false f h = absurd (cc)
 
--- one id more
+-- one more id
 pub goes_on : (terms : Terms) (ds : List (ℤ × ValueList)) (lists : ℤ → List PlainValue) (ids : List ℤ) (k : ℕ) (id : ℤ) (old new : Work) → k < length ids → id ≡ get_or ids k (pos 0)
     → IsWorkOf terms ds (sendings terms.updates ds lists (take k ids)) old → AddsOne terms (sending_for terms.updates old.tracked.sent id (lists id)) old (Ok tt) new
     → IsWorkOf terms ds (sendings terms.updates ds lists (take (k + 1) ids)) new
@@ -157,7 +157,7 @@ goes_on terms ds lists ids k id old new h is x add =
     let next : take (k + 1) ids ≡ take k ids ++ id ∷ [] = take_more ids k (pos 0) h ∙ ap (λ i. take k ids ++ i ∷ []) (sym is) in
     subst (λ ws. IsWorkOf terms ds ws new) (sym (ap (sendings mode ds lists) next ∙ sendings_more mode ds lists (take k ids) id)) w
 
--- a refusal at one id is one of all
+-- a rejection at one id is a rejection of all
 pub refused_at : (terms : Terms) (ds : List (ℤ × ValueList)) (lists : ℤ → List PlainValue) (ids : List ℤ) (k : ℕ) (id : ℤ) (fault : WriteFault) (start old new : Work)
     → k < length ids → id ≡ get_or ids k (pos 0) → start.tracked.sent ≡ ds → old.tracked.sent ≡ ds
     → AddsOne terms (sending_for terms.updates old.tracked.sent id (lists id)) old (Err fault) new → AddsAll terms (sendings terms.updates ds lists ids) start (Err fault) new
@@ -172,7 +172,7 @@ refused_at terms ds lists ids k id fault start old new h is first sent x =
     )
 
 -- the type that the schema names
-pub type_is : (fields : Fields) (id : ℤ) (t : TypeShape) → IsNamed fields id t → value_type fields id ≡ t
+pub type_is : (fields : FieldTree) (id : ℤ) (t : TypeShape) → IsNamed fields id t → value_type fields id ≡ t
 type_is fields id t named = ap (λ o. unwrap_or o (record { tag = null; children = none })) named
 
 -- what is added for an id of the schema is what is sent of the list that the batch has for it

@@ -1,4 +1,4 @@
--- What closes a part, and which batches are admitted.
+-- What completes the messages of a batch, and which batches are accepted.
 use Rattle.std.proofs.Common.{◌≡◌, ◌&&◌, ◌≤◌, ◌<◌, ◌+◌, ◌^◌, ℕ, ℤ, Bool, true, false, cond, leb, List, [], ◌∷◌, ◌++◌, length, Option, Some, None, Result, Ok, Err, refl, sym, ap, ◌∙◌, subst, arith, length-append}
 use Rattle.std.specs.Prelude.{not}
 use Rattle.std.specs.List.{list_all}
@@ -95,7 +95,7 @@ module _ (terms : Terms) (place : ℕ) (t : Table) (ds : List (ℤ × ValueList)
       → admission terms.limits (options_of terms) terms.shape ds place t ≡ Some TooLarge
   too_large h g f = large_by (is_equal schema_code t.schema terms.shape) (has_one_list t) (part_fits terms.limits (options_of terms) terms.shape.fields ds place t) h g f
 
-  -- a batch whose dictionary batches were not built is refused
+  -- a batch whose dictionary batches were not built is rejected
   pub not_updated : (fault : WriteFault) → is_equal schema_code t.schema terms.shape ≡ true → IsNotUpdated terms t ds fault → IsRefusedWith terms place t ds fault
   not_updated TooLarge h x =
       too_large h x.one (and_left (list_all (sending_fits terms.limits terms.align terms.shape.fields) (plan terms.updates terms.shape.fields ds t)
@@ -109,7 +109,7 @@ module _ (terms : Terms) (place : ℕ) (t : Table) (ds : List (ℤ × ValueList)
   not_updated Broken h x = x
   not_updated Finished h x = x
 
-  -- so is a refused record batch
+  -- so is a batch whose record batch is rejected
   pub record_refused : (fault : WriteFault) (old new : List ℕ) → t.schema ≡ terms.shape → is_equal schema_code t.schema terms.shape ≡ true → has_one_list t ≡ true
       → Puts terms (record_load t) old (Err fault) new → IsRefusedWith terms place t ds fault
   record_refused TooLarge old new same h g x =
@@ -125,7 +125,7 @@ module _ (terms : Terms) (place : ℕ) (t : Table) (ds : List (ℤ × ValueList)
   record_refused Broken old new same h g x = x
   record_refused Finished old new same h g x = x
 
-  -- THE RECORD'S FRAME BEHIND THOSE OF THE DICTIONARIES MAKES A PART
+  -- THE RECORD BATCH'S FRAME AFTER THOSE OF THE DICTIONARIES COMPLETES THE MESSAGES OF A BATCH
 
   module _ (same : t.schema ≡ terms.shape) (work : Work) (bytes : List ℕ) (x : IsWorkOf terms ds (plan terms.updates terms.shape.fields ds t) work) (y : PutsLoad terms (record_load t) work.bytes bytes) where
     its_built : IsBuilt terms.align terms.shape.fields (raws_of t.columns) t.rows y.record_batch y.body
@@ -134,7 +134,7 @@ module _ (terms : Terms) (place : ℕ) (t : Table) (ds : List (ℤ × ValueList)
     its_frame : IsFrameOf terms.limits (batch_size terms.align terms.shape.fields) (batch y.record_batch) y.body y.frame
     its_frame = subst (λ (shape : SchemaShape). IsFrameOf terms.limits (batch_size terms.align shape.fields) (batch y.record_batch) y.body y.frame) same y.is_frame
 
-    -- the part has its size
+    -- the messages of the batch have their computed size
     pub part_sized : length bytes ≡ part_size (options_of terms) terms.shape.fields ds t
     part_sized =
         let updates = ap length (sym x.built.same) ∙ updates_sized terms.limits terms.align terms.shape ds (plan terms.updates terms.shape.fields ds t) x.built.frames x.built.updates in
@@ -142,7 +142,7 @@ module _ (terms : Terms) (place : ℕ) (t : Table) (ds : List (ℤ × ValueList)
         let own = its_built.columns.sized in
         ap length y.appended ∙ length-append work.bytes y.frame ∙ omega arith
 
-    -- one that would end past the last place is refused
+    -- batch messages that would end past the last offset are rejected
     pub place_refused : is_equal schema_code t.schema terms.shape ≡ true → has_one_list t ≡ true → 2 ^ 62 < place + length bytes → admission terms.limits (options_of terms) terms.shape ds place t ≡ Some TooLarge
     place_refused h g over =
         let sized = part_sized in

@@ -1,4 +1,4 @@
--- What is listed first for an id, as more is listed.
+-- The values listed first for an id, as more values are listed.
 use Rattle.std.proofs.Common.{◌≡◌, ℤ, Bool, true, false, cond, List, [], ◌∷◌, ◌++◌, Option, Some, None, ⊎_elim, refl, sym, ap, ◌∙◌}
 use Rattle.std.specs.List.{AllByRecursion}
 use Rattle.std.specs.Option.{unwrap_or}
@@ -31,17 +31,17 @@ past_test : (b : Bool) (x : List PlainValue) (o p r : Option (List PlainValue)) 
 past_test true x o p r f h = absurd (cc)
 past_test false x o p r f h = f h
 
--- what a choice is seen as
+-- a map applied to a choice is applied to both alternatives
 pub seen_if : {A B : Type 0} (f : A → B) (b : Bool) (x : A) (o : Option A) → option_map f (cond b (Some x) o) ≡ cond b (Some (f x)) (option_map f o)
 seen_if f true x o = refl
 seen_if f false x o = refl
 
--- what is listed first stays so
+-- the values listed first for an id stay so
 pub kept : (xs ys : Listed) (id : ℤ) (v : List PlainValue) → first_values xs id ≡ Some v → first_values (xs ++ ys) id ≡ Some v
 kept [] ys id v h = cc
 kept (x ∷ xs) ys id v h = under_test (int_eq x.0 id) x.1.values (first_values xs id) (first_values (xs ++ ys) id) v (kept xs ys id v) h
 
--- for an id of which nothing is listed the rest counts
+-- for an id with no values in the first list, the second list decides
 pub passed : (xs ys : Listed) (id : ℤ) → first_values xs id ≡ None → first_values (xs ++ ys) id ≡ first_values ys id
 passed [] ys id h = refl
 passed (x ∷ xs) ys id h = past_test (int_eq x.0 id) x.1.values (first_values xs id) (first_values (xs ++ ys) id) (first_values ys id) (passed xs ys id) h
@@ -62,7 +62,7 @@ all_there_after : (x : ℤ × ValueList) (xs ls : Listed) → AllByRecursion (λ
 all_there_after x xs [] h = tt
 all_there_after x xs (l ∷ ls) h = (there_after x xs l.0 h.0, all_there_after x xs ls h.1)
 
--- values are listed for the id of each that is listed
+-- values are listed for the id of each dictionary in the list
 pub all_there : (xs : Listed) → AllByRecursion (λ (d : ℤ × ValueList). HasFirst xs d.0) xs
 all_there [] = tt
 all_there (x ∷ xs) = (
@@ -70,7 +70,7 @@ all_there (x ∷ xs) = (
   all_there_after x xs xs (all_there xs),
 )
 
--- those that are the first of their ids stay so
+-- dictionaries equal to the first of their ids stay so
 widened : (xs ys ls : Listed) → AreFirst xs ls → AreFirst (xs ++ ys) ls
 widened xs ys [] h = tt
 widened xs ys (l ∷ ls) h = (kept xs ys l.0 l.1.values h.0, widened xs ys ls h.1)
@@ -80,11 +80,11 @@ narrowed xs ys [] h there = tt
 narrowed xs ys (l ∷ ls) h there =
     (there.0.first ∙ sym (kept xs ys l.0 there.0.values there.0.first) ∙ h.0, narrowed xs ys ls h.1 there.1)
 
--- where all are equal to the first of their ids, so are the beginning ones
+-- if all dictionaries are equal to the first of their ids, so are those of a prefix of the list
 pub beginning_first : (xs ys : Listed) → AreFirst (xs ++ ys) (xs ++ ys) → AreFirst xs xs
 beginning_first xs ys h = narrowed xs ys xs (all_left (λ (d : ℤ × ValueList). first_values (xs ++ ys) d.0 ≡ Some d.1.values) xs ys h) (all_there xs)
 
--- one more of an id of which values are listed changes nothing
+-- one more dictionary of an id for which values are listed changes nothing
 added_again : (xs : Listed) (id : ℤ) (v : List PlainValue) (w : ValueList) (q : ℤ) (o : Option (List PlainValue)) → first_values xs id ≡ Some v → first_values xs q ≡ o
     → first_values (xs ++ (id, w) ∷ []) q ≡ o
 added_again xs id v w q (Some u) h is = kept xs ((id, w) ∷ []) q u is
@@ -94,7 +94,7 @@ added_again xs id v w q None h is =
     (λ differs. passed xs ((id, w) ∷ []) q is ∙ cond-false (int_eq id q) (Some w.values) None differs)
     (cases_Bool (int_eq id q))
 
--- one of a new id
+-- one dictionary of a new id
 added_new : (xs : Listed) (id : ℤ) (w : ValueList) (q : ℤ) (o : Option (List PlainValue)) → first_values xs id ≡ None → first_values xs q ≡ o
     → first_values (xs ++ (id, w) ∷ []) q ≡ cond (int_eq id q) (Some w.values) o
 added_new xs id w q (Some u) h is =
@@ -111,7 +111,7 @@ module _ (fields : List DictionaryField) (listed : Listed) (find : ℤ → Optio
   found_first : (id : ℤ) (first : ValueList) → Some first ≡ find id → first_values listed id ≡ Some first.values
   found_first id first is = sym (found.first id) ∙ ap (option_map (λ (d : ValueList). d.values)) (sym is)
 
-  -- an equal one is found already
+  -- an equal dictionary is found already
   pub found_again : (id : ℤ) (d first : ValueList) → Some first ≡ find id → first.values ≡ d.values → AreFound fields (listed ++ (id, d) ∷ []) find
   found_again id d first is same =
       let more = (id, d) ∷ [] in
@@ -123,7 +123,7 @@ module _ (fields : List DictionaryField) (listed : Listed) (find : ℤ → Optio
         typed = found.typed;
       }
 
-  -- another one differs from the first
+  -- a different one differs from the first
   pub other_found : (id : ℤ) (d first : ValueList) → Some first ≡ find id → (first.values ≡ d.values → ⊥) → AreFirst (listed ++ (id, d) ∷ []) (listed ++ (id, d) ∷ []) → ⊥
   other_found id d first is differs h =
       let more = (id, d) ∷ [] in
@@ -131,7 +131,7 @@ module _ (fields : List DictionaryField) (listed : Listed) (find : ℤ → Optio
       let both : Some first.values ≡ Some d.values = sym (kept listed more id first.values (found_first id first is)) ∙ last in
       differs (ap (λ o. unwrap_or o []) both)
 
-  -- the first of its id is found now
+  -- the first dictionary of its id is now found
   pub new_found : (id : ℤ) (d : ValueList) (after : ℤ → Option ValueList) → None ≡ find id → ((q : ℤ) → after q ≡ cond (int_eq id q) (Some d) (find q)) → value_type_of fields id ≡ Some d.data_type
       → AreFound fields (listed ++ (id, d) ∷ []) after
   new_found id d after none step named =
@@ -157,7 +157,7 @@ module _ (fields : List DictionaryField) (listed : Listed) (find : ℤ → Optio
             ap (value_type_of fields) (sym here) ∙ named ∙ ap (λ (x : ValueList). Some x.data_type) is_d
         its_type false q e same is = found.typed q e is
 
--- of no columns nothing was found
+-- nothing was found for no columns
 pub nothing_found : (fields : List DictionaryField) (find : ℤ → Option ValueList) → ((id : ℤ) → find id ≡ None) → AreFound fields [] find
 nothing_found fields find empty = record {
   first = λ id. ap (option_map (λ (d : ValueList). d.values)) (empty id);

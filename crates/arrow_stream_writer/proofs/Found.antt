@@ -29,7 +29,7 @@ use Rattle.arrow_stream_writer.specs.declared.lists.ListsFault.TheVariants.{Dict
 use Rattle.arrow_stream_writer.proofs.Finding.{HasFirst, all_there, nothing_found}
 use Rattle.arrow_stream_writer.proofs.Gathering.{columns_named}
 
--- the values that are listed first for an id, none where none are
+-- the values that are listed first for an id, or none if none are listed
 first_is : (xs : List (ℤ × ValueList)) (id : ℤ) → values_in (listed xs id) ≡ unwrap_or (first_values xs id) []
 first_is [] id = refl
 first_is (x ∷ xs) id = under_test (int_eq x.0 id) (listed xs id) (first_values xs id) (first_is xs id) where
@@ -51,7 +51,7 @@ first_true : (a b : Bool) → (a && b) ≡ true → (a ≡ true) × (b ≡ true)
 first_true true b h = (refl, h)
 first_true false b h = absurd (cc)
 
--- all are equal to the first of their ids
+-- all dictionaries are equal to the first of their ids
 all_same : (all xs : List (ℤ × ValueList)) → AreFirst all xs → list_all (λ (d : ℤ × ValueList). same_list (values_in (listed all d.0)) d.1.values) xs ≡ true
 all_same all [] h = refl
 all_same all (x ∷ xs) h =
@@ -68,14 +68,14 @@ all_first all (x ∷ xs) there h =
       all_first all xs there.1 parts.1,
     )
 
--- two of one id differ
+-- two dictionaries of one id differ
 pub lists_differ : (t : Table) → (AreFirst (listed_of t.columns) (listed_of t.columns) → ⊥) → has_one_list t ≡ false
 lists_differ t differ = by_test (has_one_list t) (λ h. differ (all_first (listed_of t.columns) (listed_of t.columns) (all_there (listed_of t.columns)) h)) where
   by_test : (b : Bool) → (b ≡ true → ⊥) → b ≡ false
   by_test true f = absurd (f refl)
   by_test false f = refl
 
--- what holds at each place holds of all
+-- a proposition that holds at each index holds of all elements
 all_by_place : {X : Type 0} (P : X → Type 0) (xs : List X) → ((i : ℕ) (x : X) → slice_get xs i ≡ Some x → P x) → AllByRecursion P xs
 all_by_place P [] f = tt
 all_by_place P (x ∷ xs) f = (f 0 x refl, all_by_place P xs (λ i y h. f (suc i) y h))
@@ -95,7 +95,7 @@ all_changed : {X : Type 0} (P Q : X → Type 0) → ((x : X) → P x → Q x) �
 all_changed P Q f [] h = tt
 all_changed P Q f (x ∷ xs) h = (f x h.0, all_changed P Q f xs h.1)
 
--- what was found of all columns are the dictionaries of the batch
+-- what was found for all columns are the dictionaries of the batch
 pub lists_found : (t : Table) (find : ℤ → Option ValueList) → IsTable t → AllByRecursion IsColumn t.columns
     → AreFound (dictionary_fields t.schema.fields) (listed_of t.columns) find → AreListsOf t find
 lists_found t find table columns found = record {
@@ -123,14 +123,14 @@ lists_found t find table columns found = record {
       let its_type : d.data_type ≡ value_type t.schema.fields id = sym (ap (λ o. unwrap_or o (record { tag = null; children = none })) (found.typed id d is)) in
       λ i. Some (record { data_type = its_type i; values = values i })
 
--- after nothing was found, what all columns give are the dictionaries of the batch
+-- if nothing was found before, what all columns give are the dictionaries of the batch
 pub all_found : (t : Table) (before after : ℤ → Option ValueList) → IsTable t → AllByRecursion IsColumn t.columns → ((id : ℤ) → before id ≡ None)
     → Gathers t.columns before (Ok tt) after → AreListsOf t after
 all_found t before after table columns empty gathered =
     let fields = dictionary_fields t.schema.fields in
     lists_found t after table columns (gathered fields [] (schema_named t table) (nothing_found fields before empty))
 
--- and a fault at them is one of the batch
+-- and a fault at the columns is a fault of the batch
 pub not_found : (t : Table) (fault : ListsFault) (before after : ℤ → Option ValueList) → IsTable t → ((id : ℤ) → before id ≡ None)
     → Gathers t.columns before (Err fault) after → FindsLists (Err fault) t
 not_found t DictionariesDiffer before after table empty gathered =

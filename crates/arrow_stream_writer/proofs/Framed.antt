@@ -1,4 +1,4 @@
--- What is appended of a load: its frame.
+-- What is appended for a load: its frame.
 use Rattle.std.proofs.Common.{◌≡◌, ◌≤◌, ◌<◌, ◌^◌, ℕ, leb, ltb, pos, Bool, true, false, List, [], ◌∷◌, ◌++◌, length, map, refl, sym, ap, ◌∙◌, subst, true≢false, inl, inr, arith}
 use Rattle.std.specs.Prelude.{◌||◌, ◌&&◌, not, ℤ, nat_le, Result, Ok, Err}
 use Rattle.std.specs.List.{AllByRecursion, list_all, list_any}
@@ -12,14 +12,14 @@ use Rattle.arrow_body_reader.specs.Taken.{taken_buffers, taken_nodes}
 use Rattle.arrow_body_laws.specs.Laws.{IsBodyOf, raws_of}
 use Rattle.arrow_body_laws.specs.Raws.{AreRaws, AreSmall}
 use Rattle.arrow_body_laws.specs.Stored.{PlainBody, fields_of_columns, stored}
-use Rattle.arrow_body_laws.specs.Tidy.{IsTidy}
+use Rattle.arrow_body_laws.specs.Canonical.{IsCanonical}
 use Rattle.arrow_body_laws.proofs.Named.{same_body}
 use Rattle.arrow_body_laws.proofs.Soundness.{are_stored, lengths_are}
-use Rattle.arrow_body_laws.proofs.Tidied.{is_tidy}
+use Rattle.arrow_body_laws.proofs.MadeCanonical.{is_canonical}
 use Rattle.arrow_body_laws.proofs.Whole.{is_read}
-use Rattle.arrow_body_writer.specs.Storable.{AreTold}
-use Rattle.arrow_body_writer.specs.declared.store_fault.StoreFault.{StoreFault}
-use Rattle.arrow_body_writer.specs.declared.store_fault.StoreFault.TheVariants as stores
+use Rattle.arrow_body_writer.specs.Storable.{AreRepresentable}
+use Rattle.arrow_body_writer.specs.declared.store_fault.BodyStoreFault.{BodyStoreFault}
+use Rattle.arrow_body_writer.specs.declared.store_fault.BodyStoreFault.TheVariants as stores
 use Rattle.arrow_types.specs.declared.type_set.TypeSet.{TypeSet}
 use Rattle.arrow_meta_reader.specs.Means.{PlainBatch, PlainHeader, PlainMessage}
 use Rattle.arrow_meta_writer.specs.Writable.{leaves_header_out}
@@ -32,8 +32,8 @@ use Rattle.arrow_sink.specs.declared.write_fault.WriteFault.{WriteFault}
 use Rattle.arrow_sink.specs.declared.write_fault.WriteFault.TheVariants.{SchemaDiffers, TooLarge, DictionariesDiffer, Sink, Broken, Finished, Memory}
 use Rattle.arrow_stream_writer.specs.Frame.{AppendsFrame}
 use Rattle.arrow_stream_writer.proofs.Sizing.{batch_sized, dictionary_sized}
-use Rattle.arrow_stream_writer.specs.declared.frames.BatchKind.{BatchKind}
-use Rattle.arrow_stream_writer.specs.declared.frames.BatchKind.TheVariants.{Record, Dictionary}
+use Rattle.arrow_stream_writer.specs.declared.frames.BatchHeader.{BatchHeader}
+use Rattle.arrow_stream_writer.specs.declared.frames.BatchHeader.TheVariants.{Record, Dictionary}
 use Rattle.arrow_stream_writer.specs.Framing.{IsStored, IsTooLarge, Load, Puts, PutsFrameOf, PutsLoad, PutsMessage, header_of, metadata_of, not_stored, record_load}
 use Rattle.arrow_stream_writer.specs.Terms.{Terms}
 use Rattle.arrow_stream_writer.proofs.Storable.{cannot_store, fails, offsets_small, passes, raws_by_fields, slots_stored, small_by_fields}
@@ -47,12 +47,12 @@ kind_sized : (align : ℕ) (load : Load) (b : PlainBody) (rb : PlainBatch) → I
     → header_size align (header_of load.kind rb) ≡ metadata_of align load.kind load.fields
 kind_sized align load b rb read nodes buffers =
     by_kind load.kind (ap length nodes ∙ read.just_nodes) (ap length buffers ∙ read.just_buffers) where
-      by_kind : (kind : BatchKind) → length rb.nodes ≡ taken_nodes load.fields → length rb.buffers ≡ taken_buffers load.fields → header_size align (header_of kind rb) ≡ metadata_of align kind load.fields
+      by_kind : (kind : BatchHeader) → length rb.nodes ≡ taken_nodes load.fields → length rb.buffers ≡ taken_buffers load.fields → header_size align (header_of kind rb) ≡ metadata_of align kind load.fields
       by_kind Record n k = batch_sized align load.fields rb n k
       by_kind (Dictionary id is_delta) n k = dictionary_sized align load.fields id is_delta rb n k
 
 -- a batch has no types
-none_left_out : (types : TypeSet) (kind : BatchKind) (b : PlainBatch) → leaves_header_out types (header_of kind b) ≡ false
+none_left_out : (types : TypeSet) (kind : BatchHeader) (b : PlainBatch) → leaves_header_out types (header_of kind b) ≡ false
 none_left_out types Record b = refl
 none_left_out types (Dictionary id is_delta) b = refl
 
@@ -66,7 +66,7 @@ either : (a b c d : Bool) → a ≡ not c → b ≡ not d → (a || b) ≡ not (
 either a b true d e f = ap (λ x. x || b) e ∙ f
 either a b false d e f = ap (λ x. x || b) e
 
--- some node has too many slots exactly where not all have few
+-- some node has too many slots if and only if not all slot counts are within the limit
 bad_slots : (max : ℕ) (ns : List FieldNode) (ss : List ℕ) → map (λ (n : FieldNode). n.length) ns ≡ map pos ss → list_any (λ (n : FieldNode). is_bad_length max n.length) ns ≡ not (list_all (λ n. nat_le n max) ss)
 bad_slots max [] [] e = refl
 bad_slots max [] (s ∷ ss) e = absurd (cc)
@@ -92,7 +92,7 @@ module _ (terms : Terms) (load : Load) (b : PlainBody) (s : IsStored terms.align
   pub slots : map (λ (n : FieldNode). n.length) b.nodes ≡ map pos (slots_in load.fields load.raws)
   slots = ap (λ (x : PlainBody). map (λ (n : FieldNode). n.length) x.nodes) s.same ∙ slots_stored load.fields load.raws
 
-  -- whether all of them are few, by the test of the nodes
+  -- all slot counts are within the limit, by the test of the nodes
   pub few_by : (nodes : List FieldNode) (max : ℕ) (bad : Bool) → nodes ≡ b.nodes → max ≡ terms.limits.max_rows → bad ≡ list_any (λ (n : FieldNode). is_bad_length max n.length) nodes
       → list_all (λ n. nat_le n terms.limits.max_rows) (slots_in load.fields load.raws) ≡ not bad
   few_by nodes max bad same is e =
@@ -114,7 +114,7 @@ module _ (terms : Terms) (load : Load) (b : PlainBody) (s : IsStored terms.align
     level = level;
     slots = slots;
     columns = read;
-    tidy = subst (λ (x : PlainBody). IsTidy terms.align load.fields x.nodes x.buffers x.bytes) (sym s.same) (is_tidy terms.align load.fields load.raws some s.can s.small);
+    canonical = subst (λ (x : PlainBody). IsCanonical terms.align load.fields x.nodes x.buffers x.bytes) (sym s.same) (is_canonical terms.align load.fields load.raws some s.can s.small);
     one = s.same;
   }
 
@@ -163,7 +163,7 @@ module _ (terms : Terms) (load : Load) (b : PlainBody) (s : IsStored terms.align
         appended = x.appended;
       }
 
-  -- what put_message answers is the answer to the load
+  -- the result of put_message is a result for the load
   pub answers_load : (header : PlainHeader) (answer : Result (Unit {0}) WriteFault) (old new : List ℕ) → header ≡ header_of load.kind (record { length = pos load.rows; nodes = b.nodes; buffers = b.buffers })
       → length b.bytes ≤ terms.limits.max_body → load.rows ≤ terms.limits.max_rows → list_all (λ n. nat_le n terms.limits.max_rows) (slots_in load.fields load.raws) ≡ true
       → PutsMessage terms header b.bytes old answer new → Puts terms load old answer new
@@ -212,18 +212,18 @@ module _ (terms : Terms) (t : Table) (cs : List Column) (known : IsTable t) (sam
   are_of : AreOf t.schema.fields cs
   are_of = subst (AreOf t.schema.fields) (sym same) known.typed
 
-  -- columns that cannot be told are too large
-  never_stored : terms.limits.max_rows ≤ 2147483647 → (AreTold cs → ⊥) → IsTooLarge terms (record_load t)
+  -- columns that are not representable are too large
+  never_stored : terms.limits.max_rows ≤ 2147483647 → (AreRepresentable cs → ⊥) → IsTooLarge terms (record_load t)
   never_stored ceiling cannot =
       subst (λ (ds : List Column). frame_fits terms.limits terms.align (batch_size terms.align t.schema.fields) t.schema.fields (raws_of ds) t.rows ≡ false) same
       (cannot_store terms.limits terms.align (batch_size terms.align t.schema.fields) t.schema.fields cs t.rows ceiling known.schema are_of cannot)
 
-  -- so columns that are not stored are, or a growth was refused
-  pub refuses_record : terms.limits.max_rows ≤ 2147483647 → (fault : StoreFault) → (fault ≡ stores.TooLarge → AreTold cs → ⊥) → (old new : List ℕ)
+  -- so columns that are not stored are too large, or an allocation failed
+  pub refuses_record : terms.limits.max_rows ≤ 2147483647 → (fault : BodyStoreFault) → (fault ≡ stores.TooLarge → AreRepresentable cs → ⊥) → (old new : List ℕ)
       → Puts terms (record_load t) old (Err (not_stored fault)) new
   refuses_record ceiling stores.TooLarge large old new = never_stored ceiling (large refl)
   refuses_record ceiling stores.Memory large old new = refl
 
--- over the ceiling is over each limit
+-- a size over the ceiling is over each limit
 pub past_ceiling : (limit size : ℕ) → limit ≤ 2 ^ 30 → 2 ^ 30 < size → limit < size
 past_ceiling limit size h over = omega arith

@@ -1,4 +1,4 @@
--- Why what is appended is a frame.
+-- Why the appended bytes are a frame.
 use Rattle.std.proofs.Common.{◌≡◌, ℕ, zero, suc, ◌+◌, ◌-◌, ◌*◌, ◌/◌, ◌%◌, ◌≤◌, ◌<◌, ◌^◌, false, min, List, ◌++◌, length, replicate, Some, refl, sym, ap, ◌∙◌, subst, arith, append_assoc, length-append}
 use Rattle.arrow_types.specs.Limits.{LimitNumbers}
 use Rattle.arrow_meta_reader.specs.declared.message.MetadataVersion.TheVariants as versions
@@ -45,7 +45,7 @@ next_multiple align n some = by_rest (n % align) refl
         let low : rounded align n ≡ n / align * align + 1 * align = ap (λ k. (n / align + k) * align) one ∙ add-mul (n / align) 1 align in
         omega (arith, left, low, below, div-add-mod' n align)
 
--- the size that a prefix tells
+-- the size that a prefix gives
 pub prefix_number : (n : ℕ) → n < 2 ^ 32 → number_at (prefix_bytes n) 4 ≡ n
 prefix_number n low = omega (arith, low)
 
@@ -53,7 +53,7 @@ prefix_number n low = omega (arith, low)
 some_bytes : (m : PlainMessage) → 0 < length (metadata m)
 some_bytes m = omega (arith, length-append (little_bytes 4 (start 4 (message_node m))) (laid 4 (message_node m) ++ zeros (gap 8 (after 4 (message_node m)))))
 
-module _ (align : ℕ) (m : PlainMessage) (body : List ℕ) (size n : ℕ) (some : 1 ≤ align) (few : align ≤ 64) (typed : IsHeader m.header) (sends : size_of m ≡ Some n) (told : m.body_len ≡ length body) (is_size : size ≡ rounded align (8 + length (metadata m)) - 8) where
+module _ (align : ℕ) (m : PlainMessage) (body : List ℕ) (size n : ℕ) (some : 1 ≤ align) (few : align ≤ 64) (typed : IsHeader m.header) (sends : size_of m ≡ Some n) (reported : m.body_len ≡ length body) (is_size : size ≡ rounded align (8 + length (metadata m)) - 8) where
   same_size : header_size align m.header ≡ size
   same_size = ap (λ k. rounded align (8 + k) - 8) ((sized m n sends).size ∙ sym (written_length m n sends)) ∙ sym is_size
 
@@ -70,11 +70,11 @@ module _ (align : ℕ) (m : PlainMessage) (body : List ℕ) (size n : ℕ) (some
       let len = written_length m n sends in
       let s = sized m n sends in
       let text : text_bytes (message_tree limits.types m) ≤ metadata_size m = text_short limits.types m in
-      let allows : Allows limits m = record { text = omega (arith, text, same_size, is_size, high, metadata_fit, s.size, len); body = omega (arith, told, body_fits); types = within } in
+      let allows : Allows limits m = record { text = omega (arith, text, same_size, is_size, high, metadata_fit, s.size, len); body = omega (arith, reported, body_fits); types = within } in
       let means = (written_means m n (replicate (size - length (metadata m)) 0) typed sends limits).1 allows in
       let v5 : MetadataMeans limits (padded m size) (record { version = versions.V5; header = m.header; body_len = length body }) =
       subst (λ v. MetadataMeans limits (padded m size) (record { version = v; header = m.header; body_len = length body })) s.version
-      (subst (λ k. MetadataMeans limits (padded m size) (record { version = m.version; header = m.header; body_len = k })) told means) in
+      (subst (λ k. MetadataMeans limits (padded m size) (record { version = m.version; header = m.header; body_len = k })) reported means) in
       subst (λ k. IsFrameOf limits k m.header body (framed m size body)) (sym same_size) (record {
         prefix = prefix_bytes size;
         metadata = padded m size;
@@ -85,10 +85,10 @@ module _ (align : ℕ) (m : PlainMessage) (body : List ℕ) (size n : ℕ) (some
         some = omega (arith, is_high, some_bytes m);
         means = v5;
         bytes = refl;
-        one = λ i. framed (record { version = s.version i; header = m.header; body_len = told i }) size body;
+        one = λ i. framed (record { version = s.version i; header = m.header; body_len = reported i }) size body;
       })
 
-  -- what was appended
+  -- the bytes that were appended
   pub appends_frame : (old new : List ℕ) → new ≡ old ++ framed m size body → AppendsFrame align m body old new
   appends_frame old new more = record {
     appended = more ∙ ap (λ (n : ℕ). old ++ framed m n body) (sym same_size);
@@ -104,6 +104,6 @@ four_parts old a b c d =
 -- the parts of a frame, one after another
 pub appended_parts : (align : ℕ) (m : PlainMessage) (body v : List ℕ) (size : ℕ) (old new : List ℕ) → 1 ≤ align → align ≤ 64 → IsHeader m.header → v ≡ metadata m → size_of m ≡ Some (length v) → m.body_len ≡ length body → size ≡ rounded align (8 + length v) - 8
     → new ≡ (((old ++ prefix_bytes size) ++ v) ++ replicate (size - length v) 0) ++ body → AppendsFrame align m body old new
-appended_parts align m body v size old new some few typed bytes sends told is_size more =
-    appends_frame align m body size (length v) some few typed sends told (is_size ∙ ap (λ (u : List ℕ). rounded align (8 + length u) - 8) bytes) old new
+appended_parts align m body v size old new some few typed bytes sends reported is_size more =
+    appends_frame align m body size (length v) some few typed sends reported (is_size ∙ ap (λ (u : List ℕ). rounded align (8 + length u) - 8) bytes) old new
     (more ∙ ap (λ (u : List ℕ). (((old ++ prefix_bytes size) ++ u) ++ replicate (size - length u) 0) ++ body) bytes ∙ four_parts old (prefix_bytes size) (metadata m) (replicate (size - length (metadata m)) 0) body)

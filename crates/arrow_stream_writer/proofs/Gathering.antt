@@ -2,7 +2,7 @@
 use Rattle.std.proofs.Common.{◌≡◌, ◌+◌, ◌<◌, ℕ, zero, suc, ℤ, List, [], ◌∷◌, ◌++◌, length, take, drop, get_or, Option, Some, None, Result, Ok, Err, refl, sym, ap, ◌∙◌, subst, arith, append_assoc, map}
 use Rattle.std.proofs.lemmas.List.{append-nil, take-append-drop, take_more}
 use Rattle.std.specs.List.{AllByRecursion}
-use Rattle.arrow_types.specs.Field.{Fields, none, more, TypeShape}
+use Rattle.arrow_types.specs.Field.{FieldTree, none, more, TypeShape}
 use Rattle.arrow_types.specs.Schema.{DictionaryField, dictionary_fields, dictionary_of}
 use Rattle.arrow_types.specs.declared.field.Encoding.{Encoding}
 use Rattle.arrow_data.specs.Column.{AreOf, Column, HasDictionary, IsColumn, ValueList, column_dictionaries, field_of_listed, listed_of}
@@ -13,7 +13,7 @@ use Rattle.arrow_stream_writer.specs.declared.lists.ListsFault.TheVariants.{Dict
 use Rattle.arrow_stream_laws.proofs.Lists.{all_left, all_right}
 use Rattle.arrow_stream_writer.proofs.Finding.{beginning_first}
 
--- what holds of all holds of one of them
+-- a proposition that holds of all elements holds of one of them
 pub all_at : {X : Type 0} (P : X → Type 0) (xs : List X) (i : ℕ) (d x : X) → AllByRecursion P xs → i < length xs → x ≡ get_or xs i d → P x
 all_at P [] i d x all h is = absurd (omega arith)
 all_at P (y ∷ xs) zero d x all h is = subst P (sym is) all.0
@@ -29,18 +29,18 @@ abbrev pub AreGathered : List Column → ℕ → (ℤ → Option ValueList) → 
 AreGathered cs i before now = (fields : List DictionaryField) (listed : List (ℤ × ValueList)) → AreNamed fields cs
     → AreFound fields listed before → AreFound fields (listed ++ listed_of (take i cs)) now
 
--- those of no column
+-- the dictionaries of no column
 pub none_gathered : (cs : List Column) (find : ℤ → Option ValueList) → AreGathered cs 0 find find
 none_gathered cs find fields listed named found = subst (λ l. AreFound fields l find) (sym (append-nil listed)) found
 
--- what is listed up to one column and for it
+-- the dictionaries that are listed up to one column, and for it
 one_more : (cs : List Column) (i : ℕ) (c : Column) (listed : List (ℤ × ValueList)) → i < length cs → c ≡ get_or cs i c
     → (listed ++ listed_of (take i cs)) ++ listed_of (c ∷ []) ≡ listed ++ listed_of (take (i + 1) cs)
 one_more cs i c listed h is =
     append_assoc listed (listed_of (take i cs)) (listed_of (c ∷ []))
     ∙ ap (λ r. listed ++ r) (sym (listed_both (take i cs) (c ∷ [])) ∙ ap (λ x. listed_of (take i cs ++ x ∷ [])) is ∙ ap listed_of (sym (take_more cs i c h)))
 
--- those of one column more
+-- the dictionaries of one more column
 pub more_gathered : (cs : List Column) (i : ℕ) (c : Column) (before mid after : ℤ → Option ValueList) → i < length cs → c ≡ get_or cs i c
     → AreGathered cs i before mid → Gathers (c ∷ []) mid (Ok tt) after → AreGathered cs (i + 1) before after
 more_gathered cs i c before mid after h is so_far one fields listed named found =
@@ -48,7 +48,7 @@ more_gathered cs i c before mid after h is so_far one fields listed named found 
     subst (λ l. AreFound fields l after) (one_more cs i c listed h is)
     (one fields (listed ++ listed_of (take i cs)) (its_name, tt) (so_far fields listed named found))
 
--- a fault at one column is one of all
+-- a fault at one column is a fault of all
 pub stops_at : (cs : List Column) (i : ℕ) (c : Column) (fault : ListsFault) (before mid after : ℤ → Option ValueList) → i < length cs → c ≡ get_or cs i c
     → AreGathered cs i before mid → Gathers (c ∷ []) mid (Err fault) after → Gathers cs before (Err fault) after
 stops_at cs i c Memory before mid after h is so_far one = tt
@@ -62,7 +62,7 @@ stops_at cs i c DictionariesDiffer before mid after h is so_far one = λ fields 
     one fields (listed ++ listed_of (take i cs)) (its_name, tt) (so_far fields listed named found)
     (beginning_first start rest (subst (λ l. AreFirst l l) parts all))
 
--- the dictionary of an encoded column is all that it lists
+-- the dictionary of an encoded column is the only one that it lists
 pub one_gathers : (c : Column) (e : Encoding) (d : ValueList) (before after : ℤ → Option ValueList) (answer : Result (Unit {0}) ListsFault) → HasDictionary c d → c.encoding ≡ Some e
     → AddsList e.id d before answer after → Gathers (c ∷ []) before answer after
 one_gathers c e d before after answer has is added = by_answer answer added where
@@ -80,7 +80,7 @@ one_gathers c e d before after answer has is added = by_answer answer added wher
   by_answer (Err Memory) a = tt
 
 -- the types that are named for fields are named for the columns of these fields
-pub columns_named : (fields : List DictionaryField) (s : Fields) (cs : List Column) → AreOf s cs → AllNamed fields (dictionary_fields s) → AreNamed fields cs
+pub columns_named : (fields : List DictionaryField) (s : FieldTree) (cs : List Column) → AreOf s cs → AllNamed fields (dictionary_fields s) → AreNamed fields cs
 columns_named fields none [] typed named = tt
 columns_named fields none (c ∷ cs) typed named = absurd typed
 columns_named fields (more head children rest) [] typed named = absurd typed
@@ -121,7 +121,7 @@ pub none_below : (c : Column) (find : ℤ → Option ValueList) → c.dictionari
 none_below c find is fields listed named found =
     subst (λ l. AreFound fields l find) (sym (ap (λ l. listed ++ l) (append-nil c.dictionaries ∙ is) ∙ append-nil listed)) found
 
--- nor does one without fields below its type
+-- nor does a column without fields below its type
 pub leaf_lists : (c : Column) → IsColumn c → c.encoding ≡ None → c.data_type.children ≡ none → c.dictionaries ≡ []
 leaf_lists c known is leaf = empty c.dictionaries (known.lists ∙ ap (λ e. column_dictionaries e c.data_type) is ∙ ap dictionary_fields leaf) where
   empty : (ds : List (ℤ × ValueList)) → map field_of_listed ds ≡ [] → ds ≡ []

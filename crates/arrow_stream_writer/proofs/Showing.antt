@@ -1,4 +1,4 @@
--- What a writer shows after its calls.
+-- The view of a writer after its calls.
 use Rattle.std.specs.Prelude.{if◌then◌else◌}
 use Rattle.std.proofs.Common.{◌&&◌, not, inl, inr, ◌≡◌, ◌≤◌, ◌<◌, ◌+◌, ◌^◌, ℕ, ℤ, Bool, true, false, List, [], length, leb, Option, Some, None, Ok, Err, refl, sym, ap, ◌∙◌, subst, arith}
 use Rattle.std.specs.Io.KnownBytes.{Appends}
@@ -27,13 +27,13 @@ use Rattle.arrow_stream_writer.specs.Parts.{IsRefusedWith, options_of}
 use Rattle.arrow_stream_writer.specs.Taking.{taking}
 use Rattle.arrow_stream_writer.specs.Terms.{Terms}
 
--- a writer with these terms shows them
+-- the view of a writer with these terms has them
 pub record HasTerms (terms : Terms) (w : WriterView) : Type 0 where
   pub limits : w.limits ≡ terms.limits
   pub options : w.options ≡ options_of terms
   pub shape : w.shape ≡ terms.shape
 
--- two that show the same
+-- two views with equal fields
 same_shows : (a b : WriterView) → a.limits ≡ b.limits → a.options ≡ b.options → a.shape ≡ b.shape → a.sent ≡ b.sent → a.place ≡ b.place → a.status ≡ b.status → a.contents ≡ b.contents → a.failures ≡ b.failures → a ≡ b
 same_shows a b limits options shape sent place status contents failures = λ i. record {
   limits = limits i;
@@ -46,12 +46,12 @@ same_shows a b limits options shape sent place status contents failures = λ i. 
   failures = failures i;
 }
 
--- two of the same terms, with what else they show
+-- two views with the same terms, and equal in the other fields
 pub same_of_terms : (terms : Terms) (a b : WriterView) → HasTerms terms a → HasTerms terms b → a.sent ≡ b.sent → a.place ≡ b.place → a.status ≡ b.status → a.contents ≡ b.contents → a.failures ≡ b.failures → a ≡ b
 same_of_terms terms a b ta tb sent place status contents failures =
     same_shows a b (ta.limits ∙ sym tb.limits) (ta.options ∙ sym tb.options) (ta.shape ∙ sym tb.shape) sent place status contents failures
 
--- one that takes no more answers so, and stays
+-- a writer that takes no more returns that fault, and is unchanged
 pub writes_nothing : (w : WriterView) (t : Table) (status : Status) (fault : WriteFault) → w.status ≡ status → taking status ≡ Err fault → Writes w t (Err fault) w
 writes_nothing w t statuses.Writing fault is x = absurd (cc)
 writes_nothing w t statuses.Finished fault is x =
@@ -70,21 +70,21 @@ finishes_nothing w statuses.Broken fault is x =
     let same : Broken ≡ fault = cc in
     subst (λ k. Finishes w (Err k) w) same (record { before = is; unchanged = refl })
 
--- one that takes more is writing
+-- a writer that takes more is in the status `Writing`
 pub writing : (status : Status) → taking status ≡ Ok tt → status ≡ statuses.Writing
 writing statuses.Writing x = refl
 writing statuses.Finished x = absurd (cc)
 writing statuses.Broken x = absurd (cc)
 
 module _ (terms : Terms) (t : Table) (old new : WriterView) (was : HasTerms terms old) (is : HasTerms terms new) (open_before : old.status ≡ statuses.Writing) where
-  -- what was built for the terms is a part for what the writer shows
+  -- the frames built for the terms are the batch messages for the writer's view
   own_part : (frames : List Frame) → IsPart terms.limits (options_of terms) terms.shape old.sent old.place t frames → IsPart old.limits old.options old.shape old.sent old.place t frames
   own_part frames part =
       subst (λ l. IsPart l old.options old.shape old.sent old.place t frames) (sym was.limits)
       (subst (λ o. IsPart terms.limits o old.shape old.sent old.place t frames) (sym was.options)
       (subst (λ shape. IsPart terms.limits (options_of terms) shape old.sent old.place t frames) (sym was.shape) part))
 
-  -- the sink accepted the part
+  -- the sink accepted the batch messages
   pub writes_accepted : (frames : List Frame) → IsPart terms.limits (options_of terms) terms.shape old.sent old.place t frames → Appends old.contents new.contents (frames_bytes frames)
       → new.sent ≡ lists_after terms.updates terms.shape.fields old.sent t → new.place ≡ old.place + part_size (options_of terms) terms.shape.fields old.sent t → new.status ≡ statuses.Writing → new.failures ≡ old.failures
       → Writes old t (Ok tt) new
@@ -100,7 +100,7 @@ module _ (terms : Terms) (t : Table) (old new : WriterView) (was : HasTerms term
       let same : next ≡ new = same_shows next new (was.limits ∙ sym is.limits) (was.options ∙ sym is.options) (was.shape ∙ sym is.shape) lists places (open_before ∙ sym status) refl (sym failures) in
       subst (Accepts old t) same (accepts_of old t frames new.contents open_before (own_part frames part) more)
 
-  -- it failed in the part
+  -- it failed within the batch messages
   pub writes_failed : (frames : List Frame) → IsPart terms.limits (options_of terms) terms.shape old.sent old.place t frames → AcceptsBeginning old.contents new.contents (frames_bytes frames)
       → new.sent ≡ old.sent → new.place ≡ old.place → new.status ≡ statuses.Broken → new.failures ≡ old.failures + 1 → Writes old t (Err Sink) new
   writes_failed frames part some sent place status failures =
@@ -113,7 +113,7 @@ module _ (terms : Terms) (t : Table) (old new : WriterView) (was : HasTerms term
       ap (λ l. admission l old.options old.shape old.sent old.place t) was.limits ∙ ap (λ o. admission terms.limits o old.shape old.sent old.place t) was.options
       ∙ ap (λ shape. admission terms.limits (options_of terms) shape old.sent old.place t) was.shape ∙ h
 
-  -- the batch was refused
+  -- the batch was rejected
   pub writes_refused : (fault : WriteFault) → IsRefusedWith terms old.place t old.sent fault → new ≡ old → Writes old t (Err fault) new
   writes_refused SchemaDiffers x same = record { open_before = open_before; refusal = own_admission SchemaDiffers x; unchanged = same }
   writes_refused TooLarge x same = record { open_before = open_before; refusal = own_admission TooLarge x; unchanged = same }
@@ -123,7 +123,7 @@ module _ (terms : Terms) (t : Table) (old new : WriterView) (was : HasTerms term
   writes_refused Broken x same = absurd (cc)
   writes_refused Finished x same = absurd (cc)
 
--- a part that was built ends before the last place
+-- batch messages that were built end before the last offset
 pub part_near : (terms : Terms) (place : ℕ) (t : Table) (sent : List (ℤ × ValueList)) (frames : List Frame) → IsPart terms.limits (options_of terms) terms.shape sent place t frames
     → place + part_size (options_of terms) terms.shape.fields sent t ≤ 2 ^ 62
 part_near terms place t sent frames part = (part_fits_so terms.limits (options_of terms) terms.shape sent place t part.admitted).near
@@ -192,7 +192,7 @@ module _ (terms : Terms) where
       subst (Starts terms.limits (options_of terms) terms.shape base failures) same
       (starts_of terms.limits (options_of terms) terms.shape base new.contents failures part known (admits put.fits_in ceiling put.types_are_in) frame more)
 
-  -- it failed in the schema's frame
+  -- it failed within the schema's frame
   pub start_failed : (base contents : Option (List ℕ)) (failures now : ℕ) (part : List ℕ) → terms.limits.max_metadata ≤ 2 ^ 30 → IsNoted terms.shape → PutsMessage terms (schema terms.shape) [] [] (Ok tt) part
       → AcceptsBeginning base contents part → now ≡ failures + 1 → StartFails terms.limits (options_of terms) terms.shape base failures Sink contents now
   start_failed base contents failures now part ceiling known put some failed = record {
@@ -204,7 +204,7 @@ module _ (terms : Terms) where
     failed = failed;
   }
 
-  -- the schema was refused, and the sink was not touched
+  -- the schema was rejected, and the sink was not touched
   pub start_refused : (base : Option (List ℕ)) (failures : ℕ) (fault : WriteFault) (part : List ℕ) → PutsMessage terms (schema terms.shape) [] [] (Err fault) part
       → StartFails terms.limits (options_of terms) terms.shape base failures fault base failures
   start_refused base failures TooLarge part (inr left) = (

@@ -5,7 +5,7 @@ use Rattle.std.specs.List.{AllByRecursion, list_all}
 use Rattle.std.proofs.lemmas.Bool.{and_from, false_from_ne_true, leb-true, le-leb}
 use Rattle.std.proofs.lemmas.List.{map-append}
 use Rattle.std.proofs.lemmas.List.Folds.{list_all-append}
-use Rattle.arrow_types.specs.Field.{Fields, none, more, TypeShape, count}
+use Rattle.arrow_types.specs.Field.{FieldTree, none, more, TypeShape, count}
 use Rattle.arrow_types.specs.Limits.{LimitNumbers}
 use Rattle.arrow_types.specs.Schema.{IsSchema}
 use Rattle.arrow_types.specs.declared.field.Encoding.{Encoding}
@@ -19,14 +19,14 @@ use Rattle.arrow_body_laws.specs.Raws.{AreRaws, AreSmall, IsOwn, IsSmall, last_o
 use Rattle.arrow_body_laws.specs.Size.{size_of}
 use Rattle.arrow_body_laws.specs.Stored.{fields_of_columns, stored_nodes}
 use Rattle.arrow_body_writer.specs.Sent.{nodes_of_type}
-use Rattle.arrow_body_writer.specs.Storable.{AreTold}
+use Rattle.arrow_body_writer.specs.Storable.{AreRepresentable}
 use Rattle.arrow_stream_laws.specs.Admission.{frame_fits}
 use Rattle.arrow_stream_laws.specs.Sizes.{offsets_fit, slots_in}
 
--- NAMES ARE NOT LOOKED AT
+-- NAMES ARE NOT INSPECTED
 
--- the raw values can be stored, by the fields of which the columns are
-pub raws_by_fields : (fields : Fields) (cs : List Column) (raws : List (List PlainValue)) → AreOf fields cs → AreRaws (fields_of_columns cs) raws → AreRaws fields raws
+-- the raw values can be stored by the fields whose columns they are
+pub raws_by_fields : (fields : FieldTree) (cs : List Column) (raws : List (List PlainValue)) → AreOf fields cs → AreRaws (fields_of_columns cs) raws → AreRaws fields raws
 raws_by_fields none [] raws are x = x
 raws_by_fields none (d ∷ cs) raws are x = absurd are
 raws_by_fields (more h c rest) [] raws are x = absurd are
@@ -39,7 +39,7 @@ raws_by_fields (more h c rest) (d ∷ cs) (vs ∷ raws) are x =
       raws_by_fields rest cs raws are.2 x.2,
     )
 
-pub small_by_fields : (fields : Fields) (cs : List Column) (raws : List (List PlainValue)) → AreOf fields cs → AreSmall (fields_of_columns cs) raws → AreSmall fields raws
+pub small_by_fields : (fields : FieldTree) (cs : List Column) (raws : List (List PlainValue)) → AreOf fields cs → AreSmall (fields_of_columns cs) raws → AreSmall fields raws
 small_by_fields none [] raws are x = x
 small_by_fields none (d ∷ cs) raws are x = absurd are
 small_by_fields (more h c rest) [] raws are x = absurd are
@@ -52,7 +52,7 @@ small_by_fields (more h c rest) (d ∷ cs) (vs ∷ raws) are x =
       small_by_fields rest cs raws are.2 x.2,
     )
 
-small_by_columns : (fields : Fields) (cs : List Column) (raws : List (List PlainValue)) → AreOf fields cs → AreSmall fields raws → AreSmall (fields_of_columns cs) raws
+small_by_columns : (fields : FieldTree) (cs : List Column) (raws : List (List PlainValue)) → AreOf fields cs → AreSmall fields raws → AreSmall (fields_of_columns cs) raws
 small_by_columns none [] raws are x = x
 small_by_columns none (d ∷ cs) raws are x = absurd are
 small_by_columns (more h c rest) [] raws are x = absurd are
@@ -68,7 +68,7 @@ small_by_columns (more h c rest) (d ∷ cs) (vs ∷ raws) are x =
 -- NODES
 
 -- each node that is stored has its number of slots
-pub slots_stored : (fields : Fields) (raws : List (List PlainValue)) → map (λ (n : FieldNode). n.length) (stored_nodes fields raws) ≡ map pos (slots_in fields raws)
+pub slots_stored : (fields : FieldTree) (raws : List (List PlainValue)) → map (λ (n : FieldNode). n.length) (stored_nodes fields raws) ≡ map pos (slots_in fields raws)
 slots_stored none raws = refl
 slots_stored (more h c rest) [] = refl
 slots_stored (more h c rest) (vs ∷ raws) =
@@ -81,8 +81,8 @@ slots_stored (more h c rest) (vs ∷ raws) =
 
 -- OFFSETS
 
--- where all can be told each offset fits
-pub offsets_small : (fields : Fields) (raws : List (List PlainValue)) → AreSmall fields raws → offsets_fit fields raws ≡ true
+-- if all slots and offsets are representable, each offset fits
+pub offsets_small : (fields : FieldTree) (raws : List (List PlainValue)) → AreSmall fields raws → offsets_fit fields raws ≡ true
 offsets_small none raws x = refl
 offsets_small (more h c rest) [] x = refl
 offsets_small (more h c rest) (vs ∷ raws) x =
@@ -96,8 +96,8 @@ both true true e = (refl, refl)
 both true false e = absurd (cc)
 both false b e = absurd (cc)
 
--- where the slots are few and the offsets fit, all can be told
-pub small_if : (max : ℕ) (fields : Fields) (raws : List (List PlainValue)) → max ≤ 2147483647 → list_all (λ n. nat_le n max) (slots_in fields raws) ≡ true → offsets_fit fields raws ≡ true → AreSmall fields raws
+-- if the slot counts are within the limit and the offsets fit, all are representable
+pub small_if : (max : ℕ) (fields : FieldTree) (raws : List (List PlainValue)) → max ≤ 2147483647 → list_all (λ n. nat_le n max) (slots_in fields raws) ≡ true → offsets_fit fields raws ≡ true → AreSmall fields raws
 small_if max none raws few slots offsets = tt
 small_if max (more h c rest) [] few slots offsets = tt
 small_if max (more h c rest) (vs ∷ raws) few slots offsets =
@@ -116,8 +116,8 @@ small_if max (more h c rest) (vs ∷ raws) few slots offsets =
 
 -- COLUMNS THAT CAN BE STORED
 
--- fields take no more nodes than they are
-taken_few : (fields : Fields) → taken_nodes fields ≤ count fields
+-- fields take no more nodes than there are fields
+taken_few : (fields : FieldTree) → taken_nodes fields ≤ count fields
 taken_few none = omega arith
 taken_few (more h c rest) =
     let below : flattened h.encoding (taken_nodes c) ≤ count c = by_encoding h.encoding (taken_few c) in
@@ -132,7 +132,7 @@ pub nodes_few : (t : TypeShape) (e : Option Encoding) → nodes_of_type t e ≤ 
 nodes_few t None = let few = taken_few t.children in omega arith
 nodes_few t (Some e) = omega arith
 
-columns_few : (fields : Fields) (cs : List Column) → AreOf fields cs → count fields ≤ 65536 → AllByRecursion (λ (c : Column). nodes_of_type c.data_type c.encoding < 18446744073709551615) cs
+columns_few : (fields : FieldTree) (cs : List Column) → AreOf fields cs → count fields ≤ 65536 → AllByRecursion (λ (c : Column). nodes_of_type c.data_type c.encoding < 18446744073709551615) cs
 columns_few none [] are few = tt
 columns_few none (d ∷ cs) are few = absurd are
 columns_few (more h c rest) [] are few = absurd are
@@ -142,14 +142,14 @@ columns_few (more h c rest) (d ∷ cs) are few =
     (omega arith, columns_few rest cs are.2 (omega arith))
 
 -- the tests of a frame, one by one
-pub record Tests (l : LimitNumbers) (align metadata : ℕ) (fields : Fields) (raws : List (List PlainValue)) (rows : ℕ) : Type 0 where
+pub record Tests (l : LimitNumbers) (align metadata : ℕ) (fields : FieldTree) (raws : List (List PlainValue)) (rows : ℕ) : Type 0 where
   pub metadata_fits : metadata ≤ l.max_metadata
   pub body_fits : size_of align fields raws ≤ l.max_body
   pub rows_fit : rows ≤ l.max_rows
   pub slots_fit : list_all (λ n. nat_le n l.max_rows) (slots_in fields raws) ≡ true
   pub offsets : offsets_fit fields raws ≡ true
 
-module _ (l : LimitNumbers) (align metadata : ℕ) (fields : Fields) (raws : List (List PlainValue)) (rows : ℕ) where
+module _ (l : LimitNumbers) (align metadata : ℕ) (fields : FieldTree) (raws : List (List PlainValue)) (rows : ℕ) where
   pub passed : frame_fits l align metadata fields raws rows ≡ true → Tests l align metadata fields raws rows
   passed e =
       let t1 = leb metadata l.max_metadata in
@@ -177,13 +177,13 @@ module _ (l : LimitNumbers) (align metadata : ℕ) (fields : Fields) (raws : Lis
       and_from (t1 && t2 && t3 && t4) (offsets_fit fields raws) (and_from (t1 && t2 && t3) t4 (and_from (t1 && t2) t3 (and_from t1 t2
       (le-leb metadata l.max_metadata t.metadata_fits) (le-leb (size_of align fields raws) l.max_body t.body_fits)) (le-leb rows l.max_rows t.rows_fit)) t.slots_fit) t.offsets
 
-  -- what contradicts a test
+  -- if not all tests hold, the frame does not fit
   pub fails : (Tests l align metadata fields raws rows → ⊥) → frame_fits l align metadata fields raws rows ≡ false
   fails f = false_from_ne_true (frame_fits l align metadata fields raws rows) (λ e. f (passed e))
 
--- columns that cannot be told pass no tests
-pub cannot_store : (l : LimitNumbers) (align metadata : ℕ) (fields : Fields) (cs : List Column) (rows : ℕ) → l.max_rows ≤ 2147483647 → IsSchema fields → AreOf fields cs
-    → (AreTold cs → ⊥) → frame_fits l align metadata fields (raws_of cs) rows ≡ false
+-- columns that are not representable pass no tests
+pub cannot_store : (l : LimitNumbers) (align metadata : ℕ) (fields : FieldTree) (cs : List Column) (rows : ℕ) → l.max_rows ≤ 2147483647 → IsSchema fields → AreOf fields cs
+    → (AreRepresentable cs → ⊥) → frame_fits l align metadata fields (raws_of cs) rows ≡ false
 cannot_store l align metadata fields cs rows ceiling known are cannot =
     fails l align metadata fields (raws_of cs) rows (λ t. cannot (record {
       counted = columns_few fields cs are known.bounded.few;

@@ -2,7 +2,7 @@
 -- "DictionaryBatch").
 use Rattle.std.specs.Prelude.{◌≡◌, ◌≤◌, ◌<◌, ◌⊎◌, ℕ, false, true, List, [], ◌∷◌, ◌++◌, length, Result, Ok, Err}
 use Rattle.std.specs.List.{AllByRecursion}
-use Rattle.arrow_types.specs.Field.{Fields}
+use Rattle.arrow_types.specs.Field.{FieldTree}
 use Rattle.arrow_data.specs.Batch.{Table}
 use Rattle.arrow_data.specs.PlainValue.{PlainValue}
 use Rattle.arrow_body_laws.specs.Laws.{raws_of}
@@ -15,53 +15,54 @@ use Rattle.arrow_stream_laws.specs.Built.{IsBuilt}
 use Rattle.arrow_stream_laws.specs.Frames.{IsFrameOf}
 use Rattle.arrow_stream_laws.specs.Plan.{Sending}
 use Rattle.arrow_stream_laws.specs.Sizes.{batch_size, dictionary_size, header_size}
-use Rattle.arrow_body_writer.specs.declared.store_fault.StoreFault.{StoreFault}
-use Rattle.arrow_body_writer.specs.declared.store_fault.StoreFault.TheVariants as stores
+use Rattle.arrow_body_writer.specs.declared.store_fault.BodyStoreFault.{BodyStoreFault}
+use Rattle.arrow_body_writer.specs.declared.store_fault.BodyStoreFault.TheVariants as stores
 use Rattle.arrow_sink.specs.declared.write_fault.WriteFault.{WriteFault}
 use Rattle.arrow_sink.specs.declared.write_fault.WriteFault.TheVariants.{TooLarge, Memory}
 use Rattle.arrow_stream_writer.specs.Terms.{Terms}
-use Rattle.arrow_stream_writer.specs.declared.frames.BatchKind.{BatchKind}
-use Rattle.arrow_stream_writer.specs.declared.frames.BatchKind.TheVariants.{Record, Dictionary}
-use Rattle.arrow_stream_writer.specs.declared.frames.Part.{Part}
+use Rattle.arrow_stream_writer.specs.declared.frames.BatchHeader.{BatchHeader}
+use Rattle.arrow_stream_writer.specs.declared.frames.BatchHeader.TheVariants.{Record, Dictionary}
+use Rattle.arrow_stream_writer.specs.declared.frames.BatchMessages.{BatchMessages}
 
--- What a frame is to carry: of which kind it is, and the fields, the raw values and the number of rows of its columns.
+-- What a frame is to carry: its kind, and the fields, the raw values and the number of rows of its columns.
 pub record Load : Type 0 where
-  pub kind : BatchKind
-  pub fields : Fields
+  pub kind : BatchHeader
+  pub fields : FieldTree
   pub raws : List (List PlainValue)
   pub rows : ℕ
 
--- that of the record batch of a table
+-- the load of the record batch of a table
 abbrev pub record_load : Table → Load
 record_load t = record { kind = Record; fields = t.schema.fields; raws = raws_of t.columns; rows = t.rows }
 
--- that of a dictionary batch
-abbrev pub update_load : Fields → Sending → Load
+-- the load of a dictionary batch
+abbrev pub update_load : FieldTree → Sending → Load
 update_load fields w = record { kind = Dictionary w.id w.is_delta; fields = fields_for fields w.id; raws = w.carried ∷ []; rows = length w.carried }
 
--- what it is to a writer that columns are not stored
-abbrev pub not_stored : StoreFault → WriteFault
+-- the writer's fault if columns are not stored
+abbrev pub not_stored : BodyStoreFault → WriteFault
 not_stored stores.TooLarge = TooLarge
 not_stored stores.Memory = Memory
 
 -- the header of the message of a kind
-abbrev pub header_of : BatchKind → PlainBatch → PlainHeader
+abbrev pub header_of : BatchHeader → PlainBatch → PlainHeader
 header_of Record b = batch b
 header_of (Dictionary id is_delta) b = dictionary id is_delta b
 
 -- how many bytes its metadata have
-abbrev pub metadata_of : ℕ → BatchKind → Fields → ℕ
+abbrev pub metadata_of : ℕ → BatchHeader → FieldTree → ℕ
 metadata_of align Record fields = batch_size align fields
 metadata_of align (Dictionary id is_delta) fields = dictionary_size align fields
 
--- These are the body's nodes, buffers and bytes: what is stored of the raw values, of which each column has one for each row.
+-- These are the body's nodes, buffers and bytes: what is stored of the raw values; each column has one value for each
+-- row.
 pub record IsStored (align : ℕ) (load : Load) (b : PlainBody) : Type 0 where
   pub can : AreRaws load.fields load.raws
   pub small : AreSmall load.fields load.raws
   pub long : AllByRecursion (λ (vs : List PlainValue). length vs ≡ load.rows) load.raws
   pub same : b ≡ stored align load.fields load.raws
 
--- The frame of a message with this header and this body was appended, whose metadata keep to the limits.
+-- The frame of a message with this header and this body was appended, and its metadata keep to the limits.
 pub record PutsFrameOf (terms : Terms) (header : PlainHeader) (body old new : List ℕ) : Type 0 where
   pub frame : List ℕ
   pub fits_in : header_size terms.align header ≤ terms.limits.max_metadata
@@ -69,24 +70,24 @@ pub record PutsFrameOf (terms : Terms) (header : PlainHeader) (body old new : Li
   pub is_frame : IsFrameOf terms.limits (header_size terms.align header) header body frame
   pub appended : new ≡ old ++ frame
 
--- an answer to a message with this header and this body: its frame was appended, or its metadata or the types
--- in them do not keep to the limits, or a growth was refused
+-- a result for a message with this header and this body: its frame was appended, or its metadata or the types in them
+-- do not keep to the limits, or an allocation failed
 abbrev pub PutsMessage : Terms → PlainHeader → List ℕ → List ℕ → Result (Unit {0}) WriteFault → List ℕ → Type 0
 PutsMessage terms header body old (Ok done) new = PutsFrameOf terms header body old new
 PutsMessage terms header body old (Err TooLarge) new =
     (terms.limits.max_metadata < header_size terms.align header) ⊎ (leaves_header_out terms.limits.types header ≡ true)
 PutsMessage terms header body old (Err fault) new = fault ≡ Memory
 
--- the same of the head of a message's frame, whatever body of the length that it tells stands behind it
+-- the same for the head of a message's frame, whatever body of the length that it gives follows it
 abbrev pub PutsHead : Terms → PlainMessage → List ℕ → Result (Unit {0}) WriteFault → List ℕ → Type 0
 PutsHead terms m old answer new = (body : List ℕ) → m.body_len ≡ length body → PutsMessage terms m.header body old answer (new ++ body)
 
--- the bytes of a part: those before the body that was stored last, and the body's
-abbrev pub part_bytes : Part → List ℕ
+-- the bytes of batch messages: those before the body that was stored last, and the body's
+abbrev pub part_bytes : BatchMessages → List ℕ
 part_bytes p = p.bytes.items ++ p.body.bytes.items
 
 -- the body was appended to the bytes before it
-pub record AppendsBody (old new : Part) : Type 0 where
+pub record AppendsBody (old new : BatchMessages) : Type 0 where
   pub bytes : new.bytes.items ≡ part_bytes old
   pub nothing_left : new.body.bytes.items ≡ []
 
@@ -100,11 +101,11 @@ pub record PutsLoad (terms : Terms) (load : Load) (old new : List ℕ) : Type 0 
   pub fits_in : frame_fits terms.limits terms.align (metadata_of terms.align load.kind load.fields) load.fields load.raws load.rows ≡ true
   pub appended : new ≡ old ++ frame
 
--- it does not keep to them
+-- the load does not keep to the limits
 abbrev pub IsTooLarge : Terms → Load → Type 0
 IsTooLarge terms load = frame_fits terms.limits terms.align (metadata_of terms.align load.kind load.fields) load.fields load.raws load.rows ≡ false
 
--- an answer to a load: its frame was appended, or it does not keep to the limits, or a growth was refused
+-- a result for a load: its frame was appended, or it does not keep to the limits, or an allocation failed
 abbrev pub Puts : Terms → Load → List ℕ → Result (Unit {0}) WriteFault → List ℕ → Type 0
 Puts terms load old (Ok done) new = PutsLoad terms load old new
 Puts terms load old (Err TooLarge) new = IsTooLarge terms load

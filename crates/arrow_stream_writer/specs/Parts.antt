@@ -1,4 +1,4 @@
--- The part of a batch, built: the frames of its dictionaries and of its record batch, one after another.
+-- The messages of one batch, built: the frames of its dictionaries and of its record batch, one after another.
 use Rattle.std.specs.Prelude.{◌≡◌, ℕ, ℤ, true, false, List, length, Some, Result, Ok, Err}
 use Rattle.std.specs.List.{list_all}
 use Rattle.arrow_data.specs.Batch.{Table}
@@ -25,7 +25,7 @@ pub record HasUpdates (terms : Terms) (t : Table) (sent : List (ℤ × ValueList
   pub one : has_one_list t ≡ true
   pub is_work : IsWorkOf terms sent (plan terms.updates terms.shape.fields sent t) work
 
--- Why it is not, where it has one list for each id.
+-- Why it is not, although the batch has one list for each id.
 pub record UpdatesRefused (terms : Terms) (t : Table) (sent : List (ℤ × ValueList)) : Type 0 where
   pub one : has_one_list t ≡ true
   pub large : list_all (sending_fits terms.limits terms.align terms.shape.fields) (plan terms.updates terms.shape.fields sent t) ≡ false
@@ -36,14 +36,15 @@ IsNotUpdated terms t sent DictionariesDiffer = has_one_list t ≡ false
 IsNotUpdated terms t sent TooLarge = UpdatesRefused terms t sent
 IsNotUpdated terms t sent fault = fault ≡ Memory
 
--- An answer to a batch's dictionaries: the frames were built of what is to be sent of them, or two of one id differ, or one of the
--- dictionary batches does not keep to the limits, or a growth was refused. What was sent stays.
+-- A result for a batch's dictionaries: the frames of what is to be sent of them were built, or two of one id differ,
+-- or one of the dictionary batches does not keep to the limits, or an allocation failed. The dictionaries that were
+-- sent are unchanged.
 abbrev pub PutsUpdates : Terms → Table → Work → Result (Unit {0}) WriteFault → Work → Type 0
 PutsUpdates terms t old (Ok done) new = HasUpdates terms t old.tracked.sent new
 PutsUpdates terms t old (Err fault) new = IsNotUpdated terms t old.tracked.sent fault × (new.tracked.sent ≡ old.tracked.sent)
 
--- The bytes are the part of a batch that is admitted at this place, where these dictionaries were sent before; those that it brings
--- are staged.
+-- The bytes are the messages of a batch that is accepted at this offset, given the dictionaries that were sent
+-- before; the dictionaries in them are staged.
 pub record IsPartBuilt (terms : Terms) (place : ℕ) (t : Table) (sent : List (ℤ × ValueList)) (bytes : List ℕ) (now : Tracked) : Type 0 where
   pub frames : List Frame
   pub is_part : IsPart terms.limits (options_of terms) terms.shape sent place t frames
@@ -52,19 +53,20 @@ pub record IsPartBuilt (terms : Terms) (place : ℕ) (t : Table) (sent : List (�
   pub kept : now.sent ≡ sent
   pub staged : now.next ≡ lists_after terms.updates terms.shape.fields sent t
 
--- the batch is refused with this fault
+-- the batch is rejected with this fault
 abbrev pub IsRefusedWith : Terms → ℕ → Table → List (ℤ × ValueList) → WriteFault → Type 0
 IsRefusedWith terms place t sent TooLarge = admission terms.limits (options_of terms) terms.shape sent place t ≡ Some TooLarge
 IsRefusedWith terms place t sent SchemaDiffers = admission terms.limits (options_of terms) terms.shape sent place t ≡ Some SchemaDiffers
 IsRefusedWith terms place t sent DictionariesDiffer = admission terms.limits (options_of terms) terms.shape sent place t ≡ Some DictionariesDiffer
 IsRefusedWith terms place t sent fault = fault ≡ Memory
 
--- An answer to a batch: its part was built, or it is refused, or a growth was refused. What was sent stays.
+-- A result for a batch: its messages were built, or it is rejected, or an allocation failed. The dictionaries that
+-- were sent are unchanged.
 abbrev pub BuildsPart : Terms → ℕ → Table → List (ℤ × ValueList) → Result (Unit {0}) WriteFault → List ℕ → Tracked → Type 0
 BuildsPart terms place t sent (Ok done) bytes now = IsPartBuilt terms place t sent bytes now
 BuildsPart terms place t sent (Err fault) bytes now = IsRefusedWith terms place t sent fault × (now.sent ≡ sent)
 
--- The same, and after a refusal nothing is staged.
+-- The same, and after a fault nothing is staged.
 abbrev pub BuildsOrDrops : Terms → ℕ → Table → List (ℤ × ValueList) → Result (Unit {0}) WriteFault → List ℕ → Tracked → Type 0
 BuildsOrDrops terms place t sent (Ok done) bytes now = IsPartBuilt terms place t sent bytes now
 BuildsOrDrops terms place t sent (Err fault) bytes now = IsRefusedWith terms place t sent fault × (now.sent ≡ sent) × (now.next ≡ sent)

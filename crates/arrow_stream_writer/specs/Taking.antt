@@ -5,7 +5,7 @@ use Rattle.arrow_sink.specs.declared.status.Status.TheVariants as statuses
 use Rattle.arrow_sink.specs.declared.write_fault.WriteFault.{WriteFault}
 use Rattle.arrow_sink.specs.declared.write_fault.WriteFault.TheVariants.{Broken, Finished}
 
--- whether one with this status does, or why not
+-- whether a writer with this status takes more, or why not
 abbrev pub taking : Status → Result (Unit {0}) WriteFault
 taking statuses.Writing = Ok tt
 taking statuses.Finished = Err Finished

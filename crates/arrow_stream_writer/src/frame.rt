@@ -14,7 +14,8 @@ use arrow_stream_reader::CONTINUATION;
 use std::alloc::AllocError;
 use std::mem;
 
-// The eight bytes before metadata of so many bytes (Columnar Format, "Encapsulated message format").
+/// The eight bytes before metadata of this many bytes (Columnar Format, "Encapsulated message
+/// format").
 pub(crate) fn prefix_of(size: u32) -> [u8; 8]
     ensures { result ≡ prefix_bytes size }
 {
@@ -27,7 +28,7 @@ pub(crate) fn prefix_of(size: u32) -> [u8; 8]
 
 /// Appends the end marker.
 ///
-/// The only error is `AllocError`; the bytes are then those of before.
+/// The only error is `AllocError`; then the bytes are as they were before.
 pub fn put_end_marker(out: &mut Vec<u8>) -> Result<(), AllocError>
     ensures ok { OnOk result (AppendsMarker out.old.items out.new.items) }
     ensures err { OnErr result (out.new.items ≡ out.old.items) }
@@ -36,11 +37,11 @@ pub fn put_end_marker(out: &mut Vec<u8>) -> Result<(), AllocError>
 }
 
 /// Appends the frame of a message with this body, the metadata padded with zero bytes so that they
-/// end at a multiple of the alignment where the frame begins at one.
+/// end at a multiple of the alignment if the frame begins at one.
 ///
-/// Conditions: the alignment is from 1 to 64, `encoded_size` answers a number for the message, and
-/// the message tells the body's length. The only error is `AllocError`; the bytes are then those of
-/// before.
+/// Conditions: the alignment is from 1 to 64, `encoded_size` returns a number for the message, and
+/// the message gives the body's length. The only error is `AllocError`; then the bytes are as they
+/// were before.
 pub fn put_frame(
     out: &mut Vec<u8>,
     align: usize,
@@ -50,7 +51,7 @@ pub fn put_frame(
     requires some { 1 ≤ align }
     requires few { align ≤ 64 }
     requires sendable { IsSome (size_of (message_view message.now)) }
-    requires told { message.now.body_len ≡ length body.now }
+    requires reported { message.now.body_len ≡ length body.now }
     ensures ok { OnOk result (AppendsFrame align (message_view message.now) body.now
         out.old.items out.new.items) }
     ensures err { OnErr result (out.new.items ≡ out.old.items) }
@@ -67,9 +68,9 @@ pub fn put_frame(
     }
 }
 
-/// Appends the head of a message's frame, all of it but the body: with any body of the length that
-/// the message tells behind it, it is the frame of the message with this body. The metadata are laid
-/// out in a room, which is kept.
+/// Appends the head of a message's frame, all of it but the body: followed by any body of the
+/// length that the message gives, it is the frame of the message with this body. The metadata are
+/// laid out in a scratch buffer, whose capacity is kept.
 pub(crate) fn put_head(
     out: &mut Vec<u8>,
     room: &mut Vec<u8>,
@@ -98,8 +99,8 @@ pub(crate) fn put_head(
     }
 }
 
-// Appends the prefix of metadata of this size, the metadata, and zero bytes up to the size. The
-// bytes of before stand first, also where a growth was refused.
+/// Appends the prefix of metadata of this size, the metadata, and zero bytes up to the size. The
+/// bytes from before come first, also if an allocation failed.
 fn put_metadata(out: &mut Vec<u8>, size: usize, metadata: &[u8]) -> Result<(), AllocError>
     requires { size ≤ 2147483648 }
     ensures ok { OnOk result (out.new.items

@@ -1,7 +1,8 @@
-//! The frames of record batches and dictionary batches, built of columns.
+//! The frames of record batches and dictionary batches, built from columns.
 //!
-//! What would not keep to the limits is refused before a byte of its frame is appended: columns are
-//! walked once, which stores their body, then its nodes are looked at, then the metadata are measured.
+//! A batch that would not keep to the limits is rejected before a byte of its frame is appended:
+//! the columns are walked once, which stores their body, then its nodes are checked, then the
+//! metadata are measured.
 
 ghost use Rattle.std.specs.Prelude.{◌≡◌, ◌≤◌, ◌<◌, ◌^◌, IsSome, MatchOption, OnOk, length};
 ghost use Rattle.std.specs.List.{list_any};
@@ -19,7 +20,7 @@ ghost use Rattle.arrow_stream_writer.specs.Updating.{IsNamed, PutsUpdate, sendin
 
 use crate::frame::put_head;
 use crate::settings::Settings;
-use arrow_body_writer::{Align, Body, StoreFault, store_in, store_rest_in};
+use arrow_body_writer::{Align, Body, BodyStoreFault, store_in, store_rest_in};
 use arrow_data::{Batch, Dictionary};
 use arrow_meta_reader::{Header, Message, MetadataVersion, RecordBatch};
 use arrow_meta_writer::encoded_size;
@@ -28,18 +29,18 @@ use arrow_types::{FieldNode, TypeSet};
 use std::alloc::AllocError;
 use std::mem;
 
-/// What a batch is to a reader (`Message.fbs`, union `MessageHeader`).
+/// What a batch is for a reader (`Message.fbs`, union `MessageHeader`).
 #[derive(Clone, Copy)]
-pub(crate) enum BatchKind {
+pub(crate) enum BatchHeader {
     /// Rows of the stream.
     Record,
-    /// Values for the dictionary of this id: with true they are appended to it, with false they
+    /// Values for the dictionary with this id: with true they are appended to it, with false they
     /// replace it.
     Dictionary(i64, bool),
 }
 
-/// A dictionary batch that is to be sent: the values of a dictionary from one on, as a delta or for
-/// themselves (`Message.fbs`, table `DictionaryBatch`).
+/// A dictionary batch that is to be sent: the values of a dictionary from an index on, as a delta
+/// or as a replacement (`Message.fbs`, table `DictionaryBatch`).
 #[derive(Clone, Copy)]
 pub(crate) struct DictionaryBatch<'a> {
     pub(crate) id: i64,
@@ -48,21 +49,21 @@ pub(crate) struct DictionaryBatch<'a> {
     pub(crate) dictionary: &'a Dictionary,
 }
 
-/// A body of fewer bytes is sent as one piece with what stands before it.
+/// A body of fewer bytes is sent in one piece together with the bytes before it.
 const LONG: usize = 16_384;
 
-/// The part of a batch as it is built: the bytes of its frames, and behind them the body that was
-/// stored last, which is sent from where it lies. Both keep their room, and so do the metadata,
-/// which are laid out by themselves.
+/// The messages of one batch as they are built: the bytes of the frames, and after them the body
+/// that was stored last, which is sent from where it lies. Both keep their capacity, and so do the
+/// metadata, which are laid out in a buffer of their own.
 #[derive(Drop)]
-pub(crate) struct Part {
+pub(crate) struct BatchMessages {
     pub(crate) bytes: Vec<u8>,
     pub(crate) body: Body,
     pub(crate) room: Vec<u8>,
 }
 
-impl Part {
-    /// How many bytes it has.
+impl BatchMessages {
+    /// How many bytes the messages have.
     pub(crate) fn len(&self) -> usize
         ensures { result ≡ length (part_bytes self.now) }
     {
@@ -89,17 +90,17 @@ impl Part {
     }
 }
 
-// The header of the message that holds the batch.
-fn header_of(kind: BatchKind, batch: RecordBatch) -> Header
+/// The header of the message that holds the batch.
+fn header_of(kind: BatchHeader, batch: RecordBatch) -> Header
     ensures { header_view result ≡ header_of kind (batch_view batch) }
 {
     match kind {
-        BatchKind::Record => Header::Batch(batch),
-        BatchKind::Dictionary(id, is_delta) => Header::Dictionary(id, is_delta, batch),
+        BatchHeader::Record => Header::Batch(batch),
+        BatchHeader::Dictionary(id, is_delta) => Header::Dictionary(id, is_delta, batch),
     }
 }
 
-// Gives a body the nodes and the buffers back that a message has, for their room.
+/// Returns the nodes and the buffers of a message to a body, to keep their capacity.
 fn give_back(message: Message, body: &mut Body)
     ensures { body.new.bytes.items ≡ body.old.bytes.items }
 {
@@ -112,24 +113,24 @@ fn give_back(message: Message, body: &mut Body)
     }
 }
 
-// What it is to a writer that columns are not stored.
-fn not_stored(fault: StoreFault) -> WriteFault
+/// The writer's fault if columns are not stored.
+fn not_stored(fault: BodyStoreFault) -> WriteFault
     ensures { result ≡ not_stored fault }
 {
     match fault {
-        StoreFault::TooLarge => WriteFault::TooLarge,
-        StoreFault::Memory => WriteFault::Memory,
+        BodyStoreFault::TooLarge => WriteFault::TooLarge,
+        BodyStoreFault::Memory => WriteFault::Memory,
     }
 }
 
-// Whether a number of slots is negative or over the limit.
+/// Whether a number of slots is negative or over the limit.
 fn is_bad_length(max: u64, length: i64) -> bool
     ensures { result ≡ is_bad_length max length }
 {
     length < 0 || max < length as u64
 }
 
-// Whether that of a node is.
+/// Whether that of some node is.
 fn have_bad_length(max: u64, nodes: &[FieldNode]) -> bool
     ensures { result ≡ list_any (λ n. is_bad_length max n.length) nodes.now }
 {
@@ -141,8 +142,8 @@ fn have_bad_length(max: u64, nodes: &[FieldNode]) -> bool
     false
 }
 
-// How many bytes the metadata of the message take in a frame, with their padding; None where they
-// are over the ceiling of all limits.
+/// How many bytes the metadata of the message take in a frame, with their padding; None if they are
+/// over the ceiling of all limits.
 fn metadata_len(align: Align, message: &Message) -> Option<u64>
     requires version { message.now.version ≡ MetadataVersion.V5 }
     requires body { message.now.body_len ≤ 2 ^ 40 }
@@ -155,7 +156,7 @@ fn metadata_len(align: Align, message: &Message) -> Option<u64>
     Some(align.round_up(8 + size) - 8)
 }
 
-// Whether a set leaves out the type of a field of the message.
+/// Whether a set leaves out the type of a field of the message.
 fn leaves_out(types: TypeSet, header: &Header) -> bool
     ensures { result ≡ leaves_header_out types (header_view header.now) }
 {
@@ -166,7 +167,7 @@ fn leaves_out(types: TypeSet, header: &Header) -> bool
 }
 
 impl Settings {
-    /// Appends the head of the message's frame, whose metadata are laid out in a room.
+    /// Appends the head of the message's frame, whose metadata are laid out in a scratch buffer.
     pub(crate) fn put_head(
         &self,
         message: &Message,
@@ -186,20 +187,20 @@ impl Settings {
         if leaves_out(self.limits.types(), &message.header) {
             return Err(WriteFault::TooLarge);
         }
-        // One growth makes room for all of it.
+        // One allocation makes room for all of it.
         out.reserve(8 + len as usize)?;
         put_head(out, room, self.align.bytes(), message)?;
         Ok(())
     }
 
-    /// Appends the head of the frame of a batch whose columns were stored in the part's body, which
-    /// stays behind it. After a fault what stands behind the bytes is a rest of which nothing is
-    /// said.
+    /// Appends the head of the frame of a batch whose columns were stored in the body of the batch
+    /// messages; the body stays after it. After a fault the bytes past the old length are
+    /// unspecified.
     pub(crate) fn put_stored(
         &self,
-        kind: BatchKind,
+        kind: BatchHeader,
         rows: usize,
-        part: &mut Part,
+        part: &mut BatchMessages,
     ) -> Result<(), WriteFault>
         ensures { (load : Load) → load.kind ≡ kind → load.rows ≡ rows
             → IsStored (terms_of self.now).align load (body_view part.old.body)
@@ -230,36 +231,40 @@ impl Settings {
         answer
     }
 
-    /// Appends the frame of the batch's record batch, whose body may stay where it is stored, behind
-    /// the bytes. After a fault what stands there is a rest of which nothing is said.
-    pub(crate) fn put_record(&self, batch: &Batch, part: &mut Part) -> Result<(), WriteFault>
+    /// Appends the frame of the batch's record batch; its body may stay where it is stored, after
+    /// the bytes. After a fault the bytes past the old length are unspecified.
+    pub(crate) fn put_record(
+        &self,
+        batch: &Batch,
+        part: &mut BatchMessages,
+    ) -> Result<(), WriteFault>
         ensures { Puts (terms_of self.now) (record_load batch.now) part.old.bytes.items result
             (part_bytes part.new) }
     {
-        // The proof has by it at hand what is known of every batch, and of all limits.
+        // This gives the proof what is known of every batch, and of all limits.
         let _ = batch.schema();
         let _ = self.limits.max_rows();
         if let Err(fault) = store_in(&mut part.body, batch.columns(), self.align) {
             return Err(not_stored(fault));
         }
-        self.put_stored(BatchKind::Record, batch.rows(), part)?;
+        self.put_stored(BatchHeader::Record, batch.rows(), part)?;
         part.append_short_body()?;
         Ok(())
     }
 
-    /// Appends the frame of the dictionary batch, all of it to the bytes. After a fault what stands
-    /// behind these is a rest of which nothing is said.
+    /// Appends the frame of the dictionary batch, all of it to the bytes. After a fault the bytes
+    /// past the old length are unspecified.
     pub(crate) fn put_update(
         &self,
         update: &DictionaryBatch,
-        part: &mut Part,
+        part: &mut BatchMessages,
     ) -> Result<(), WriteFault>
         requires { update.now.from ≤ length update.now.dictionary.now.values }
         ensures { IsNamed self.now.schema.value.fields update.now.id update.now.dictionary.now.data_type
             → PutsUpdate (terms_of self.now) (sending_of update.now) part.old.bytes.items result
             part.new.bytes.items }
     {
-        // The proof has by it at hand what is known of every schema.
+        // This gives the proof what is known of every schema.
         let _ = self.schema.fields();
         let dictionary = update.dictionary;
         let len = dictionary.len();
@@ -270,7 +275,7 @@ impl Settings {
         if let Err(fault) = stored {
             return Err(not_stored(fault));
         }
-        let kind = BatchKind::Dictionary(update.id, update.is_delta);
+        let kind = BatchHeader::Dictionary(update.id, update.is_delta);
         self.put_stored(kind, len - update.from, part)?;
         part.append_body()?;
         Ok(())

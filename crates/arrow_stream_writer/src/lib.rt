@@ -1,28 +1,29 @@
-//! The writer of a stream (Columnar Format, "IPC Streaming Format"): batches go in, frames come out,
-//! into any sink.
+//! The writer of a stream (Columnar Format, "IPC Streaming Format"): batches go in, frames come
+//! out, into any sink.
 //!
-//! A [`StreamWriter`] takes batches whose columns were read or made by whom they like, and sends
-//! for each the frames of the dictionary batches that it needs and of its record batch. What its
-//! calls answer and where they leave it is said in the words of `arrow_stream_laws`, of what it
-//! shows (`specs/Shown.antt`); by the laws there, and by [`laws::delivered_whole`], what a sink
-//! accepted of it is a stream of just the rows of the batches that were accepted.
+//! A [`StreamWriter`] takes batches whose columns were read or made in any way, and sends for each
+//! the frames of the dictionary batches that it needs and of its record batch. What its calls
+//! return and the state they leave it in is specified by `arrow_stream_laws`, in terms of its view
+//! (`specs/Shown.antt`); by the laws there, and by [`laws::delivered_whole`], the bytes that a sink
+//! accepted from it are a stream of just the rows of the batches that were accepted.
 //!
-//! A part is built whole before a byte of it is sent (`parts.rt`), so that a refusal leaves all as it
-//! was. `BatchLists` (`lists.rt`) finds the dictionaries of a batch at its columns, on every level
-//! (Columnar Format, "Dictionary-encoded Layout"). `Updater` (`updating.rt`) goes through the ids of
-//! the schema, appends the frames of the dictionary batches that are to be sent, and stages the
-//! dictionaries. `frames.rt` builds frames of columns within the limits. `send_part` and `send_end`
-//! (`sending.rt`) send what was built: only where the sink took all of a part are the staged
-//! dictionaries sent ones. A frame is eight bytes of prefix, the metadata of a message and its body
-//! (Columnar Format, "Encapsulated message format"): `frame.rt` appends it, its head alone, or the
-//! end marker. The last body of a part, where it is long, is sent from where it was stored.
+//! The messages of a batch are built completely before a byte of them is sent (`parts.rt`), so that
+//! a rejection changes nothing. `BatchLists` (`lists.rt`) finds the dictionaries of a batch at its
+//! columns, on every level (Columnar Format, "Dictionary-encoded Layout"). `Updater`
+//! (`updating.rt`) goes through the ids of the schema, appends the frames of the dictionary batches
+//! that are to be sent, and stages the dictionaries. `frames.rt` builds frames of columns within
+//! the limits. `send_part` and `send_end` (`sending.rt`) send what was built: the staged
+//! dictionaries become sent ones only if the sink took all of a batch's messages. A frame is eight
+//! bytes of prefix, the metadata of a message and its body (Columnar Format, "Encapsulated message
+//! format"): `frame.rt` appends it, only its head, or the end marker. The last body of a batch's
+//! messages, if it is long, is sent from where it was stored.
 //!
 //! | Notion | Definition |
 //! |---|---|
-//! | what a writer over a sink shows | `specs/Shown.antt`: `shown` |
-//! | the part of a batch, built | `specs/Parts.antt`: `IsPartBuilt`, `BuildsPart` |
+//! | the view of a writer over a sink | `specs/Shown.antt`: `shown` |
+//! | the messages of a batch, built | `specs/Parts.antt`: `IsPartBuilt`, `BuildsPart` |
 //! | a frame, its head, the end marker, appended | `specs/Frame.antt`: `AppendsFrame`, `AppendsHead`, `AppendsMarker` |
-//! | sizes that hang on fields alone | `specs/Sizes.antt`: `BatchesSized`, `DictionariesSized` |
+//! | sizes that depend only on fields | `specs/Sizes.antt`: `BatchesSized`, `DictionariesSized` |
 //! | the frame of columns, within the limits | `specs/Framing.antt`: `Puts`, `part_bytes`; `specs/Terms.antt`: `Terms` |
 //! | the dictionaries of a batch | `specs/Lists.antt`: `AreListsOf`, `FindsLists` |
 //! | those that are to be sent | `specs/Updating.antt`: `AddsPlan` |
@@ -30,15 +31,16 @@
 //! | what a reader has of it | `specs/Delivery.antt`: `DeliveredWhole` |
 //!
 //! Of the proofs, `Finding`, `Gathering` and `Found` go from one column's dictionaries to those of
-//! a batch, `Storable`, `Framed` and `Rests` from columns to frames, `Adding` and `Closing` make a
-//! part, `Pieces` says what a sink has of two pieces, `Showing` what a writer shows after its calls,
-//! and `Delivering` what a reader has of it.
+//! a batch, `Storable`, `Framed` and `Rests` from columns to frames, `Adding` and `Closing` make
+//! the messages of a batch, `Pieces` says what a sink has of two pieces, `Showing` gives the view
+//! of a writer after its calls, and `Delivering` what a reader has of it.
 #![tactic(auto)]
 
 mod frame;
 pub(crate) mod frames;
 pub mod laws;
 pub(crate) mod lists;
+mod options;
 pub(crate) mod parts;
 pub(crate) mod sending;
 pub(crate) mod settings;
@@ -49,4 +51,5 @@ pub use arrow_body_writer::Align;
 pub use arrow_dict::Updates;
 pub use arrow_sink::WriteFault;
 pub use frame::{put_end_marker, put_frame};
-pub use stream_writer::{Options, StreamWriter};
+pub use options::Options;
+pub use stream_writer::StreamWriter;

@@ -15,7 +15,7 @@ use std::collections::BTreeMap;
 pub(crate) enum ListsFault {
     /// Two columns have different dictionaries of one id.
     DictionariesDiffer,
-    /// A growth was refused.
+    /// An allocation failed.
     Memory,
 }
 
@@ -29,7 +29,7 @@ impl<T: Drop> From<AllocFailed<T>> for ListsFault {
     }
 }
 
-/// The dictionaries of a batch by their ids: of each id the one that the first of its columns in
+/// The dictionaries of a batch by their ids: for each id the one that the first of its columns in
 /// pre-order refers to. Those of all other columns are equal to it.
 #[derive(Drop)]
 pub(crate) struct BatchLists<'a> {
@@ -38,18 +38,18 @@ pub(crate) struct BatchLists<'a> {
 
 impl<'a> BatchLists<'a> {
     /// The dictionaries of the batch, or that two of its columns have different ones of one id. The
-    /// time grows as n log n with the number of columns on all levels, beside the comparisons.
+    /// time, without the comparisons, grows as n log n with the number of columns on all levels.
     pub(crate) fn of(alloc: Global, batch: &'a Batch) -> Result<BatchLists<'a>, ListsFault>
         ensures { FindsLists result batch.now }
     {
-        // The proof has by it at hand what is known of every batch.
+        // This gives the proof what is known of every batch.
         let _ = batch.schema();
         let mut lists = BatchLists::new(alloc);
         lists.add_columns(batch.columns())?;
         Ok(lists)
     }
 
-    // The dictionaries of no columns. Takes no memory.
+    /// The dictionaries of no columns. Allocates nothing.
     fn new(alloc: Global) -> BatchLists<'a>
         ensures { (id : ℤ) → dictionary_in result id ≡ None }
     {
@@ -58,7 +58,7 @@ impl<'a> BatchLists<'a> {
         }
     }
 
-    /// The dictionary of the id, None where no column refers to one.
+    /// The dictionary of the id, None if no column refers to one.
     pub(crate) fn get(&self, id: i64) -> Option<&'a Dictionary>
         ensures { option_map (λ d. d.now) result ≡ dictionary_in self.now id }
     {
@@ -68,7 +68,7 @@ impl<'a> BatchLists<'a> {
         }
     }
 
-    // Adds the dictionary of a column, or tells that another one of its id is there.
+    /// Adds the dictionary of a column, or reports that a different one of its id is there.
     fn add(&mut self, id: i64, dictionary: &'a Dictionary) -> Result<(), ListsFault>
         ensures { AddsList id dictionary.now (dictionary_in self.old) result (dictionary_in self.new) }
     {
@@ -87,7 +87,7 @@ impl<'a> BatchLists<'a> {
         }
     }
 
-    // Adds the dictionaries of the columns, those of each before those of the next one.
+    /// Adds the dictionaries of the columns, those of each before those of the next one.
     #[cycle(gathering)]
     fn add_columns(&mut self, columns: &'a [Array]) -> Result<(), ListsFault>
         ensures gathers { Gathers columns.now (dictionary_in self.old) result
@@ -100,14 +100,14 @@ impl<'a> BatchLists<'a> {
         Ok(())
     }
 
-    // Adds the dictionary of the column, or those of the columns below it.
+    /// Adds the dictionary of the column, or those of the columns below it.
     #[cycle(gathering)]
     fn add_column(&mut self, column: &'a Array) -> Result<(), ListsFault>
         ensures gathers { Gathers (column.now ∷ []) (dictionary_in self.old) result
             (dictionary_in self.new) }
         ensures known { IsColumn column.now }
     {
-        // The proof has by it at hand what is known of every column.
+        // This gives the proof what is known of every column.
         let _ = column.len();
         match (column.dictionary(), column.encoding()) {
             (Some(dictionary), Some(encoding)) => self.add(encoding.id, dictionary),
@@ -121,7 +121,7 @@ impl<'a> BatchLists<'a> {
     }
 }
 
-// The columns of the items of lists, or of the fields of structs. None where slots hold neither.
+/// The columns of the items of lists, or of the fields of structs. None if slots hold neither.
 fn below(column: &Array) -> Option<&[Array]>
     ensures { column.now.encoding ≡ None
         → MatchOption result (column.now.dictionaries ≡ [])

@@ -1,4 +1,4 @@
-//! The part of a batch, built whole before a byte of it is sent.
+//! The messages of a batch, built completely before a byte of them is sent.
 
 ghost use Rattle.std.specs.Prelude.{◌≡◌, ◌≤◌, ◌^◌, [], IfOk, OnErr};
 ghost use Rattle.arrow_body_writer.specs.Align.{alignment_of};
@@ -9,10 +9,10 @@ ghost use Rattle.arrow_stream_writer.specs.Parts.{BuildsOrDrops, BuildsPart, Put
 ghost use Rattle.arrow_stream_writer.specs.Terms.{terms_of};
 ghost use Rattle.arrow_stream_writer.specs.Updating.{work_of};
 
-use crate::frames::Part;
+use crate::frames::BatchMessages;
 use crate::lists::{BatchLists, ListsFault};
+use crate::options::Options;
 use crate::settings::Settings;
-use crate::stream_writer::Options;
 use crate::updating::Updater;
 use arrow_body_writer::Body;
 use arrow_data::Batch;
@@ -23,19 +23,19 @@ use arrow_types::{Limits, Schema};
 use std::alloc::{AllocError, Global};
 use std::rc::Rc;
 
-/// What builds the parts of a connection, one after another.
+/// Builds the messages of the batches of a connection, one batch after another.
 #[derive(Drop)]
 pub(crate) struct PartBuilder {
-    /// By what it builds.
+    /// The settings that it builds by.
     pub(crate) settings: Settings,
-    /// The dictionaries that were sent, and those that the part in work brings.
+    /// The dictionaries that were sent, and those in the batch messages in work.
     pub(crate) tracker: Tracker,
-    /// The part that was built last.
-    pub(crate) part: Part,
+    /// The batch messages that were built last.
+    pub(crate) part: BatchMessages,
 }
 
 impl PartBuilder {
-    /// What builds the parts of a connection with a copy of this schema, before the first one.
+    /// A builder for a connection with a copy of this schema, before the first batch.
     pub(crate) fn new(
         alloc: Global,
         schema: &Schema,
@@ -61,7 +61,7 @@ impl PartBuilder {
                 align: options.align,
             },
             tracker: Tracker::new(alloc),
-            part: Part {
+            part: BatchMessages {
                 bytes: Vec::new(alloc),
                 body: Body::new(alloc),
                 room: Vec::new(alloc),
@@ -69,7 +69,7 @@ impl PartBuilder {
         })
     }
 
-    /// Puts the frame of the schema in place of the part before.
+    /// Replaces the batch messages built last by the frame of the schema.
     pub(crate) fn put_schema(&mut self) -> Result<(), WriteFault>
         ensures settings { self.new.settings ≡ self.old.settings }
         ensures tracker { self.new.tracker ≡ self.old.tracker }
@@ -78,7 +78,7 @@ impl PartBuilder {
         ensures put { PutsMessage (terms_of self.old.settings)
             (schema self.old.settings.schema.value) [] [] result self.new.part.bytes.items }
     {
-        // The proof has by it at hand what is known of every schema, and of all limits.
+        // This gives the proof what is known of every schema, and of all limits.
         let _ = self.settings.limits.max_metadata();
         let _ = self.settings.schema.metadata();
         self.part.bytes.clear();
@@ -91,8 +91,8 @@ impl PartBuilder {
             .put_head(&message, &mut self.part.bytes, &mut self.part.room)
     }
 
-    /// Builds the part of the batch, which is to begin at this place, and stages its dictionaries.
-    /// After a fault nothing is staged.
+    /// Builds the messages of the batch, which are to begin at this offset, and stages its
+    /// dictionaries. After a fault nothing is staged.
     pub(crate) fn build(&mut self, place: u64, batch: &Batch) -> Result<(), WriteFault>
         requires near { place ≤ 2 ^ 62 }
         requires committed { self.old.tracker.next ≡ self.old.tracker.sent }
@@ -110,8 +110,8 @@ impl PartBuilder {
         }
     }
 
-    // Puts the frames of the part in place of the one before. After a fault some dictionaries may
-    // be staged.
+    /// Replaces the batch messages built last by the frames of this batch. After a fault some
+    /// dictionaries may be staged.
     fn put_frames(&mut self, place: u64, batch: &Batch) -> Result<(), WriteFault>
         requires near { place ≤ 2 ^ 62 }
         requires committed { self.old.tracker.next ≡ self.old.tracker.sent }
@@ -135,12 +135,13 @@ impl PartBuilder {
     }
 }
 
-// Puts the frames of the batch's dictionaries into an empty part, and stages the dictionaries.
+/// Puts the frames of the batch's dictionaries into empty batch messages, and stages the
+/// dictionaries.
 fn put_updates(
     settings: &Settings,
     batch: &Batch,
     tracker: &mut Tracker,
-    part: &mut Part,
+    part: &mut BatchMessages,
 ) -> Result<(), WriteFault>
     requires schema { batch.now.schema ≡ settings.now.schema.value }
     requires empty { part.old.bytes.items ≡ [] }

@@ -1,4 +1,4 @@
-//! Sending a part that was built, and the end marker.
+//! Sending batch messages that were built, and the end marker.
 
 ghost use Rattle.std.specs.Prelude.{◌≡◌, ◌<◌, ◌+◌, ◌-◌, ◌^◌, ◌++◌, IfErr, OnErr, OnOk};
 ghost use Rattle.std.specs.Io.KnownBytes.{Appends};
@@ -8,11 +8,11 @@ ghost use Rattle.arrow_stream_writer.specs.Marker.{marker};
 ghost use Rattle.arrow_sink.specs.declared.write_fault.WriteFault.TheVariants.{Sink};
 
 use crate::frame::prefix_of;
-use crate::frames::Part;
+use crate::frames::BatchMessages;
 use arrow_dict::Tracker;
 use arrow_sink::{Sink, SinkFault, WriteFault, send};
 
-// Sends two pieces, one after the other.
+/// Sends two pieces, one after the other.
 fn send_pieces<S: Sink>(sink: &mut S, first: &[u8], second: &[u8]) -> Result<(), SinkFault>
     requires { S.failed sink.old < 2 ^ 64 - 1 }
     ensures all { OnOk result
@@ -26,11 +26,11 @@ fn send_pieces<S: Sink>(sink: &mut S, first: &[u8], second: &[u8]) -> Result<(),
     send(sink, second)
 }
 
-/// Sends a part. What was staged becomes what was sent only where the sink took all of the part;
-/// else it is dropped, and the fault is `Sink`.
+/// Sends batch messages. The staged dictionaries become the sent ones only if the sink took all of
+/// the messages; otherwise they are dropped, and the fault is `Sink`.
 pub(crate) fn send_part<S: Sink>(
     sink: &mut S,
-    part: &Part,
+    part: &BatchMessages,
     tracker: &mut Tracker,
 ) -> Result<(), WriteFault>
     requires { S.failed sink.old < 2 ^ 64 - 1 }
@@ -57,7 +57,7 @@ pub(crate) fn send_part<S: Sink>(
 }
 
 /// Sends the end marker, the prefix of no metadata (Columnar Format, "IPC Streaming Format"), and
-/// then flushes the sink once. Takes no memory.
+/// then flushes the sink once. Allocates nothing.
 pub(crate) fn send_end<S: Sink>(sink: &mut S) -> Result<(), WriteFault>
     requires { S.failed sink.old < 2 ^ 64 - 1 }
     ensures all { OnOk result (Appends (S.contents sink.old) (S.contents sink.new) marker) }

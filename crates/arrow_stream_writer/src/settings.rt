@@ -1,4 +1,4 @@
-//! By what a writer goes on a connection.
+//! The settings of a writer on a connection.
 
 ghost use Rattle.std.specs.Prelude.{◌≡◌};
 ghost use Rattle.arrow_stream_writer.specs.Terms.{terms_of};
@@ -10,8 +10,8 @@ use arrow_types::{Limits, Schema};
 use std::alloc::Global;
 use std::rc::Rc;
 
-/// By what a writer goes on a connection: where it takes memory, its limits, its schema, how it
-/// sends dictionaries that grew, and to how many bytes it pads.
+/// The settings of a writer on a connection: its allocator, its limits, its schema, how it sends
+/// extended dictionaries, and to how many bytes it pads.
 #[derive(Drop)]
 pub(crate) struct Settings {
     pub(crate) alloc: Global,
@@ -22,8 +22,9 @@ pub(crate) struct Settings {
 }
 
 impl Settings {
-    /// Keeps the schema of a batch, which is equal, in place of its own. The next batch mostly shares
-    /// it with this one, and then it is compared with itself: one memory is read, and not two.
+    /// Keeps the schema of a batch, which is equal, in place of its own. The next batch mostly
+    /// shares it with this one, and then it is compared with itself: only one block of memory is
+    /// read, not two.
     pub(crate) fn share_schema(&mut self, batch: &Batch)
         requires { batch.now.schema ≡ self.old.schema.value }
         ensures { terms_of self.new ≡ terms_of self.old }

@@ -5,54 +5,29 @@ ghost use Rattle.arrow_dict.specs.Dictionaries.{entries_code};
 ghost use Rattle.arrow_stream_writer.specs.Taking.{taking};
 ghost use Rattle.std.specs.Coded.{Coded-set};
 
+use crate::options::Options;
 use crate::parts::PartBuilder;
 use crate::sending::{send_end, send_part};
 use crate::settings::Settings;
-use arrow_body_writer::Align;
 use arrow_data::Batch;
-use arrow_dict::{Tracker, Updates};
+use arrow_dict::Tracker;
 use arrow_sink::{Sink, Status, WriteFault, send};
 use arrow_types::{Limits, Schema};
 use std::alloc::Global;
 use std::mem::replace;
 
-/// How a writer sends.
-#[derive(Clone, Copy, Debug, PartialEq, Eq)]
-pub struct Options {
-    /// How it sends dictionaries that grew (Columnar Format, "Dictionary Messages").
-    pub updates: Updates,
-    /// To how many bytes it pads buffers and metadata (Columnar Format, "Buffer Alignment and
-    /// Padding").
-    pub align: Align,
-}
-
-/// Dictionaries that grew are sent as deltas, and buffers are padded to 64 bytes.
-impl Default for Options {
-    ghost use Rattle.arrow_body_writer.specs.declared.align.Align.TheVariants.{SixtyFour};
-    ghost use Rattle.arrow_dict.specs.declared.update.Updates.TheVariants.{Delta};
-
-    ghost is_default = { λ o. o ≡ record { updates = Delta; align = SixtyFour } };
-
-    fn default() -> Options {
-        Options {
-            updates: Updates::Delta,
-            align: Align::SixtyFour,
-        }
-    }
-}
-
 /// The writer of a stream: a schema, then batches of it, then the end marker, each sent to the sink
-/// as whole frames (Columnar Format, "IPC Streaming Format").
+/// as complete frames (Columnar Format, "IPC Streaming Format").
 ///
-/// What it shows is said by `shown`, and what each call may answer and leave by
-/// `arrow_stream_laws`: `Starts`, `Writes`, `Finishes`. By its laws what the sink accepted, where
-/// it tells, is a stream of just the rows of the batches that were accepted, and after a failure of
-/// the sink a beginning of such a stream.
+/// `shown` defines its view, and `arrow_stream_laws` what each call may return and leave: `Starts`,
+/// `Writes`, `Finishes`. By its laws the bytes that the sink accepted, if they are known, are a
+/// stream of just the rows of the batches that were accepted, and after a failure of the sink a
+/// prefix of such a stream.
 #[derive(Drop)]
 pub struct StreamWriter<S> {
     sink: S,
     builder: PartBuilder,
-    // The place of the next frame, in bytes from the stream's first.
+    /// The offset of the next frame, in bytes from the stream's first.
     place: u64,
     status: Status,
     ghost near: { place ≤ 2 ^ 62 },
@@ -64,11 +39,11 @@ impl<S: Sink> StreamWriter<S> {
     ghost use Rattle.arrow_sink.specs.declared.write_fault.WriteFault.TheVariants.{Sink};
     ghost use Rattle.arrow_stream_writer.specs.Shown.{options_view, shown};
 
-    /// Sends the frame of the schema, and answers a writer of batches of this schema.
+    /// Sends the frame of the schema, and returns a writer of batches of this schema.
     ///
-    /// Faults: `TooLarge` where the metadata of the schema do not keep to the limits, or the type of a
-    /// field on any level is not in their set; `Memory` where a growth was refused; then the sink comes back untouched. `Sink` where the sink failed: it
-    /// may have accepted a beginning of the frame.
+    /// Faults: `TooLarge` if the metadata of the schema do not keep to the limits, or the type of a
+    /// field on any level is not in their set; `Memory` if an allocation failed; then the sink is
+    /// returned untouched. `Sink` if the sink failed: it may have accepted a prefix of the frame.
     ///
     /// Condition: the sink has failed less than 2^64 - 1 times.
     pub fn start(
@@ -105,15 +80,16 @@ impl<S: Sink> StreamWriter<S> {
         }
     }
 
-    /// Sends the part of a batch: the frames of the dictionary batches that are needed, in the order
-    /// in which the schema's fields give their ids first, then that of its record batch. All is
-    /// built before the first byte is sent.
+    /// Sends the messages of a batch: the frames of the dictionary batches that are needed, in the
+    /// order in which the schema's fields give their ids first, then that of its record batch.
+    /// Everything is built before the first byte is sent.
     ///
-    /// Faults, tested in this order: `Broken` and `Finished` where the writer takes nothing more;
-    /// `SchemaDiffers`, `DictionariesDiffer`, `TooLarge` where the batch is refused; `Memory` where
-    /// a growth was refused, which may be told before `TooLarge`. After these nothing was sent and
-    /// nothing has changed, neither of the writer nor of its sink. `Sink` where the sink failed: it may have accepted a beginning of the
-    /// part, what was sent before stays in `sent`, and the writer is broken for good.
+    /// Faults, tested in this order: `Broken` and `Finished` if the writer takes nothing more;
+    /// `SchemaDiffers`, `DictionariesDiffer`, `TooLarge` if the batch is rejected; `Memory` if an
+    /// allocation failed, which may be returned before `TooLarge`. After these nothing was sent and
+    /// nothing has changed, neither in the writer nor in its sink. `Sink` if the sink failed: it
+    /// may have accepted a prefix of the batch messages, the dictionaries that were sent before
+    /// stay in `sent`, and the writer is broken for good.
     ///
     /// Condition: the sink has failed less than 2^64 - 1 times.
     pub fn write(&mut self, batch: &Batch) -> Result<(), WriteFault>
@@ -140,11 +116,11 @@ impl<S: Sink> StreamWriter<S> {
         }
     }
 
-    /// Sends the end marker, and flushes the sink once. Takes no memory.
+    /// Sends the end marker, and flushes the sink once. Allocates nothing.
     ///
-    /// Faults: `Broken` and `Finished` where the writer takes nothing more, `TooLarge` where the
-    /// marker would end past the last place; then nothing was sent and nothing has changed. `Sink`
-    /// where the sink failed in the marker, or as it was flushed; then the writer is broken for good.
+    /// Faults: `Broken` and `Finished` if the writer takes nothing more, `TooLarge` if the marker
+    /// would end past the last offset; then nothing was sent and nothing has changed. `Sink` if the
+    /// sink failed within the marker, or when it was flushed; then the writer is broken for good.
     ///
     /// Condition: the sink has failed less than 2^64 - 1 times.
     pub fn finish(&mut self) -> Result<(), WriteFault>
@@ -171,7 +147,7 @@ impl<S: Sink> StreamWriter<S> {
         }
     }
 
-    /// The dictionaries that were sent; none are staged. Takes no memory.
+    /// The dictionaries that were sent; none are staged. Allocates nothing.
     pub fn sent(&self) -> &Tracker
         ensures sent { result.now.sent ≡ (shown S.contents S.failed self.now).sent }
         ensures none_staged { result.now.next ≡ result.now.sent }
@@ -179,15 +155,15 @@ impl<S: Sink> StreamWriter<S> {
         &self.builder.tracker
     }
 
-    /// The sink. Takes no memory.
+    /// The sink. Allocates nothing.
     pub fn sink(&self) -> &S
         ensures { result.now ≡ self.now.sink }
     {
         &self.sink
     }
 
-    /// Puts another sink in the place of the writer's, and answers that one: what is sent from here on goes to the other.
-    /// Takes no memory.
+    /// Replaces the writer's sink by another one, and returns the old one: what is sent from here
+    /// on goes to the new one. Allocates nothing.
     pub fn replace_sink(&mut self, sink: S) -> S
         ensures sink { result ≡ self.old.sink }
         ensures placed { self.new.sink ≡ sink }
@@ -200,7 +176,7 @@ impl<S: Sink> StreamWriter<S> {
         replace(&mut self.sink, sink)
     }
 
-    /// The sink, without the writer. Takes no memory.
+    /// The sink, without the writer. Allocates nothing.
     pub fn into_sink(self) -> S
         ensures { result ≡ self.sink }
     {
@@ -214,7 +190,7 @@ impl<S: Sink> StreamWriter<S> {
     }
 }
 
-// Whether a writer with this status takes more, or why not.
+/// Whether a writer with this status takes more, or why not.
 fn taking(status: Status) -> Result<(), WriteFault>
     ensures { result ≡ taking status }
 {

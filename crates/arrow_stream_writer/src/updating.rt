@@ -6,13 +6,13 @@ ghost use Rattle.arrow_stream_writer.specs.Updating.{AddsId, AddsOne, AddsPlan};
 ghost use Rattle.arrow_stream_writer.specs.Terms.{terms_of};
 ghost use Rattle.arrow_stream_writer.specs.Updating.{IsNamed, sending_of, work_of};
 
-use crate::frames::{DictionaryBatch, Part};
+use crate::frames::{BatchMessages, DictionaryBatch};
 use crate::lists::BatchLists;
 use crate::settings::Settings;
 use arrow_dict::{Tracker, Update};
 use arrow_sink::WriteFault;
 
-/// What builds the frames of a batch's dictionaries.
+/// Builds the frames of a batch's dictionaries.
 #[derive(Drop)]
 pub(crate) struct Updater<'s, 'l, 'd> {
     pub(crate) settings: &'s Settings,
@@ -20,9 +20,13 @@ pub(crate) struct Updater<'s, 'l, 'd> {
 }
 
 impl<'s, 'l, 'd> Updater<'s, 'l, 'd> {
-    /// Puts the frames of the batch's dictionaries into an empty part, id by id in the order of the
-    /// schema, and stages the dictionaries.
-    pub(crate) fn add_all(&self, tracker: &mut Tracker, part: &mut Part) -> Result<(), WriteFault>
+    /// Puts the frames of the batch's dictionaries into empty batch messages, id by id in the order
+    /// of the schema, and stages the dictionaries.
+    pub(crate) fn add_all(
+        &self,
+        tracker: &mut Tracker,
+        part: &mut BatchMessages,
+    ) -> Result<(), WriteFault>
         requires empty { part.old.bytes.items ≡ [] }
         requires committed { tracker.old.next ≡ tracker.old.sent }
         ensures { AddsPlan (terms_of self.now.settings.now)
@@ -36,8 +40,13 @@ impl<'s, 'l, 'd> Updater<'s, 'l, 'd> {
         Ok(())
     }
 
-    // Appends the frame for one id, if there is one to send, and stages the dictionary.
-    fn add_one(&self, id: i64, tracker: &mut Tracker, part: &mut Part) -> Result<(), WriteFault>
+    /// Appends the frame for one id, if there is one to send, and stages the dictionary.
+    fn add_one(
+        &self,
+        id: i64,
+        tracker: &mut Tracker,
+        part: &mut BatchMessages,
+    ) -> Result<(), WriteFault>
         ensures { AddsId (terms_of self.now.settings.now) (dictionary_in self.now.lists.now)
             id (work_of part.old.bytes.items tracker.old) result
             (work_of part.new.bytes.items tracker.new) }
@@ -68,12 +77,12 @@ impl<'s, 'l, 'd> Updater<'s, 'l, 'd> {
         }
     }
 
-    // Appends the frame of the dictionary batch, and stages its dictionary.
+    /// Appends the frame of the dictionary batch, and stages its dictionary.
     fn send(
         &self,
         update: &DictionaryBatch,
         tracker: &mut Tracker,
-        part: &mut Part,
+        part: &mut BatchMessages,
     ) -> Result<(), WriteFault>
         requires inside { update.now.from ≤ length update.now.dictionary.now.values }
         ensures { IsNamed self.now.settings.now.schema.value.fields update.now.id

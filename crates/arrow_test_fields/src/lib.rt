@@ -1,8 +1,9 @@
-//! Fields out of text, for tests of several crates: a word for each node that they take, those below
-//! a field behind it, as in `list struct[2] int8! by:7:uint8 utf8~a`: an int8 that is said not to be
-//! null, and texts with a pair of the key `a`, encoded by dictionary 7. Fields have no names.
+//! Makes fields from text, for tests of several crates: a word for each node that they take, with
+//! those below a field after it, as in `list struct[2] int8! by:7:uint8 utf8~a`: an int8 that is
+//! declared not nullable, and texts with a pair of the key `a`, encoded by dictionary 7. Fields
+//! have no names.
 //!
-//! Each call answers `None` where a word is none of these, or memory is wanting.
+//! Each call returns `None` if a word is none of these, or an allocation fails.
 #![tactic(auto)]
 
 use arrow_types::{
@@ -30,23 +31,23 @@ pub fn schema_of(alloc: Global, words: &str) -> Option<Schema> {
     Schema::new(alloc, fields_of(alloc, words)?).ok()
 }
 
-// The field of a word, which takes what stands below it from the end of the fields behind it.
-fn field_of(alloc: Global, word: &str, behind: &mut Vec<Field>) -> Option<Field> {
+/// The field of a word, which takes its children from the end of the fields after it.
+fn field_of(alloc: Global, word: &str, after: &mut Vec<Field>) -> Option<Field> {
     match word.strip_prefix("by:") {
-        Some(words) => Some(behind.pop()?.with_dictionary(encoding(words)?)),
-        None => plain(alloc, word, behind),
+        Some(words) => Some(after.pop()?.with_dictionary(encoding(words)?)),
+        None => plain(alloc, word, after),
     }
 }
 
-fn plain(alloc: Global, word: &str, behind: &mut Vec<Field>) -> Option<Field> {
+fn plain(alloc: Global, word: &str, after: &mut Vec<Field>) -> Option<Field> {
     let (word, key) = word.split_once('~').unwrap_or((word, ""));
     let required = word.strip_suffix('!');
-    let data_type = data_type(alloc, required.unwrap_or(word), behind)?;
+    let data_type = data_type(alloc, required.unwrap_or(word), after)?;
     let field = Field::new(alloc, String::new(alloc), data_type, required.is_none());
     Some(field.with_metadata(noted(alloc, key)?))
 }
 
-// A pair of this key, and none where it is empty.
+/// A pair of this key, and none if it is empty.
 fn noted(alloc: Global, key: &str) -> Option<Vec<(Vec<u8>, Vec<u8>)>> {
     let mut pairs = Vec::new(alloc);
     if !key.is_empty() {
@@ -56,7 +57,8 @@ fn noted(alloc: Global, key: &str) -> Option<Vec<(Vec<u8>, Vec<u8>)>> {
     Some(pairs)
 }
 
-// The encoding of an id and the type of its indices, and maybe a word for an ordered dictionary.
+/// The encoding of an id and the type of its indices, optionally followed by a word for an ordered
+/// dictionary.
 fn encoding(words: &str) -> Option<Encoding> {
     let (id, index) = words.split_once(':')?;
     let plain = index.strip_suffix(":ordered");
@@ -67,8 +69,8 @@ fn encoding(words: &str) -> Option<Encoding> {
     })
 }
 
-// The type of a word, as `arrowflow schema` prints it.
-fn data_type(alloc: Global, word: &str, behind: &mut Vec<Field>) -> Option<DataType> {
+/// The type of a word, as `arrowflow schema` prints it.
+fn data_type(alloc: Global, word: &str, after: &mut Vec<Field>) -> Option<DataType> {
     let (name, rest) = word.split_once('[').unwrap_or((word, ""));
     let unit = rest.strip_suffix(']').unwrap_or("");
     Some(match name {
@@ -89,10 +91,10 @@ fn data_type(alloc: Global, word: &str, behind: &mut Vec<Field>) -> Option<DataT
         "timestamp" => DataType::Timestamp(time_unit(unit)?, None),
         "duration" => DataType::Duration(time_unit(unit)?),
         "interval" => DataType::Interval(interval_unit(unit)?),
-        "list" => DataType::List(item(alloc, behind)?),
-        "large_list" => DataType::LargeList(item(alloc, behind)?),
-        "fixed_size_list" => DataType::FixedSizeList(item(alloc, behind)?, count(unit)?),
-        "struct" => DataType::Struct(parts(alloc, count(unit)?, behind)?),
+        "list" => DataType::List(item(alloc, after)?),
+        "large_list" => DataType::LargeList(item(alloc, after)?),
+        "fixed_size_list" => DataType::FixedSizeList(item(alloc, after)?, count(unit)?),
+        "struct" => DataType::Struct(parts(alloc, count(unit)?, after)?),
         _ => {
             let IndexType { bits, signed } = integer(name)?;
             DataType::Int { bits, signed }
@@ -100,7 +102,7 @@ fn data_type(alloc: Global, word: &str, behind: &mut Vec<Field>) -> Option<DataT
     })
 }
 
-// A width in bits, a precision and a scale, with colons between them.
+/// A width in bits, a precision and a scale, with colons between them.
 fn decimal(words: &str) -> Option<DataType> {
     let (width, digits) = words.split_once(':')?;
     let (precision, scale) = digits.split_once(':')?;
@@ -156,14 +158,14 @@ fn interval_unit(word: &str) -> Option<IntervalUnit> {
     }
 }
 
-fn item(alloc: Global, behind: &mut Vec<Field>) -> Option<Box<Field>> {
-    Box::new(alloc, behind.pop()?).ok()
+fn item(alloc: Global, after: &mut Vec<Field>) -> Option<Box<Field>> {
+    Box::new(alloc, after.pop()?).ok()
 }
 
-fn parts(alloc: Global, count: u32, behind: &mut Vec<Field>) -> Option<Vec<Field>> {
+fn parts(alloc: Global, count: u32, after: &mut Vec<Field>) -> Option<Vec<Field>> {
     let mut parts = Vec::new(alloc);
     for _ in 0..count {
-        parts.push(behind.pop()?).ok()?;
+        parts.push(after.pop()?).ok()?;
     }
     Some(parts)
 }

@@ -1,9 +1,9 @@
-//! Streams that are made of parts of others, with other bytes at some places.
+//! Streams that are made of parts of others, with other bytes at some offsets.
 
 use crate::streams::{GROWING, ONE_BATCH};
 use std::alloc::Global;
 
-/// A stream that parts are taken of.
+/// A stream from which parts are taken.
 #[derive(Clone, Copy)]
 pub enum Source {
     /// The growing dictionary.
@@ -25,10 +25,10 @@ impl Source {
     }
 }
 
-/// A part of a stream: from which place of it, and up to which.
+/// A part of a stream: its start and its end as byte offsets.
 pub type Part = (Source, usize, usize);
 
-/// Other bytes from a place on.
+/// Other bytes from an offset on.
 pub type Edit = (usize, &'static [u8]);
 
 /// The schema of numbers.
@@ -52,8 +52,8 @@ pub const FIRST: Part = (Source::Growing, 424, 592);
 /// The delta of `d` and `e`.
 pub const DE: Part = (Source::Growing, 592, 816);
 
-/// The parts, one behind the other, with these bytes changed: nothing where one of them does not lie
-/// in its stream, or memory is wanting.
+/// The parts, one after the other, with these bytes changed: None if one of them does not lie in
+/// its stream, or if an allocation fails.
 pub fn joined(alloc: Global, parts: &[Part], edits: &[Edit]) -> Option<Vec<u8>> {
     let mut bytes = Vec::new(alloc);
     for (source, start, end) in parts {
@@ -67,7 +67,7 @@ pub fn joined(alloc: Global, parts: &[Part], edits: &[Edit]) -> Option<Vec<u8>> 
     Some(bytes)
 }
 
-/// Puts other bytes at a place: nothing where they would not lie in the stream.
+/// Overwrites the bytes at an offset with others: None if they would not lie in the stream.
 fn overwrite(bytes: &mut [u8], place: usize, new: &[u8]) -> Option<()> {
     let end = place.checked_add(new.len())?;
     let old = bytes.get_mut(place..end)?;

@@ -1,10 +1,10 @@
 //! The streams, which `examples/make` lays out.
 
-/// One column of letters, whose dictionary grows between two batches and is replaced before a
-/// third: the bytes of `examples/growing_dictionary.arrows`. Its messages end at 200, 424, 592,
-/// 816, 976, 1208 and 1368: the schema, a dictionary of a to c, a batch of a, b and c, a delta of d
-/// and e, a batch of e and a, a dictionary of a, c, d and e, and a batch of c and e. The end marker
-/// follows.
+/// One column of letters, whose dictionary is extended by a delta between two batches and is
+/// replaced before a third: the bytes of `examples/growing_dictionary.arrows`. Its messages end at
+/// 200, 424, 592, 816, 976, 1208 and 1368: the schema, a dictionary of a to c, a batch of a, b and
+/// c, a delta of d and e, a batch of e and a, a dictionary of a, c, d and e, and a batch of c and
+/// e. The end marker follows.
 pub const GROWING: [u8; 1376] = [
     0xff, 0xff, 0xff, 0xff, 0xc0, 0x00, 0x00, 0x00, 0x10, 0x00, 0x00, 0x00, 0x0c, 0x00, 0x18, 0x00,
     0x04, 0x00, 0x06, 0x00, 0x08, 0x00, 0x10, 0x00, 0x0c, 0x00, 0x00, 0x00, 0x04, 0x00, 0x01, 0x00,

@@ -1,4 +1,4 @@
--- Whether fields that share a dictionary differ in type, as one more field comes.
+-- Whether fields that share a dictionary differ in value type, when one more field is added.
 use Rattle.std.proofs.Common.{◌≡◌, ◌≢◌, ℕ, zero, suc, Bool, true, false, not, ◌&&◌, ◌||◌, List, [], ◌∷◌, ◌++◌, Some, slice_get, ap, ◌∙◌, sym, refl, ⊎_elim}
 use Rattle.std.specs.List.{list_any}
 use Rattle.std.specs.Ordering.{int_eq}
@@ -12,23 +12,23 @@ use Rattle.arrow_types.specs.Equality.{is_equal, is_equal_decides, is_equal_equi
 use Rattle.arrow_types.specs.Schema.{DictionaryField, OneType, clash, types_differ}
 use Rattle.arrow_types.specs.Stored.{type_code}
 
--- a test that nothing passes stays so beside another one
+-- a conjunction with a false test is false
 never : (b : Bool) → (b && false) ≡ false
 never true = refl
 never false = refl
 
--- a clash goes both ways
+-- clashing is symmetric
 pub clash_both_ways : (d e : DictionaryField) → clash d e ≡ clash e d
 clash_both_ways d e =
     ap (λ b. b && not (is_equal type_code d.value_type e.value_type)) (int_eq_equiv.symm d.id e.id)
     ∙ ap (λ b. int_eq e.id d.id && not b) ((is_equal_equivalence type_code).symm d.value_type e.value_type)
 
--- fields with one id and one type do not clash
+-- fields with the same value type do not clash
 no_clash_at : (d e : DictionaryField) → d.value_type ≡ e.value_type → clash d e ≡ false
 no_clash_at d e same =
     ap (λ b. int_eq d.id e.id && not b) ((is_equal_decides type_code d.value_type e.value_type).1 same) ∙ never (int_eq d.id e.id)
 
--- fields with one id and other types do
+-- fields with the same id and different value types clash
 pub clash_at : (d e : DictionaryField) → d.id ≡ e.id → d.value_type ≢ e.value_type → clash d e ≡ true
 clash_at d e same apart =
     and_from (int_eq d.id e.id) (not (is_equal type_code d.value_type e.value_type)) ((Decides-int_eq d.id e.id).1 same)
@@ -37,14 +37,14 @@ clash_at d e same apart =
     (λ unequal. not_from_false (is_equal type_code d.value_type e.value_type) unequal)
     (cases_Bool (is_equal type_code d.value_type e.value_type)))
 
--- four tests may be asked in another order
+-- the order of four tests does not matter
 regroup : (a c t n : Bool) → ((a || (c || false)) || (t || n)) ≡ ((a || t) || (c || n))
 regroup true c t n = refl
 regroup false true true n = refl
 regroup false true false n = refl
 regroup false false t n = refl
 
--- with one more field two differ where two did, or where one clashes with it
+-- with one more field, two fields differ if two did before, or if one clashes with it
 pub differ_append : (ds : List DictionaryField) (d : DictionaryField) →
     types_differ (ds ++ d ∷ []) ≡ (types_differ ds || list_any (λ e. clash e d) ds)
 differ_append [] d = refl
@@ -53,7 +53,7 @@ differ_append (x ∷ xs) d =
     ∙ ap (λ b. (list_any (clash x) xs || (clash x d || false)) || b) (differ_append xs d)
     ∙ regroup (list_any (clash x) xs) (clash x d) (types_differ xs) (list_any (λ e. clash e d) xs)
 
--- two that differ do so in a longer list too
+-- if two fields of a list differ, two of a longer list do
 pub differ_longer : (ds es : List DictionaryField) → types_differ ds ≡ true → types_differ (ds ++ es) ≡ true
 differ_longer [] es h = cc
 differ_longer (x ∷ xs) es h =
@@ -62,24 +62,24 @@ differ_longer (x ∷ xs) es h =
     (λ later. or_right (list_any (clash x) (xs ++ es)) (types_differ (xs ++ es)) (differ_longer xs es later))
     (or_cases (list_any (clash x) xs) (types_differ xs) h)
 
--- where a test fails everywhere it fails at each place
+-- a test that fails everywhere fails at each index
 any_at : (p : DictionaryField → Bool) (ds : List DictionaryField) (j : ℕ) (e : DictionaryField) → slice_get ds j ≡ Some e → list_any p ds ≡ false → p e ≡ false
 any_at p [] j e at h = cc
 any_at p (d ∷ ds) zero e at h = let same : d ≡ e = cc in ap p (sym same) ∙ (or_parts (p d) (list_any p ds) h).0
 any_at p (d ∷ ds) (suc j) e at h = any_at p ds j e at (or_parts (p d) (list_any p ds) h).1
 
--- where it passes at a place it passes somewhere
+-- a test that passes at an index passes somewhere
 pub any_from : (p : DictionaryField → Bool) (ds : List DictionaryField) (j : ℕ) (e : DictionaryField) → slice_get ds j ≡ Some e → p e ≡ true → list_any p ds ≡ true
 any_from p [] j e at h = cc
 any_from p (d ∷ ds) zero e at h = let same : d ≡ e = cc in or_left (p d) (list_any p ds) (ap p same ∙ h)
 any_from p (d ∷ ds) (suc j) e at h = or_right (p d) (list_any p ds) (any_from p ds j e at h)
 
--- tests that agree on each field find one in the same lists
+-- tests that agree on each field pass somewhere in the same lists
 pub any_same : (p q : DictionaryField → Bool) → ((d : DictionaryField) → p d ≡ q d) → (ds : List DictionaryField) → list_any p ds ≡ list_any q ds
 any_same p q e [] = refl
 any_same p q e (d ∷ ds) = ap (λ b. b || list_any p ds) (e d) ∙ ap (λ b. q d || b) (any_same p q e ds)
 
--- a field that is there already clashes with none where no two clash
+-- a field of a list in which no two clash clashes with none of the list
 pub no_clash : (ds : List DictionaryField) (j : ℕ) (d : DictionaryField) → slice_get ds j ≡ Some d → types_differ ds ≡ false →
     list_any (λ e. clash e d) ds ≡ false
 no_clash [] j d at h = refl
@@ -94,7 +94,7 @@ no_clash (x ∷ xs) (suc j) d at h =
     ap (λ b. b || list_any (λ e. clash e d) xs) (any_at (clash x) xs j d at apart.0)
     ∙ no_clash xs j d at apart.1
 
--- fields of which no two clash have one type for each id
+-- fields of which no two clash have one value type for each id
 pub one_type : (ds : List DictionaryField) → types_differ ds ≡ false → OneType ds
 one_type ds h i j d e at_i at_j same =
     ⊎_elim
@@ -112,7 +112,7 @@ no_clash_new (x ∷ xs) d h =
     ap (λ b. (b && not (is_equal type_code x.value_type d.value_type)) || list_any (λ e. clash e d) xs) parts.0
     ∙ no_clash_new xs d parts.1
 
--- two fields that have one type, should they have one id, do not clash
+-- two fields that have the same value type if they have the same id do not clash
 agree : (d e : DictionaryField) → (d.id ≡ e.id → d.value_type ≡ e.value_type) → clash d e ≡ false
 agree d e h =
     ⊎_elim
@@ -120,12 +120,12 @@ agree d e h =
     (λ other. ap (λ b. b && not (is_equal type_code d.value_type e.value_type)) other)
     (cases_Bool (int_eq d.id e.id))
 
--- a field clashes with none where it agrees with each
+-- a field that agrees with each field of a list clashes with none of them
 agree_all : (d : DictionaryField) (es : List DictionaryField) → ((j : ℕ) (e : DictionaryField) → slice_get es j ≡ Some e → d.id ≡ e.id → d.value_type ≡ e.value_type) → list_any (clash d) es ≡ false
 agree_all d [] h = refl
 agree_all d (e ∷ es) h = ap (λ b. b || list_any (clash d) es) (agree d e (h 0 e refl)) ∙ agree_all d es (λ j x. h (suc j) x)
 
--- fields that have one type for each id do not clash
+-- fields that have one value type for each id do not clash
 pub none_differ : (ds : List DictionaryField) → OneType ds → types_differ ds ≡ false
 none_differ [] h = refl
 none_differ (d ∷ ds) h =

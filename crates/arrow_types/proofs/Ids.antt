@@ -1,4 +1,4 @@
--- Ids, each once, as one more id comes.
+-- Ids, each once, when one more id is added.
 use Rattle.std.proofs.Common.{◌≡◌, ℤ, Bool, true, false, not, cond, List, [], ◌∷◌, ◌++◌, filter, ap, ◌∙◌, refl}
 use Rattle.std.specs.List.{list_any}
 use Rattle.std.specs.Ordering.{int_eq}
@@ -13,24 +13,24 @@ use Rattle.arrow_types.specs.Schema.{each_once}
 abbrev pub is_among : ℤ → List ℤ → Bool
 is_among x ys = list_any (λ y. int_eq y x) ys
 
--- whether a number stays when y is left out
+-- whether a number is kept when y is left out
 abbrev is_other : ℤ → ℤ → Bool
 is_other y z = not (int_eq z y)
 
--- a number that is left out behind others
+-- appending a number that is left out
 left_out : (y x : ℤ) (zs : List ℤ) → int_eq y x ≡ true → filter (is_other y) (zs ++ x ∷ []) ≡ filter (is_other y) zs
 left_out y x zs same =
     filter-append (is_other y) zs (x ∷ [])
     ∙ ap (λ b. filter (is_other y) zs ++ cond (not b) (x ∷ []) []) (int_eq_equiv.symm x y ∙ same)
     ∙ append-nil (filter (is_other y) zs)
 
--- a number that stays behind others
+-- appending a number that is kept
 left_in : (y x : ℤ) (zs : List ℤ) → int_eq y x ≡ false → filter (is_other y) (zs ++ x ∷ []) ≡ filter (is_other y) zs ++ x ∷ []
 left_in y x zs apart =
     filter-append (is_other y) zs (x ∷ [])
     ∙ ap (λ b. filter (is_other y) zs ++ cond (not b) (x ∷ []) []) (int_eq_equiv.symm x y ∙ apart)
 
--- a number that is not there yet comes last
+-- a number that is new comes last
 pub each_once_new : (ys : List ℤ) (x : ℤ) → is_among x ys ≡ false → each_once (ys ++ x ∷ []) ≡ each_once ys ++ x ∷ []
 each_once_new [] x h = refl
 each_once_new (y ∷ ys) x h =

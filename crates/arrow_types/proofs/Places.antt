@@ -1,4 +1,4 @@
--- The first place of a dictionary's id among the encoded fields, as one more field comes.
+-- The first index of a dictionary's id among the encoded fields, when one more field is added.
 use Rattle.std.proofs.Common.{◌≡◌, ◌<◌, ℕ, suc, ℤ, Bool, true, false, cond, List, [], ◌∷◌, ◌++◌, length, map, Option, Some, None, option_map, slice_get, ◌||◌, ap, subst, ◌∙◌, sym, refl, ⊎_elim, arith}
 use Rattle.std.specs.Ordering.{int_eq}
 use Rattle.std.proofs.lemmas.Bool.{cases_Bool, cond-true, cond-false, or_left, or_right}
@@ -10,17 +10,17 @@ use Rattle.arrow_types.specs.Schema.{DictionaryField}
 abbrev pub ids_of : List DictionaryField → List ℤ
 ids_of ds = map (λ (d : DictionaryField). d.id) ds
 
--- the first place of an id
+-- the first index of an id
 abbrev pub place_of : ℤ → List DictionaryField → Option ℕ
 place_of q [] = None
 place_of q (d ∷ ds) = cond (int_eq d.id q) (Some 0) (option_map suc (place_of q ds))
 
--- the first that is there
+-- the first of two options that is `Some`
 abbrev pub first_some : Option ℕ → Option ℕ → Option ℕ
 first_some (Some j) o = Some j
 first_some None o = o
 
--- one step of the look for a first place
+-- one step of the search for a first index
 later : (b c : Bool) (o : Option ℕ) (n : ℕ) →
     cond b (Some 0) (option_map suc (first_some o (cond c (Some n) None)))
     ≡ first_some (cond b (Some 0) (option_map suc o)) (cond c (Some (suc n)) None)
@@ -29,7 +29,7 @@ later false c (Some j) n = refl
 later false true None n = refl
 later false false None n = refl
 
--- one more field is the first with its id where no earlier one has it
+-- one more field is the first with its id if no earlier one has the id
 pub place_append : (q : ℤ) (ds : List DictionaryField) (d : DictionaryField) →
     place_of q (ds ++ d ∷ []) ≡ first_some (place_of q ds) (cond (int_eq d.id q) (Some (length ds)) None)
 place_append q [] d = refl
@@ -37,16 +37,16 @@ place_append q (x ∷ xs) d =
     ap (λ o. cond (int_eq x.id q) (Some 0) (option_map suc o)) (place_append q xs d)
     ∙ later (int_eq x.id q) (int_eq d.id q) (place_of q xs) (length xs)
 
--- with nothing behind it, the first is all
+-- with nothing after it, the first option is the result
 first_alone : (o : Option ℕ) → first_some o None ≡ o
 first_alone (Some j) = refl
 first_alone None = refl
 
--- equal ids have one first place
+-- equal ids have the same first index
 place_same : (p q : ℤ) (ds : List DictionaryField) → int_eq p q ≡ true → place_of q ds ≡ place_of p ds
 place_same p q ds h = ap (λ x. place_of x ds) (sym ((Decides-int_eq p q).0 h))
 
--- the places with a field whose id is new
+-- the first indices with a field whose id is new
 pub place_new : (q : ℤ) (ds : List DictionaryField) (d : DictionaryField) → place_of d.id ds ≡ None →
     cond (int_eq d.id q) (Some (length ds)) (place_of q ds) ≡ place_of q (ds ++ d ∷ [])
 place_new q ds d h =
@@ -59,7 +59,7 @@ place_new q ds d h =
     ∙ first_alone (place_of q ds)))
     (cases_Bool (int_eq d.id q))
 
--- the places with a field whose id is known
+-- the first indices with a field whose id is known
 pub place_old : (q : ℤ) (ds : List DictionaryField) (d : DictionaryField) (j : ℕ) → place_of d.id ds ≡ Some j →
     place_of q ds ≡ place_of q (ds ++ d ∷ [])
 place_old q ds d j h =
@@ -70,18 +70,18 @@ place_old q ds d j h =
     ∙ first_alone (place_of q ds)))
     (cases_Bool (int_eq d.id q))
 
--- where neither the first nor a later one is there, the first is not
+-- if an id is neither at the first field nor at a later one, it is not the id of any
 unplaced : (b : Bool) (o : Option ℕ) (r : Bool) → cond b (Some 0) (option_map suc o) ≡ None → (o ≡ None → r ≡ false) → (b || r) ≡ false
 unplaced true o r h k = cc
 unplaced false (Some j) r h k = cc
 unplaced false None r h k = k refl
 
--- where an id has no place, it is not among the ids
+-- an id without a first index is not among the ids
 pub place_none : (q : ℤ) (ds : List DictionaryField) → place_of q ds ≡ None → is_among q (ids_of ds) ≡ false
 place_none q [] h = refl
 place_none q (d ∷ ds) h = unplaced (int_eq d.id q) (place_of q ds) (is_among q (ids_of ds)) h (place_none q ds)
 
--- what stands at the place of an id
+-- the field at the first index of an id
 pub record Placed (q : ℤ) (ds : List DictionaryField) (j : ℕ) : Type 0 where
   pub field : DictionaryField
   pub at : slice_get ds j ≡ Some field
@@ -89,12 +89,12 @@ pub record Placed (q : ℤ) (ds : List DictionaryField) (j : ℕ) : Type 0 where
   pub among : is_among q (ids_of ds) ≡ true
   pub below : j < length ds
 
--- a place that is not the first one lies behind another
+-- an index that is not 0 is the successor of another
 one_more : (o : Option ℕ) (j : ℕ) → option_map suc o ≡ Some j → (k : ℕ) × (o ≡ Some k) × (suc k ≡ j)
 one_more None j h = cc
 one_more (Some k) j h = (k, refl, cc)
 
--- behind one more field the place is one further on
+-- after one more field at the front the index is one higher
 placed_later : (q : ℤ) (d : DictionaryField) (ds : List DictionaryField) (k j : ℕ) → Placed q ds k → suc k ≡ j → Placed q (d ∷ ds) j
 placed_later q d ds k j h e =
     let at : slice_get (d ∷ ds) (suc k) ≡ Some h.field = h.at in
@@ -106,7 +106,7 @@ placed_later q d ds k j h e =
       below = omega (arith, h.below);
     }
 
--- a field with the id stands there
+-- there is a field with the id at that index
 pub placed : (q : ℤ) (ds : List DictionaryField) (j : ℕ) → place_of q ds ≡ Some j → Placed q ds j
 placed q [] j h = cc
 placed q (d ∷ ds) j h =

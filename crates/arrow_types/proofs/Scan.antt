@@ -1,4 +1,4 @@
--- What the look over the encoded fields knows, as one more field comes.
+-- What the loop over the encoded fields knows, when one more field is added.
 use Rattle.std.proofs.Common.{◌≡◌, ◌≢◌, ℕ, ℤ, true, false, cond, List, [], ◌∷◌, ◌++◌, length, Option, Some, None, slice_get, ap, ◌∙◌, sym}
 use Rattle.std.specs.Ordering.{int_eq}
 use Rattle.std.proofs.lemmas.Bool.{or_from, or_right}
@@ -8,7 +8,7 @@ use Rattle.arrow_types.proofs.Ids.{each_once_new, each_once_old}
 use Rattle.arrow_types.proofs.Places.{ids_of, place_of, place_new, place_old, place_none, placed}
 use Rattle.arrow_types.specs.Schema.{DictionaryField, clash, each_once, types_differ}
 
--- of the fields so far: their ids, the first place of each id, and that no two differ
+-- for the fields so far: their ids, the first index of each id, and that no two differ
 pub record Scanned (ds : List DictionaryField) (ids : List ℤ) (places : ℤ → Option ℕ) : Type 0 where
   pub listed : ids ≡ each_once (ids_of ds)
   pub found : (q : ℤ) → places q ≡ place_of q ds
@@ -31,7 +31,7 @@ scanned_new ds ids places later d known new step =
       agree = differ_append ds d ∙ or_from (types_differ ds) _ known.agree (no_clash_new ds d (place_none d.id ds unplaced));
     }
 
--- a field with a known id, of that id's type
+-- a field with a known id and that id's type
 pub scanned_old : (ds : List DictionaryField) (ids : List ℤ) (places : ℤ → Option ℕ) (d e : DictionaryField) (j : ℕ) →
     Scanned ds ids places → places d.id ≡ Some j → slice_get ds j ≡ Some e → e.value_type ≡ d.value_type →
     Scanned (ds ++ d ∷ []) ids places
@@ -45,7 +45,7 @@ scanned_old ds ids places d e j known old at same =
       agree = differ_append ds d ∙ or_from (types_differ ds) _ known.agree (no_clash ds j d (at ∙ ap Some known_field) known.agree);
     }
 
--- a field with a known id, of another type
+-- a field with a known id and another type
 pub scanned_clash : (ds rest : List DictionaryField) (ids : List ℤ) (places : ℤ → Option ℕ) (d e : DictionaryField) (j : ℕ) →
     Scanned ds ids places → places d.id ≡ Some j → slice_get ds j ≡ Some e → e.value_type ≢ d.value_type →
     types_differ ((ds ++ d ∷ []) ++ rest) ≡ true

@@ -1,22 +1,22 @@
--- Fields and pairs to which no fault applies make a schema, and the other way round.
+-- Fields and pairs to which no fault applies make a schema, and conversely.
 use Rattle.std.proofs.Common.{◌≡◌, ◌≤◌, ℤ, false, List, refl}
 use Rattle.std.proofs.lemmas.Bool.{or_from}
 use Rattle.arrow_types.proofs.Clashes.{one_type}
 use Rattle.arrow_types.specs.Notes.{SchemaShape, pair_count}
-use Rattle.arrow_types.specs.DataType.{Tag}
-use Rattle.arrow_types.specs.Field.{Fields, none, more}
+use Rattle.arrow_types.specs.DataType.{TypeId}
+use Rattle.arrow_types.specs.Field.{FieldTree, none, more}
 use Rattle.arrow_types.specs.Schema.{dictionary_fields, AreIdsOfOneType, IsBounded, IsKept, is_flawed, some_flawed}
 use Rattle.arrow_types.specs.declared.schema.SchemaFault.{SchemaFault}
 use Rattle.arrow_types.specs.declared.schema.SchemaFault.TheVariants.{ByteWidth, MapEntries, DecimalRange}
 
--- a fault that applies to no type by itself applies to none of any fields
-unflawed : (fault : SchemaFault) → ((tag : Tag) (children : Fields) → is_flawed fault tag children ≡ false) → (s : Fields) → some_flawed fault s ≡ false
+-- a fault that applies to no single type applies to no fields
+unflawed : (fault : SchemaFault) → ((tag : TypeId) (children : FieldTree) → is_flawed fault tag children ≡ false) → (s : FieldTree) → some_flawed fault s ≡ false
 unflawed fault never none = refl
 unflawed fault never (more head children rest) =
     or_from _ _ (or_from _ _ (never head.tag children) (unflawed fault never children)) (unflawed fault never rest)
 
--- where the three that are of a single type do not apply, none does
-pub flawless : (s : Fields) → some_flawed ByteWidth s ≡ false → some_flawed MapEntries s ≡ false → some_flawed DecimalRange s ≡ false
+-- if the three faults of a single type do not apply, no fault of a single type does
+pub flawless : (s : FieldTree) → some_flawed ByteWidth s ≡ false → some_flawed MapEntries s ≡ false → some_flawed DecimalRange s ≡ false
     → (fault : SchemaFault) → some_flawed fault s ≡ false
 flawless s narrow mapped decimal ByteWidth = narrow
 flawless s narrow mapped decimal MapEntries = mapped

@@ -1,4 +1,4 @@
--- Types without what stands below them (Schema.fbs, union "Type"), and the widths that units ask for.
+-- Types without the fields below them (Schema.fbs, union "Type"), and the widths that units have.
 use Rattle.std.specs.Prelude.{ℕ, ℤ, pos, negsuc, nat_lt, Bool, ◌&&◌, not, List, Option}
 use Rattle.arrow_types.specs.declared.data_type.BitWidth.{BitWidth}
 use Rattle.arrow_types.specs.declared.data_type.BitWidth.TheVariants.{Eight, Sixteen, ThirtyTwo, SixtyFour}
@@ -12,29 +12,29 @@ use Rattle.arrow_types.specs.declared.data_type.Precision.TheVariants.{Half, Sin
 use Rattle.arrow_types.specs.declared.data_type.TimeUnit.{TimeUnit}
 use Rattle.arrow_types.specs.declared.data_type.TimeUnit.TheVariants as times
 
--- A type's own part. A zone is given by the bytes of its name, a fixed size by its number of bytes or of values, a decimal
--- by its width, precision and scale, a map by whether its keys are sorted.
-pub data Tag : Type 0 where
-  null : Tag
-  boolean : Tag
-  int : BitWidth → Bool → Tag
-  floating_point : Precision → Tag
-  decimal : DecimalWidth → ℕ → ℤ → Tag
-  binary : Tag
-  large_binary : Tag
-  fixed_size_binary : ℕ → Tag
-  utf8 : Tag
-  large_utf8 : Tag
-  date : DateUnit → Tag
-  time : TimeUnit → Tag
-  timestamp : TimeUnit → Option (List ℕ) → Tag
-  duration : TimeUnit → Tag
-  interval : IntervalUnit → Tag
-  list : Tag
-  large_list : Tag
-  fixed_size_list : ℕ → Tag
-  struct : Tag
-  map : Bool → Tag
+-- A type without its child fields. A zone is given by the bytes of its name, a fixed size by its number of bytes or
+-- of values, a decimal by its width, precision and scale, a map by whether its keys are sorted.
+pub data TypeId : Type 0 where
+  null : TypeId
+  boolean : TypeId
+  int : BitWidth → Bool → TypeId
+  floating_point : Precision → TypeId
+  decimal : DecimalWidth → ℕ → ℤ → TypeId
+  binary : TypeId
+  large_binary : TypeId
+  fixed_size_binary : ℕ → TypeId
+  utf8 : TypeId
+  large_utf8 : TypeId
+  date : DateUnit → TypeId
+  time : TimeUnit → TypeId
+  timestamp : TimeUnit → Option (List ℕ) → TypeId
+  duration : TimeUnit → TypeId
+  interval : IntervalUnit → TypeId
+  list : TypeId
+  large_list : TypeId
+  fixed_size_list : ℕ → TypeId
+  struct : TypeId
+  map : Bool → TypeId
 
 -- a width in bits (Schema.fbs, table "Int")
 abbrev pub bits_of : BitWidth → ℕ
@@ -56,19 +56,19 @@ decimal_bits_of decimals.SixtyFour = 64
 decimal_bits_of decimals.OneHundredTwentyEight = 128
 decimal_bits_of decimals.TwoHundredFiftySix = 256
 
--- the greatest number of digits of which each number has a place in a width with a sign
+-- the greatest number of digits such that each number of that many digits fits into a signed number of the width
 abbrev pub digits_of : DecimalWidth → ℕ
 digits_of decimals.ThirtyTwo = 9
 digits_of decimals.SixtyFour = 18
 digits_of decimals.OneHundredTwentyEight = 38
 digits_of decimals.TwoHundredFiftySix = 76
 
--- a scale from -76 to 76 (the bounds are this project's own; `negsuc n` is -(n + 1))
+-- whether a scale is from -76 to 76 (the bounds are this project's own; `negsuc n` is -(n + 1))
 abbrev pub is_scale : ℤ → Bool
 is_scale (pos n) = nat_lt n 77
 is_scale (negsuc n) = nat_lt n 76
 
--- Whether decimals of a width may have this precision and this scale (Schema.fbs, table "Decimal").
+-- whether decimals of a width may have this precision and this scale (Schema.fbs, table "Decimal")
 abbrev pub is_decimal : DecimalWidth → ℕ → ℤ → Bool
 is_decimal width precision scale = nat_lt 0 precision && not (nat_lt (digits_of width) precision) && is_scale scale
 

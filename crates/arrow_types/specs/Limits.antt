@@ -1,9 +1,9 @@
--- What a reader and a writer keep to. The standard sets no such limits: they are this project's own.
+-- The limits of a reader and a writer. The standard sets no such limits: they are this project's own.
 use Rattle.std.specs.Prelude.{ℕ, ◌^◌, ◌≤◌}
 use Rattle.arrow_types.specs.declared.type_set.TypeSet.{TypeSet}
 use Rattle.arrow_types.specs.declared.type_set.TypeSet.TheVariants.{Core}
 
--- the most bytes of one message's metadata, the most bytes of its body, the most rows of a batch, and the types
+-- the greatest number of bytes of one message's metadata, of bytes of its body, and of rows of a batch, and the types
 pub record LimitNumbers : Type 0 where
   pub max_metadata : ℕ
   pub max_body : ℕ

@@ -1,6 +1,6 @@
--- What is left of a number of things.
+-- The rest of a number of things.
 use Rattle.std.specs.Prelude.{ℕ, ◌-◌, Option, Some, None, nat_lt, if◌then◌else◌}
 
--- what is left of `most` after n are taken, none where there are too few
+-- the rest of `most` after n are taken, none if there are too few
 abbrev pub left_of : ℕ → ℕ → Option ℕ
 left_of most n = if nat_lt most n then None else Some (most - n)

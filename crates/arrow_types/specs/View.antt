@@ -1,15 +1,15 @@
--- What a type, a field and some fields of the program say, level by level.
+-- The plain values of the program's types, fields and lists of fields, level by level.
 use Rattle.std.specs.Prelude.{List, [], ◌∷◌, map, string_bytes, option_map}
-use Rattle.arrow_types.specs.DataType.{Tag}
+use Rattle.arrow_types.specs.DataType.{TypeId}
 use Rattle.arrow_types.specs.DataType as tags
-use Rattle.arrow_types.specs.Field.{Fields, none, TypeShape, FieldShape, fields_of}
+use Rattle.arrow_types.specs.Field.{FieldTree, none, TypeShape, FieldShape, fields_of}
 use Rattle.arrow_types.specs.Notes.{Notes, unnoted, FieldNotes, SchemaShape, KeyValue, notes_of, pairs_view}
 use Rattle.arrow_types.specs.declared.data_type.DataType.{DataType, fold-DataType}
 use Rattle.arrow_types.specs.declared.data_type.DataType.TheOpen.{DataType-F, Field-F}
 use Rattle.arrow_types.specs.declared.field.Field.{Field, fold-Field}
 
 -- a type that has no children
-abbrev pub leaf : Tag → TypeShape
+abbrev pub leaf : TypeId → TypeShape
 leaf tag = record { tag = tag; children = none }
 
 -- one level of a type, whose children are plain already
@@ -42,19 +42,19 @@ field_step f = record {
   children = f.data_type.children;
 }
 
--- what a type says, with all levels below it
+-- the plain value of a type, with all levels below it
 abbrev pub type_view : DataType → TypeShape
 type_view = fold-DataType TypeShape FieldShape type_step field_step
 
--- what one field says, with all levels below it
+-- the plain value of one field, with all levels below it
 abbrev pub field_view : Field → FieldShape
 field_view = fold-Field TypeShape FieldShape type_step field_step
 
--- what some fields say, side by side
-abbrev pub fields_view : List Field → Fields
+-- the plain values of some fields, as siblings
+abbrev pub fields_view : List Field → FieldTree
 fields_view fs = fields_of (map field_view fs)
 
--- what is noted below one level of a type, whose children's notes are plain already
+-- the custom metadata below one level of a type, where those of the children are plain already
 abbrev pub type_notes_step : DataType-F Notes FieldNotes → Notes
 type_notes_step (DataType-F.List item) = notes_of (item.value ∷ [])
 type_notes_step (DataType-F.LargeList item) = notes_of (item.value ∷ [])
@@ -63,19 +63,19 @@ type_notes_step (DataType-F.Struct fields) = notes_of fields.items
 type_notes_step (DataType-F.Map entries _) = notes_of (entries.value ∷ [])
 type_notes_step _ = unnoted
 
--- what is noted at a field, and below its type
+-- the custom metadata of a field, and those below its type
 abbrev pub field_notes_step : Field-F Notes FieldNotes → FieldNotes
 field_notes_step f = record { pairs = pairs_view f.metadata.items; below = f.data_type }
 
--- what is noted at the fields below a type, on all levels
+-- the custom metadata of the fields below a type, on all levels
 abbrev pub type_notes : DataType → Notes
 type_notes = fold-DataType Notes FieldNotes type_notes_step field_notes_step
 
--- what is noted at one field, and at those below it
+-- the custom metadata of one field, and of those below it
 abbrev pub field_notes : Field → FieldNotes
 field_notes = fold-Field Notes FieldNotes type_notes_step field_notes_step
 
--- what is noted at some fields, side by side
+-- the custom metadata of some fields, as siblings
 abbrev pub notes_view : List Field → Notes
 notes_view fs = notes_of (map field_notes fs)
 
@@ -83,10 +83,10 @@ notes_view fs = notes_of (map field_notes fs)
 abbrev pub schema_view : List Field → List KeyValue → SchemaShape
 schema_view fs pairs = record { fields = fields_view fs; pairs = pairs; notes = notes_view fs }
 
--- everything that a type holds, what is noted below it too
+-- everything that a type holds, including the custom metadata below it
 abbrev pub whole_type : DataType → TypeShape × Notes
 whole_type t = (type_view t, type_notes t)
 
--- everything that a field holds, what is noted at it too
+-- everything that a field holds, including its custom metadata
 abbrev pub whole_field : Field → FieldShape × FieldNotes
 whole_field f = (field_view f, field_notes f)

@@ -42,7 +42,7 @@ impl BitWidth {
     }
 }
 
-/// What a date counts since 1970-01-01 (`Schema.fbs`, enum `DateUnit`).
+/// The unit of a date, counted from 1970-01-01 (`Schema.fbs`, enum `DateUnit`).
 #[derive(Clone, Copy, Debug, PartialEq, Eq)]
 pub enum DateUnit {
     /// Days, in signed numbers of 32 bits.
@@ -63,7 +63,7 @@ impl DateUnit {
     }
 }
 
-/// What a time of day, a timestamp or a duration counts (`Schema.fbs`, enum `TimeUnit`).
+/// The unit of a time of day, a timestamp or a duration (`Schema.fbs`, enum `TimeUnit`).
 #[derive(Clone, Copy, Debug, PartialEq, Eq)]
 pub enum TimeUnit {
     /// Seconds.
@@ -114,7 +114,7 @@ impl Precision {
     }
 }
 
-/// What an interval of the calendar counts (`Schema.fbs`, enum `IntervalUnit`).
+/// The unit of a calendar interval (`Schema.fbs`, enum `IntervalUnit`).
 #[derive(Clone, Copy, Debug, PartialEq, Eq)]
 pub enum IntervalUnit {
     /// Months, in signed numbers of 32 bits.
@@ -151,8 +151,8 @@ impl DecimalWidth {
         }
     }
 
-    /// The greatest precision: the greatest number of digits of which each number has a place in
-    /// the width.
+    /// The greatest precision: the greatest number of digits such that each number of that many
+    /// digits fits into the width.
     pub fn digits(self) -> u8
         ensures { result ≡ digits_of self }
     {
@@ -164,8 +164,9 @@ impl DecimalWidth {
         }
     }
 
-    /// Whether decimals of this width may have so many digits, and so many of them after the point:
-    /// a precision from 1 up to the greatest, and a scale from -76 to 76.
+    /// Whether decimals of this width may have this precision and this scale (the number of digits,
+    /// and of those after the point): a precision from 1 up to the greatest, and a scale from -76
+    /// to 76.
     pub fn allows(self, precision: u8, scale: i8) -> bool
         ensures { result ≡ is_decimal self precision scale }
     {
@@ -175,8 +176,8 @@ impl DecimalWidth {
 
 /// The type of a column's values, without a dictionary (`Schema.fbs`, union `Type`).
 ///
-/// Any tree of types can be built; that it keeps to the limits is tested where a `Schema` is made
-/// of it.
+/// Any tree of types can be built; whether it keeps to the limits is checked when a `Schema` is
+/// made of it.
 #[cycle(types)]
 #[derive(Debug, Drop)]
 pub enum DataType {
@@ -191,9 +192,10 @@ pub enum DataType {
     },
     /// Floating-point numbers, each given by its bits.
     FloatingPoint(Precision),
-    /// Decimal numbers of at most so many digits, each given by the whole number that it is times 10
-    /// to the power of the scale: 1.25 with the scale 2 is 125. In a `Schema` the width allows the
-    /// precision and the scale; that no number has more digits than the precision is tested nowhere.
+    /// Decimal numbers of at most `precision` digits, each given by a whole number, which is the
+    /// decimal number times 10 to the power of the scale: 1.25 with the scale 2 is 125. In a
+    /// `Schema` the width allows the precision and the scale; nothing checks that a number has no
+    /// more digits than the precision.
     Decimal {
         width: DecimalWidth,
         precision: u8,
@@ -203,7 +205,7 @@ pub enum DataType {
     Binary,
     /// The same between offsets of 64 bits.
     LargeBinary,
-    /// Byte strings of just this many bytes each.
+    /// Byte strings of exactly this many bytes each.
     FixedSizeBinary(u32),
     /// Texts in UTF-8, between offsets of 32 bits.
     Utf8,
@@ -211,10 +213,9 @@ pub enum DataType {
     LargeUtf8,
     /// Days or milliseconds since 1970-01-01.
     Date(DateUnit),
-    /// A time of day since midnight. Its width follows its unit.
+    /// A time of day since midnight. Its width depends on its unit.
     Time(TimeUnit),
-    /// Signed 64-bit numbers since 1970-01-01 00:00, and the name of a time zone where there is
-    /// one.
+    /// Signed 64-bit numbers since 1970-01-01 00:00, and the name of a time zone if there is one.
     Timestamp(TimeUnit, Option<String>),
     /// Lengths of time, in signed 64-bit numbers.
     Duration(TimeUnit),
@@ -224,20 +225,20 @@ pub enum DataType {
     List(Box<Field>),
     /// The same between offsets of 64 bits.
     LargeList(Box<Field>),
-    /// Lists of just so many values each, of the one child field. In a `Schema` the number is at most
-    /// the greatest signed 32-bit number (`Schema.fbs`, table `FixedSizeList`).
+    /// Lists of exactly this many values each, of the one child field. In a `Schema` the number is
+    /// at most the greatest signed 32-bit number (`Schema.fbs`, table `FixedSizeList`).
     FixedSizeList(Box<Field>, u32),
     /// A value of each child field.
     Struct(Vec<Field>),
     /// Lists of entries of the one child field, between offsets of 32 bits, and whether the keys of
-    /// each list are sorted, which is kept and enforced nowhere (`Schema.fbs`, table `Map`). In a
+    /// each list are sorted, which is stored and nowhere enforced (`Schema.fbs`, table `Map`). In a
     /// `Schema` the child is a struct of two fields, the key and the value.
     Map(Box<Field>, bool),
 }
 
 impl DataType {
-    /// The child fields: those of a struct, the one of a list or a map, none of any other type. Takes no
-    /// memory.
+    /// The child fields: those of a struct, the one of a list or a map, none for any other type.
+    /// Allocates nothing.
     pub fn children(&self) -> &[Field]
         ensures fields { fields_view result.now ≡ (type_view self.now).children }
         ensures notes { notes_view result.now ≡ type_notes self.now }
@@ -252,7 +253,7 @@ impl DataType {
         }
     }
 
-    /// An equal type in memory of its own, or `AllocError` where a growth was refused.
+    /// An equal type in memory of its own, or `AllocError` if an allocation failed.
     #[cycle(copy)]
     pub fn copy(&self, alloc: Global) -> Result<DataType, AllocError>
         ensures same { IfOk result (λ t. type_view t ≡ type_view self.now) }
@@ -302,9 +303,9 @@ impl DataType {
         }
     }
 
-    /// Whether the types are the same: their widths, units and zones, and of the fields below them
-    /// the names, `nullable`, types and encodings. The metadata of these fields are left out, on
-    /// every level; `==` looks at them too. Takes no memory.
+    /// Whether the types are the same: their widths, units and zones, and the names, `nullable`,
+    /// types and encodings of the fields below them. The metadata of these fields are ignored on
+    /// every level; `==` compares them too. Allocates nothing.
     pub fn same(&self, other: &DataType) -> bool
         ensures gives { result ≡ is_equal type_code (type_view self.now) (type_view other.now) }
         ensures same { IsTrue result ↔ (type_view self.now ≡ type_view other.now) }
@@ -313,7 +314,7 @@ impl DataType {
     }
 }
 
-/// Whether the types are the same. Each type is written out, and another one is another type.
+/// Whether the types are the same. Each type is spelled out; different types are not the same.
 #[cycle(same)]
 pub(crate) fn same_type(one: &DataType, other: &DataType) -> bool
     ensures { IsTrue result ↔ (type_view one.now ≡ type_view other.now) }
@@ -362,7 +363,7 @@ pub(crate) fn same_type(one: &DataType, other: &DataType) -> bool
     }
 }
 
-/// Whether the type is that of decimals of this width, precision and scale.
+/// Whether the type is the decimal type of this width, precision and scale.
 fn is_decimal_of(data_type: &DataType, width: DecimalWidth, precision: u8, scale: i8) -> bool
     ensures { IsTrue result
         ↔ (type_view data_type.now ≡ leaf (decimal width precision scale)) }
@@ -377,8 +378,8 @@ fn is_decimal_of(data_type: &DataType, width: DecimalWidth, precision: u8, scale
     )
 }
 
-/// Types are equal where everything that they hold is: widths, units, zones, names, `nullable`,
-/// encodings and metadata of the fields below them included. No memory is taken.
+/// Types are equal if everything that they hold is: widths, units and zones, and the names,
+/// `nullable`, encodings and metadata of the fields below them. Nothing is allocated.
 impl PartialEq for DataType {
     ghost eq = { on whole_type (is_equal whole_type_code) };
 
@@ -394,7 +395,7 @@ impl PartialEq for DataType {
     }
 }
 
-/// Whether the types are equal, with the metadata of the fields below them.
+/// Whether the types are equal, including the metadata of the fields below them.
 fn same_with_notes(one: &DataType, other: &DataType) -> bool
     ensures { IsTrue result ↔ (whole_type one.now ≡ whole_type other.now) }
 {

@@ -18,9 +18,9 @@ struct Encoded<'a> {
     value_type: &'a DataType,
 }
 
-/// The ids of the dictionaries of the fields, each once in the order of their first fields, or None
-/// where two fields share an id and have unequal value types. No memory is taken where no field is
-/// dictionary-encoded.
+/// The ids of the dictionaries of the fields, each once in the order of their first fields, or
+/// `None` if two fields share an id and have unequal value types. Nothing is allocated if no field
+/// is dictionary-encoded.
 pub(crate) fn ids_of(alloc: Global, fields: &[Field]) -> Result<Option<Vec<i64>>, AllocError>
     ensures gives { IfOk result (λ ids. GivesIds ids (dictionary_fields (fields_view fields.now))) }
     ensures encoded { IfErr result (λ _. has_encoding (fields_view fields.now) ≡ true) }
@@ -33,7 +33,7 @@ pub(crate) fn ids_of(alloc: Global, fields: &[Field]) -> Result<Option<Vec<i64>>
     ids_of_one_type(alloc, &found)
 }
 
-/// Adds the dictionary-encoded ones of the fields, on all levels, in pre-order.
+/// Adds the dictionary-encoded fields of a list, on all levels, in pre-order.
 #[cycle(encoded)]
 fn add_fields<'a>(fields: &'a [Field], found: &mut Vec<Encoded<'a>>) -> Result<(), AllocError>
     ensures { OnOk result (encoded_views found.new.items
@@ -45,7 +45,7 @@ fn add_fields<'a>(fields: &'a [Field], found: &mut Vec<Encoded<'a>>) -> Result<(
     Ok(())
 }
 
-/// Adds the field where it is dictionary-encoded, and then those below it.
+/// Adds the field if it is dictionary-encoded, and then those below it.
 #[cycle(encoded)]
 fn add_field<'a>(field: &'a Field, found: &mut Vec<Encoded<'a>>) -> Result<(), AllocError>
     ensures { OnOk result (encoded_views found.new.items
@@ -60,7 +60,7 @@ fn add_field<'a>(field: &'a Field, found: &mut Vec<Encoded<'a>>) -> Result<(), A
     add_fields(field.children(), found)
 }
 
-/// The ids of the dictionaries, each once in the order of their first fields, or None where two
+/// The ids of the dictionaries, each once in the order of their first fields, or `None` if two
 /// fields share an id and have unequal value types. The time grows as n log n.
 fn ids_of_one_type(alloc: Global, fields: &[Encoded]) -> Result<Option<Vec<i64>>, AllocError>
     ensures { IfOk result (λ ids. GivesIds ids (encoded_views fields.now)) }

@@ -1,4 +1,5 @@
-//! Whether two fields share a dictionary and have unequal value types, found without memory.
+//! Whether two fields share a dictionary and have unequal value types, determined without
+//! allocating.
 
 ghost use Rattle.std.specs.Prelude.{◌≡◌};
 ghost use Rattle.arrow_types.specs.Dictionaries.{some_clash, field_clashes, head_clashes};
@@ -10,15 +11,15 @@ use crate::data_type::DataType;
 use crate::field::Field;
 
 /// Whether two of the fields share a dictionary and have unequal value types. The time grows with
-/// the square of the number of dictionary-encoded fields, so this is for where the memory of
-/// [`crate::dictionaries`] is not to be had.
+/// the square of the number of dictionary-encoded fields, so this is for the case that the memory
+/// for [`crate::dictionaries`] cannot be allocated.
 pub(crate) fn types_differ(fields: &[Field]) -> bool
     ensures { result ≡ two_differ (dictionary_fields (fields_view fields.now)) }
 {
     some_differ(fields, fields)
 }
 
-/// Whether one of the fields, on any level, clashes with one of all.
+/// Whether one of the fields, on any level, clashes with one of all fields.
 #[cycle(differing)]
 fn some_differ(fields: &[Field], all: &[Field]) -> bool
     ensures { result ≡ some_differ (fields_view all.now) (fields_view fields.now) }
@@ -31,7 +32,7 @@ fn some_differ(fields: &[Field], all: &[Field]) -> bool
     false
 }
 
-/// The same for one field and what stands below it.
+/// The same for one field and those below it.
 #[cycle(differing)]
 fn differs(field: &Field, all: &[Field]) -> bool
     ensures { result ≡ field_differs (fields_view all.now) (field_view field.now) }
@@ -58,7 +59,7 @@ fn some_clash(fields: &[Field], id: i64, value_type: &DataType) -> bool
     false
 }
 
-/// The same for one field and what stands below it.
+/// The same for one field and those below it.
 #[cycle(clashing)]
 fn clashes(field: &Field, id: i64, value_type: &DataType) -> bool
     ensures { result ≡ field_clashes (record { id = id; value_type = type_view value_type.now })

@@ -22,16 +22,16 @@ pub struct IndexType {
     pub signed: bool,
 }
 
-/// That a column holds indices into a dictionary in place of values (`Schema.fbs`, table
-/// `DictionaryEncoding`).
+/// The encoding of a column that holds indices into a dictionary in place of values (`Schema.fbs`,
+/// table `DictionaryEncoding`).
 #[derive(Clone, Copy, Debug, PartialEq, Eq)]
 pub struct Encoding {
-    /// Which dictionary. Fields that give one id share one dictionary, and then have equal value
-    /// types.
+    /// Which dictionary. Fields that have the same id share one dictionary, and then have equal
+    /// value types.
     pub id: i64,
-    /// The type of the indices. Fields that share a dictionary may differ in it.
+    /// The type of the indices. It may differ between fields that share a dictionary.
     pub index: IndexType,
-    /// Whether the order of the dictionary's values means something. Kept, and enforced nowhere.
+    /// Whether the order of the dictionary's values is meaningful. Stored, and nowhere enforced.
     pub ordered: bool,
 }
 
@@ -39,16 +39,16 @@ pub struct Encoding {
 #[cycle(types)]
 #[derive(Debug, Drop)]
 pub struct Field {
-    /// The name, which may be empty and need not be its own.
+    /// The name, which may be empty and need not be unique.
     pub name: String,
-    /// Whether slots may be null. Kept, and enforced nowhere.
+    /// Whether slots may be null. Stored, and nowhere enforced.
     pub nullable: bool,
     /// The type of the values. With a dictionary, the type of the dictionary's values.
     pub data_type: DataType,
-    /// The dictionary that the values stand in, if the column holds indices.
+    /// The dictionary that has the values, if the column holds indices.
     pub dictionary: Option<Encoding>,
-    /// Custom metadata: pairs of a key and a value in their order, each any bytes. Kept, and looked
-    /// at by nothing but equality.
+    /// Custom metadata: pairs of a key and a value in their order, each any bytes. Stored, and used
+    /// only for equality.
     pub metadata: Vec<(Vec<u8>, Vec<u8>)>,
 }
 
@@ -58,7 +58,7 @@ impl Field {
     ghost use Rattle.arrow_types.specs.Notes.{pairs_view};
     ghost use Rattle.arrow_types.specs.View.{type_notes, type_view};
 
-    /// A field that holds its values itself, without metadata. Takes no memory.
+    /// A field that holds its values itself, without metadata. Allocates nothing.
     pub fn new(alloc: Global, name: String, data_type: DataType, nullable: bool) -> Field
         ensures shape { field_view result
             ≡ field_by (string_bytes name) nullable None (type_view data_type) }
@@ -73,8 +73,8 @@ impl Field {
         }
     }
 
-    /// The same field, holding indices into this dictionary in place of its values. Takes no
-    /// memory.
+    /// The same field, holding indices into this dictionary in place of its values. Allocates
+    /// nothing.
     pub fn with_dictionary(mut self, encoding: Encoding) -> Field
         ensures shape { field_view result ≡ encoded_by encoding (field_view self) }
         ensures notes { field_notes result ≡ field_notes self }
@@ -83,7 +83,7 @@ impl Field {
         self
     }
 
-    /// The same field with these pairs in place of those that it has. Takes no memory.
+    /// The same field with these pairs in place of those that it has. Allocates nothing.
     pub fn with_metadata(mut self, metadata: Vec<(Vec<u8>, Vec<u8>)>) -> Field
         ensures shape { field_view result ≡ field_view self }
         ensures notes { field_notes result
@@ -93,7 +93,7 @@ impl Field {
         self
     }
 
-    /// The fields below this one: the children of its type. Takes no memory.
+    /// The fields below this one: the children of its type. Allocates nothing.
     pub fn children(&self) -> &[Field]
         ensures fields { fields_view result.now ≡ (field_view self.now).children }
         ensures notes { notes_view result.now ≡ (field_notes self.now).below }
@@ -101,7 +101,7 @@ impl Field {
         self.data_type.children()
     }
 
-    /// An equal field in memory of its own, or `AllocError` where a growth was refused.
+    /// An equal field in memory of its own, or `AllocError` if an allocation failed.
     #[cycle(copy)]
     pub fn copy(&self, alloc: Global) -> Result<Field, AllocError>
         ensures same { IfOk result (λ f. field_view f ≡ field_view self.now) }
@@ -130,7 +130,7 @@ pub(crate) fn copy_fields(alloc: Global, fields: &[Field]) -> Result<Vec<Field>,
     Ok(copies)
 }
 
-/// Whether the fields are equal, with all that they hold but their metadata.
+/// Whether the fields are equal in everything that they hold except their metadata.
 #[cycle(same)]
 pub(crate) fn same_field(one: &Field, other: &Field) -> bool
     ensures { IsTrue result ↔ (field_view one.now ≡ field_view other.now) }
@@ -141,7 +141,8 @@ pub(crate) fn same_field(one: &Field, other: &Field) -> bool
         && same_type(&one.data_type, &other.data_type)
 }
 
-/// Whether the fields are as many, and equal one by one but for their metadata.
+/// Whether there are as many fields in both lists, and they are equal one by one except for their
+/// metadata.
 #[cycle(same)]
 pub(crate) fn same_fields(fields: &[Field], others: &[Field]) -> bool
     ensures { IsTrue result ↔ (fields_view fields.now ≡ fields_view others.now) }
@@ -157,8 +158,8 @@ pub(crate) fn same_fields(fields: &[Field], others: &[Field]) -> bool
     true
 }
 
-/// Fields are equal where everything that they hold is, their metadata and that of the fields below
-/// them included. No memory is taken.
+/// Fields are equal if everything that they hold is, including their metadata and those of the
+/// fields below them. Nothing is allocated.
 impl PartialEq for Field {
     ghost eq = { on whole_field (is_equal whole_field_code) };
 
@@ -174,7 +175,7 @@ impl PartialEq for Field {
     }
 }
 
-/// Whether the fields are equal, with all that they hold.
+/// Whether the fields are equal in everything that they hold.
 fn same_with_notes(one: &Field, other: &Field) -> bool
     ensures { IsTrue result ↔ (whole_field one.now ≡ whole_field other.now) }
 {

@@ -1,4 +1,4 @@
-//! Whether the types of fields are as a schema's may be, each by itself.
+//! Whether the type of each field, by itself, is one that a schema may have.
 
 ghost use Rattle.std.specs.Prelude.{◌≡◌, ◌==◌, [], ◌∷◌};
 ghost use Rattle.arrow_types.specs.Field.{fields_of, width};
@@ -10,8 +10,8 @@ use crate::data_type::DataType;
 use crate::field::Field;
 use crate::schema::{Schema, SchemaFault};
 
-/// Whether one of the fields, on any level, has a type to which the fault applies. Of the faults
-/// that are not of a single type there is none.
+/// Whether one of the fields, on any level, has a type to which the fault applies. Faults that do
+/// not concern a single type apply to none.
 #[cycle(flaws)]
 pub(crate) fn some_flawed(fault: SchemaFault, fields: &[Field]) -> bool
     ensures { result ≡ some_flawed fault (fields_view fields.now) }
@@ -88,7 +88,7 @@ fn are_entries(field: &Field) -> bool
     is_struct(&field.data_type) && field.dictionary.is_none() && are_two(field.children())
 }
 
-/// Whether the type is that of structs.
+/// Whether the type is a struct type.
 fn is_struct(data_type: &DataType) -> bool
     ensures { result ≡ is_struct (type_view data_type.now).tag }
 {

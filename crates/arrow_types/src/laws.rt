@@ -1,11 +1,11 @@
-//! What the constants are, which no code stands behind.
+//! The values of the constants, stated apart from any code.
 
 ghost use Rattle.std.specs.Prelude.{◌≡◌, ◌-◌, ◌^◌};
 
 use crate::limits::Limits;
 use crate::schema::Schema;
 
-/// The ceilings of the limits, the place past which no frame may end, and the limits that every
+/// The ceilings of the limits, the offset past which no frame may end, and the limits that every
 /// schema keeps to.
 pub fn fixed_numbers()
     ensures metadata { Limits.METADATA_CEILING ≡ 2 ^ 30 }

@@ -1,20 +1,20 @@
 //! Types, fields, schemas and limits of Arrow streams.
 //!
 //! This is the lowest layer of the repository. It takes plain data in the shapes of the standard's
-//! `Schema.fbs` (`DataType`, `Field`, `Encoding`) and gives a `Schema`: fields that are known to
+//! `Schema.fbs` (`DataType`, `Field`, `Encoding`) and returns a `Schema`: fields that are known to
 //! keep to the fixed limits, with no dictionary below a dictionary and one value type for each
-//! dictionary id. Every crate above relies on these facts and tests none of them again. `Limits`
-//! holds the numbers that a reader and a writer keep to; [`laws`] says what the constants are.
+//! dictionary id. Every crate above relies on these facts and checks none of them again. `Limits`
+//! holds the limits of a reader and a writer; [`laws`] states the values of the constants.
 //!
-//! Contracts never compare the Rust values, which hold pointers and capacities, but what they say:
-//! a plain view, `type_view` of a type and `fields_view` of fields (`specs/View.antt`).
-//! `specs/Schema.antt` says what a schema is and which fault applies.
+//! Contracts never compare the Rust values, which hold pointers and capacities, but their plain
+//! views: `type_view` of a type and `fields_view` of fields (`specs/View.antt`).
+//! `specs/Schema.antt` defines what a schema is and which fault applies.
 //!
 //! | Notion | Definition |
 //! |---|---|
-//! | a type, a field, fields, as plain values | `specs/DataType.antt`: `Tag`; `specs/Field.antt`: `Fields` |
-//! | what those of the program say | `specs/View.antt`: `type_view`, `fields_view` |
-//! | custom metadata: pairs, beside what has them | `specs/Notes.antt`: `Notes`, `SchemaShape` |
+//! | a type, a field, fields, as plain values | `specs/DataType.antt`: `TypeId`; `specs/Field.antt`: `FieldTree` |
+//! | the plain values of the program's types and fields | `specs/View.antt`: `type_view`, `fields_view` |
+//! | custom metadata: pairs, with what has them | `specs/Notes.antt`: `Notes`, `SchemaShape` |
 //! | a schema, and which fault applies | `specs/Schema.antt`: `IsSchema`, `fault_of`, `Judges` |
 //! | the dictionaries of fields | `specs/Schema.antt`: `dictionary_fields`, `dictionary_ids` |
 //! | levels and numbers of fields | `specs/Field.antt`: `levels`, `count`; `specs/Room.antt` |
@@ -25,7 +25,7 @@
 mod data_type;
 mod dictionaries;
 mod differing;
-mod dismantle;
+mod drop_iteratively;
 mod field;
 mod flaws;
 pub mod laws;

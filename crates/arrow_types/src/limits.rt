@@ -1,4 +1,4 @@
-//! The numbers that a reader and a writer keep to.
+//! The limits of a reader and a writer.
 
 ghost use Rattle.std.specs.Prelude.{◌≡◌, ◌≤◌, ◌^◌, SomeIff};
 ghost use Rattle.arrow_types.specs.Limits.{AreWithinCeilings, limit_numbers, limits_with};
@@ -7,7 +7,7 @@ ghost use Rattle.arrow_types.specs.Limits.{standard_numbers};
 use crate::type_set::TypeSet;
 use std::marker::Model;
 
-/// How much a stranger's stream may ask of a reader, and how much a writer may send.
+/// How much an untrusted stream may ask of a reader, and how much a writer may write.
 ///
 /// The standard sets no such limits. Each number has a ceiling, and every `Limits` keeps to the
 /// ceilings. Numbers that no caller chooses are constants here.
@@ -44,14 +44,14 @@ impl Limits {
     /// The ceiling of `max_body`: 1 TiB.
     pub const BODY_CEILING: u64 = 1_099_511_627_776;
 
-    /// The ceiling of `max_rows`: the greatest signed 32-bit number, since list and text offsets
+    /// The ceiling of `max_rows`: the greatest signed 32-bit number, because list and text offsets
     /// have 32 bits.
     pub const ROWS_CEILING: u64 = 2_147_483_647;
 
-    /// The place, counted in bytes from a stream's beginning, past which no frame may end.
+    /// The offset, in bytes from a stream's beginning, past which no frame may end.
     pub const LAST_PLACE: u64 = 4_611_686_018_427_387_904;
 
-    /// These three limits with the core of the types, or None where one is above its ceiling.
+    /// These three limits with the core of the types, or `None` if one is above its ceiling.
     ///
     /// `max_metadata` counts the bytes of one message's metadata, and those of all names and time
     /// zones of one schema together. `max_body` counts the bytes of one message's body. `max_rows`

@@ -1,4 +1,4 @@
-//! Whether a dictionary stands below a dictionary.
+//! Whether a dictionary is below a dictionary.
 
 ghost use Rattle.std.specs.Prelude.{◌≡◌, ◌||◌, is_some};
 ghost use Rattle.arrow_types.specs.Schema.{has_encoding, is_nested, field_is_nested};
@@ -7,7 +7,7 @@ ghost use Rattle.arrow_types.specs.View.{field_view, fields_view, type_view};
 use crate::data_type::DataType;
 use crate::field::Field;
 
-/// Whether a dictionary-encoded field stands below a dictionary-encoded field.
+/// Whether a dictionary-encoded field is below a dictionary-encoded field.
 #[cycle(nesting)]
 pub(crate) fn are_nested(fields: &[Field]) -> bool
     ensures { result ≡ is_nested (fields_view fields.now) }
@@ -20,7 +20,7 @@ pub(crate) fn are_nested(fields: &[Field]) -> bool
     false
 }
 
-/// The same for one field and what stands below it.
+/// The same for one field and those below it.
 #[cycle(nesting)]
 fn has_nested(field: &Field) -> bool
     ensures { result ≡ field_is_nested (field_view field.now) }
@@ -32,7 +32,7 @@ fn has_nested(field: &Field) -> bool
 }
 
 impl DataType {
-    /// Whether a child, on any level, is dictionary-encoded. Takes no memory.
+    /// Whether a child, on any level, is dictionary-encoded. Allocates nothing.
     pub fn has_encoding_below(&self) -> bool
         ensures { result ≡ has_encoding ((type_view self.now).children) }
     {
@@ -53,7 +53,7 @@ pub(crate) fn have_encoding(fields: &[Field]) -> bool
     false
 }
 
-/// The same for one field and what stands below it.
+/// The same for one field and those below it.
 #[cycle(encodings)]
 fn has_encoding(field: &Field) -> bool
     ensures { result ≡ (is_some (field_view field.now).head.encoding

@@ -1,19 +1,20 @@
-//! Field nodes and buffers: how a batch's metadata says where its columns lie in the body.
+//! Field nodes and buffers: how a batch's metadata describe where its columns lie in the body.
 
-/// How many slots a field has, and how many of them are null (`Message.fbs`, struct `FieldNode`).
+/// The number of slots of a field, and how many of them are null (`Message.fbs`, struct
+/// `FieldNode`).
 #[derive(Clone, Copy, Debug, PartialEq, Eq)]
 pub struct FieldNode {
-    /// How many slots.
+    /// The number of slots.
     pub length: i64,
-    /// How many null slots; -1 where that is not told.
+    /// The number of null slots; -1 if that is not given.
     pub null_count: i64,
 }
 
-/// Where a buffer stands in the body (`Schema.fbs`, struct `Buffer`).
+/// Where a buffer lies in the body (`Schema.fbs`, struct `Buffer`).
 #[derive(Clone, Copy, Debug, PartialEq, Eq)]
 pub struct Buffer {
-    /// Its first byte, counted from the body's first.
+    /// Its first byte, counted from the body's first byte.
     pub offset: i64,
-    /// How many bytes it has. Padding need not be counted.
+    /// The number of its bytes. Padding need not be counted.
     pub length: i64,
 }

@@ -1,4 +1,4 @@
-//! Custom metadata: pairs of keys and values, at a schema and at its fields on all levels.
+//! Custom metadata: pairs of keys and values, of a schema and of its fields on all levels.
 
 ghost use Rattle.std.specs.Prelude.{◌≡◌, ◌↔◌, IsTrue, IfOk, length};
 ghost use Rattle.arrow_types.specs.Notes.{field_noted_count, noted_count, pair_view, pairs_view};
@@ -32,7 +32,7 @@ fn copy_pair(alloc: Global, pair: &(Vec<u8>, Vec<u8>)) -> Result<(Vec<u8>, Vec<u
     Ok((key, value))
 }
 
-/// Whether the pairs are as many, and equal one by one.
+/// Whether there are as many pairs in both lists, and they are equal one by one.
 pub(crate) fn same_pairs(pairs: &[(Vec<u8>, Vec<u8>)], others: &[(Vec<u8>, Vec<u8>)]) -> bool
     ensures { IsTrue result ↔ (pairs_view pairs.now ≡ pairs_view others.now) }
 {
@@ -47,14 +47,14 @@ pub(crate) fn same_pairs(pairs: &[(Vec<u8>, Vec<u8>)], others: &[(Vec<u8>, Vec<u
     true
 }
 
-/// Whether the keys are equal, and the values.
+/// Whether the keys are equal, and the values are.
 fn same_pair(one: &(Vec<u8>, Vec<u8>), other: &(Vec<u8>, Vec<u8>)) -> bool
     ensures { IsTrue result ↔ (pair_view one.now ≡ pair_view other.now) }
 {
     one.0.as_slice() == other.0.as_slice() && one.1.as_slice() == other.1.as_slice()
 }
 
-/// Whether the same pairs stand at the fields, on all levels.
+/// Whether the fields have the same pairs, on all levels.
 #[cycle(notes)]
 pub(crate) fn are_noted_alike(fields: &[Field], others: &[Field]) -> bool
     ensures { IsTrue result ↔ (notes_view fields.now ≡ notes_view others.now) }
@@ -70,7 +70,7 @@ pub(crate) fn are_noted_alike(fields: &[Field], others: &[Field]) -> bool
     true
 }
 
-/// Whether the same pairs stand at the fields and below them.
+/// Whether the two fields, and those below them, have the same pairs.
 #[cycle(notes)]
 pub(crate) fn have_same_notes(one: &Field, other: &Field) -> bool
     ensures { IsTrue result ↔ (field_notes one.now ≡ field_notes other.now) }
@@ -78,15 +78,15 @@ pub(crate) fn have_same_notes(one: &Field, other: &Field) -> bool
     same_pairs(&one.metadata, &other.metadata) && are_noted_alike(one.children(), other.children())
 }
 
-/// Whether the same pairs stand below the types.
+/// Whether the fields below the types have the same pairs.
 pub(crate) fn have_same_notes_below(one: &DataType, other: &DataType) -> bool
     ensures { IsTrue result ↔ (type_notes one.now ≡ type_notes other.now) }
 {
     are_noted_alike(one.children(), other.children())
 }
 
-/// What is left of `most` after the pairs of the fields on all levels are counted, None where there
-/// are more.
+/// The rest of `most` after the pairs of the fields on all levels are counted, `None` if there are
+/// more.
 #[cycle(noting)]
 pub(crate) fn after_notes(fields: &[Field], most: u32) -> Option<u32>
     ensures { result ≡ left_of most (noted_count (notes_view fields.now)) }
@@ -98,7 +98,8 @@ pub(crate) fn after_notes(fields: &[Field], most: u32) -> Option<u32>
     Some(left)
 }
 
-/// What is left of `most` after the pairs of the field and of all below it are counted.
+/// The rest of `most` after the pairs of the field and of all below it are counted, `None` if there
+/// are more.
 #[cycle(noting)]
 fn after_field_notes(field: &Field, most: u32) -> Option<u32>
     ensures { result ≡ left_of most (field_noted_count (field_notes field.now)) }
@@ -107,7 +108,7 @@ fn after_field_notes(field: &Field, most: u32) -> Option<u32>
     after_notes(field.children(), most)
 }
 
-/// What is left of `most` after the pairs are counted, None where there are more.
+/// The rest of `most` after the pairs are counted, `None` if there are more.
 pub(crate) fn after_pairs(pairs: &[(Vec<u8>, Vec<u8>)], most: u32) -> Option<u32>
     ensures { result ≡ left_of most (length pairs.now) }
 {

@@ -7,7 +7,7 @@ ghost use Rattle.arrow_types.specs.View.{fields_view, notes_view, schema_view};
 
 use crate::dictionaries::ids_of;
 use crate::differing::types_differ;
-use crate::dismantle::dismantle;
+use crate::drop_iteratively::drop_iteratively;
 use crate::field::{Field, copy_fields, same_fields};
 use crate::flaws::some_flawed;
 use crate::nesting::are_nested;
@@ -25,22 +25,22 @@ pub enum SchemaFault {
     TooDeep,
     /// There are more than 65,536 fields on all levels together.
     TooManyFields,
-    /// A dictionary-encoded field stands below a dictionary-encoded field.
+    /// A dictionary-encoded field is below a dictionary-encoded field.
     NestedDictionary,
-    /// Two fields give one dictionary id and have unequal value types.
+    /// Two fields have the same dictionary id and unequal value types.
     SharedIdTypesDiffer,
-    /// A growth was refused. None of the faults before it applies, and a field, on some level, is
+    /// An allocation failed. None of the faults before it applies, and a field, on some level, is
     /// dictionary-encoded.
     Memory,
-    /// Byte strings of a fixed size are to have more than 2,147,483,647 bytes each, or fixed-size
-    /// lists more than so many values.
+    /// Fixed-size byte strings would have more than 2,147,483,647 bytes each, or fixed-size lists
+    /// more than that many values.
     ByteWidth,
     /// There are more than 65,536 pairs of custom metadata in the whole schema.
     TooManyPairs,
     /// The child of a map is not a struct of two fields, or it is dictionary-encoded.
     MapEntries,
-    /// The precision of a decimal is 0 or greater than its width has digits for, or its scale is not
-    /// from -76 to 76.
+    /// The precision of a decimal is 0 or more than the number of digits that its width has, or its
+    /// scale is not from -76 to 76.
     DecimalRange,
 }
 
@@ -96,12 +96,12 @@ impl Error for SchemaFault {}
 
 /// The columns of a stream's batches (`Schema.fbs`, table `Schema`).
 ///
-/// Its fields keep to the limits of 32 levels and 65,536 fields; none of its dictionaries stands
-/// below another, those of one id have one value type, no fixed size is over the greatest signed
-/// 32-bit number, the child of each map is a struct of two fields that is not
-/// dictionary-encoded, and the width of each decimal allows its precision and scale. It has at most
-/// 65,536 pairs of metadata, those of its fields among them. Nobody who holds a schema has to test
-/// that again.
+/// Its fields keep to the limits of 32 levels and 65,536 fields; none of its dictionaries is below
+/// another, those with the same id have one value type, no fixed size is over the greatest signed
+/// 32-bit number, the child of each map is a struct of two fields that is not dictionary-encoded,
+/// and the width of each decimal allows its precision and scale. It has at most 65,536 pairs of
+/// metadata, including those of its fields. Code that has a schema need not check any of this
+/// again.
 #[derive(Debug, Drop)]
 pub struct Schema {
     fields: Vec<Field>,
@@ -135,8 +135,8 @@ impl Schema {
     /// The greatest number of fields on all levels together.
     pub const MAX_FIELDS: u32 = 65_536;
 
-    /// The greatest width of byte strings of a fixed size, in bytes, and the greatest size of
-    /// fixed-size lists, in values.
+    /// The greatest width of fixed-size byte strings, in bytes, and the greatest size of fixed-size
+    /// lists, in values.
     pub const MAX_WIDTH: u32 = 2_147_483_647;
 
     /// The greatest number of pairs of metadata, those of the schema and those of its fields on all
@@ -144,7 +144,7 @@ impl Schema {
     pub const MAX_PAIRS: u32 = 65_536;
 
     /// The schema of these columns, without metadata of its own, or the fault with the least number
-    /// of those that apply: what [`Schema::with_metadata`] answers without pairs.
+    /// of those that apply: what [`Schema::with_metadata`] returns without pairs.
     pub fn new(alloc: Global, fields: Vec<Field>) -> Result<Schema, SchemaFault>
         ensures { Judges result (schema_view fields.items []) }
     {
@@ -154,11 +154,11 @@ impl Schema {
     /// The schema of these columns with these pairs of metadata, or the fault with the least number
     /// of those that apply.
     ///
-    /// Fields deeper than 32 levels are not looked at below that, and the time grows as n log n
-    /// with the number of fields. Memory is taken for the dictionary ids alone, so for fields none
-    /// of which is dictionary-encoded, on any level, there is no `Memory`. Where it is refused, the
-    /// types of shared ids are compared without any, in a time that grows with the square of the
-    /// number of dictionary-encoded fields.
+    /// Levels of fields below the 32nd are not visited, and the time grows as n log n with the
+    /// number of fields. Memory is allocated only for the dictionary ids, so there is no `Memory`
+    /// for fields none of which is dictionary-encoded, on any level. If that allocation fails, the
+    /// types of shared ids are compared without any memory, in a time that grows with the square of
+    /// the number of dictionary-encoded fields.
     pub fn with_metadata(
         alloc: Global,
         fields: Vec<Field>,
@@ -167,7 +167,7 @@ impl Schema {
         ensures { Judges result (schema_view fields.items (pairs_view metadata.items)) }
     {
         if !have_levels(&fields, Schema::MAX_LEVELS) {
-            dismantle(fields);
+            drop_iteratively(fields);
             return Err(SchemaFault::TooDeep);
         }
         if after_fields(&fields, Schema::MAX_FIELDS).is_none() {
@@ -191,7 +191,7 @@ impl Schema {
         }
     }
 
-    /// The columns, each with what stands below it. Takes no memory.
+    /// The columns, each with the fields below it. Allocates nothing.
     pub fn fields(&self) -> &[Field]
         ensures same { fields_view result.now ≡ self.now.fields }
         ensures limits { IsSchema self.now.fields }
@@ -201,7 +201,7 @@ impl Schema {
     }
 
     /// The schema's own metadata: pairs of a key and a value in their order, each any bytes. Those
-    /// of a field stand in the field. Takes no memory.
+    /// of a field are in the field. Allocates nothing.
     pub fn metadata(&self) -> &[(Vec<u8>, Vec<u8>)]
         ensures same { pairs_view result.now ≡ self.now.pairs }
         ensures limits { IsNoted self.now }
@@ -209,15 +209,15 @@ impl Schema {
         &self.metadata
     }
 
-    /// The ids of the dictionaries, each once, in the order of the fields that give them first: a
-    /// field before its children, and these before the field after it. Takes no memory.
+    /// The ids of the dictionaries, each once, in the order of the fields that have them first: a
+    /// field before its children, and these before the field after it. Allocates nothing.
     pub fn dictionary_ids(&self) -> &[i64]
         ensures { result.now ≡ dictionary_ids self.now.fields }
     {
         &self.dictionary_ids
     }
 
-    /// An equal schema in memory of its own, or `AllocError` where a growth was refused.
+    /// An equal schema in memory of its own, or `AllocError` if an allocation failed.
     pub fn copy(&self, alloc: Global) -> Result<Schema, AllocError>
         ensures { IfOk result (λ s. s ≡ self.now) }
     {
@@ -251,7 +251,7 @@ fn late_fault(fields: &[Field], pairs: &[(Vec<u8>, Vec<u8>)]) -> Option<SchemaFa
     None
 }
 
-/// Whether the schema of these fields and pairs would have more pairs than it may.
+/// Whether a schema of these fields and pairs would have more pairs than it may.
 fn have_too_many_pairs(fields: &[Field], pairs: &[(Vec<u8>, Vec<u8>)]) -> bool
     ensures { result ≡ nat_lt 65536 (pair_count (schema_view fields.now (pairs_view pairs.now))) }
 {
@@ -261,7 +261,7 @@ fn have_too_many_pairs(fields: &[Field], pairs: &[(Vec<u8>, Vec<u8>)]) -> bool
     }
 }
 
-/// Schemas are equal where all their fields and their metadata are. No memory is taken.
+/// Schemas are equal if all their fields and their metadata are. Nothing is allocated.
 impl PartialEq for Schema {
     ghost use Rattle.arrow_types.specs.Equality.{is_equal, is_equal_equivalence};
     ghost use Rattle.arrow_types.specs.Stored.{schema_code};
@@ -279,7 +279,7 @@ impl PartialEq for Schema {
     }
 }
 
-/// Whether the schemas are equal, with all metadata.
+/// Whether the schemas are equal, including all metadata.
 fn same_schema(one: &Schema, other: &Schema) -> bool
     ensures { IsTrue result ↔ (one.now ≡ other.now) }
 {

@@ -1,4 +1,4 @@
-//! How deep and how many fields are.
+//! The number of levels and of fields.
 
 ghost use Rattle.std.specs.Prelude.{◌≡◌, ◌≤◌, ◌↔◌, IsTrue};
 ghost use Rattle.arrow_types.specs.Field.{levels, field_levels, count, field_count};
@@ -7,7 +7,7 @@ ghost use Rattle.arrow_types.specs.View.{field_view, fields_view};
 
 use crate::field::Field;
 
-/// Whether the fields have at most `most` levels. No level below is looked at, however deep they
+/// Whether the fields have at most `most` levels. No level below that is visited, however deep they
 /// are.
 #[cycle(levels)]
 pub(crate) fn have_levels(fields: &[Field], most: u32) -> bool
@@ -21,7 +21,7 @@ pub(crate) fn have_levels(fields: &[Field], most: u32) -> bool
     true
 }
 
-/// Whether the field has at most `most` levels, its own among them.
+/// Whether the field has at most `most` levels, including its own.
 #[cycle(levels)]
 fn has_levels(field: &Field, most: u32) -> bool
     ensures { IsTrue result ↔ (field_levels (field_view field.now) ≤ most) }
@@ -32,7 +32,7 @@ fn has_levels(field: &Field, most: u32) -> bool
     have_levels(field.children(), most - 1)
 }
 
-/// What is left of `most` after the fields on all levels are counted, None where there are more.
+/// The rest of `most` after the fields on all levels are counted, `None` if there are more.
 #[cycle(counting)]
 pub(crate) fn after_fields(fields: &[Field], most: u32) -> Option<u32>
     ensures { result ≡ left_of most (count (fields_view fields.now)) }
@@ -44,7 +44,7 @@ pub(crate) fn after_fields(fields: &[Field], most: u32) -> Option<u32>
     Some(left)
 }
 
-/// What is left of `most` after the field and all below it are counted.
+/// The rest of `most` after the field and all below it are counted, `None` if there are more.
 #[cycle(counting)]
 fn after_field(field: &Field, most: u32) -> Option<u32>
     ensures { result ≡ left_of most (field_count (field_view field.now)) }

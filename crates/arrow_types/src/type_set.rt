@@ -8,19 +8,20 @@ ghost use Rattle.arrow_types.specs.View.{field_view, fields_view, type_view};
 use crate::data_type::DataType;
 use crate::field::Field;
 
-/// A set of types. A reader refuses a schema that has a type outside of its set as one that is not
-/// supported, and a writer does not send it.
+/// A set of types. A reader rejects a schema that has a type outside its set, and reports it as not
+/// supported; a writer does not write it.
 #[derive(Clone, Copy, Debug, PartialEq, Eq)]
 pub enum TypeSet {
-    /// The types that have always been there: Null, Bool, Int, Binary, LargeBinary, FixedSizeBinary,
-    /// Utf8, LargeUtf8, Date, Time, Timestamp, Duration, List, LargeList and Struct.
+    /// The types that were supported from the beginning: Null, Bool, Int, Binary, LargeBinary,
+    /// FixedSizeBinary, Utf8, LargeUtf8, Date, Time, Timestamp, Duration, List, LargeList and
+    /// Struct.
     Core,
-    /// These, FloatingPoint, Decimal, Interval, FixedSizeList and Map.
+    /// These, and FloatingPoint, Decimal, Interval, FixedSizeList and Map.
     All,
 }
 
 impl TypeSet {
-    /// Whether the set leaves out the type of one of the fields, on any level. Takes no memory.
+    /// Whether the set leaves out the type of one of the fields, on any level. Allocates nothing.
     #[cycle(types_left)]
     pub fn leaves_some_out(self, fields: &[Field]) -> bool
         ensures { result ≡ leaves_some_out self (fields_view fields.now) }
@@ -33,7 +34,7 @@ impl TypeSet {
         false
     }
 
-    // The same for one field and those below it.
+    /// The same for one field and those below it.
     #[cycle(types_left)]
     fn leaves_field_out(self, field: &Field) -> bool
         ensures { result ≡ field_leaves_out self (field_view field.now) }
@@ -41,14 +42,14 @@ impl TypeSet {
         self.leaves_out(&field.data_type) || self.leaves_some_out(field.children())
     }
 
-    // Whether the set leaves the type itself out.
+    /// Whether the set leaves the type itself out.
     fn leaves_out(self, data_type: &DataType) -> bool
         ensures { result ≡ leaves_out self (type_view data_type.now).tag }
     {
         is_late(data_type) && self.is_core()
     }
 
-    // Whether the set has the core alone.
+    /// Whether the set has only the core.
     fn is_core(self) -> bool
         ensures { result ≡ is_core self }
     {
@@ -59,7 +60,7 @@ impl TypeSet {
     }
 }
 
-// Whether the type is outside of the core.
+/// Whether the type is outside the core.
 fn is_late(data_type: &DataType) -> bool
     ensures { result ≡ is_late (type_view data_type.now).tag }
 {

@@ -1,4 +1,4 @@
-//! Tests of `arrow_types`, in a crate of their own so that the library is not proved once more with
+//! Tests of `arrow_types`, in a separate crate so that the library is not proved once more with
 //! them.
 #![tactic(auto)]
 

@@ -1,4 +1,5 @@
-//! What no clause says: that the definitions say what the format means, and that calls succeed.
+//! Properties that no clause states: that the definitions express what the format means, and that
+//! calls succeed.
 
 mod fields;
 mod pairs;

@@ -4,48 +4,47 @@ use crate::copying::{WAYS, compare_bytes, copy_of, walk_beginning};
 use crate::findings::Findings;
 use crate::given::{Given, limits_of};
 use crate::pack::Vector;
+use crate::reported::{Break, Reported, lines_before};
 use crate::reports::{self, Call, wanted_of, written};
-use crate::told::{Break, Told, lines_before};
 use crate::{drilling, receiving};
 use arrow_sink::Sink;
 use arrow_sink::probe::{Failing, Narrow};
 use arrowflow_copy::copy;
-use arrowflow_report::{check, show};
+use arrowflow_text::{check, show};
 use std::alloc::{AllocError, Global};
 
-/// Beside so many messages of a stream, about, its input breaks off.
-const BESIDE: usize = 16;
+/// The input of a stream breaks off next to about this many of its messages.
+const NEXT_TO: usize = 16;
 
-/// An output of up to so many bytes fails at each place, a larger one at about so many.
+/// An output of up to this many bytes fails at each offset, a larger one at about `PLACES` offsets.
 const SMALL: usize = 64;
 
 const PLACES: usize = 16;
 
-/// Compares what the calls make of a stream that ends well where its input ends or fails behind a
-/// message and one byte before, and where their output fails; at few places alone, if they are to
-/// be few.
+/// Compares the results of the calls on a stream that ends well if its input ends or fails after a
+/// message and one byte before, and if their output fails; only at few offsets if `are_few`.
 pub(crate) fn walk(
     alloc: Global,
     found: &mut Findings,
     vector: &Vector<'_>,
-    told: &Told<'_>,
+    reported: &Reported<'_>,
     are_few: bool,
 ) -> Result<(), AllocError> {
-    if !told.is_clean() {
+    if !reported.is_clean() {
         return Ok(());
     }
     let (copied, _) = copy_of(alloc, vector.given(), WAYS[0])?;
-    let count = told.messages.len();
-    let step = if are_few { count } else { count / BESIDE };
-    for (number, message) in told.messages.iter().enumerate() {
+    let count = reported.messages.len();
+    let step = if are_few { count } else { count / NEXT_TO };
+    for (number, message) in reported.messages.iter().enumerate() {
         if (number.saturating_add(1)) % step.max(1) == 0 {
             let end = message.end() as usize;
             break_input(alloc, found, vector, &copied, end)?;
             break_input(alloc, found, vector, &copied, end.saturating_sub(1))?;
         }
     }
-    let messages = wanted_of(alloc, Call::Check, told)?;
-    let rows = wanted_of(alloc, Call::Show, told)?;
+    let messages = wanted_of(alloc, Call::Check, reported)?;
+    let rows = wanted_of(alloc, Call::Show, reported)?;
     let outputs = [
         (Written::Messages, messages.as_bytes()),
         (Written::Rows, rows.as_bytes()),
@@ -62,7 +61,7 @@ pub(crate) fn walk(
     Ok(())
 }
 
-/// Compares what the calls make of an input that ends or fails at a place.
+/// Compares the results of the calls on an input that ends or fails at an offset.
 fn break_input(
     alloc: Global,
     found: &mut Findings,
@@ -72,7 +71,7 @@ fn break_input(
 ) -> Result<(), AllocError> {
     let stream = vector.stream.get(..place).unwrap_or(vector.stream);
     let lines = lines_before(alloc, vector.lines(), place as u64, Break::Ends)?;
-    let told = Told::of(alloc, &lines)?;
+    let reported = Reported::of(alloc, &lines)?;
     let types = vector.types();
     let given = Given {
         stream,
@@ -80,23 +79,23 @@ fn break_input(
         at_once: 7,
         fails: None,
     };
-    reports::walk(alloc, found, given, &told)?;
-    walk_beginning(alloc, found, given, &told, (0, copied))?;
-    receiving::walk_whole(alloc, found, given, &told)?;
-    if !told.is_clean() {
+    reports::walk(alloc, found, given, &reported)?;
+    walk_beginning(alloc, found, given, &reported, (0, copied))?;
+    receiving::walk_whole(alloc, found, given, &reported)?;
+    if !reported.is_clean() {
         let whole = Given::whole(stream, types);
-        drilling::walk_several(alloc, found, whole, vector.given(), &told)?;
+        drilling::walk_several(alloc, found, whole, vector.given(), &reported)?;
     }
     let lines = lines_before(alloc, vector.lines(), place as u64, Break::Fails)?;
-    let told = Told::of(alloc, &lines)?;
+    let reported = Reported::of(alloc, &lines)?;
     let given = Given {
         stream: vector.stream,
         types,
         at_once: 7,
         fails: Some(place),
     };
-    reports::walk(alloc, found, given, &told)?;
-    walk_beginning(alloc, found, given, &told, (0, copied))
+    reports::walk(alloc, found, given, &reported)?;
+    walk_beginning(alloc, found, given, &reported, (0, copied))
 }
 
 /// What is written.
@@ -107,7 +106,7 @@ enum Written {
     Copy,
 }
 
-/// What is to be written of a stream.
+/// The expected output for a stream.
 #[derive(Clone, Copy)]
 struct Output<'a> {
     what: Written,
@@ -116,7 +115,7 @@ struct Output<'a> {
 }
 
 impl Output<'_> {
-    /// Compares what is written where the output fails at some places, and not at all.
+    /// Compares what is written if the output fails at some offsets, and if it does not fail.
     fn walk(&self, alloc: Global, found: &mut Findings, are_few: bool) -> Result<(), AllocError> {
         let size = self.wanted.len();
         let step = match size {
@@ -134,8 +133,8 @@ impl Output<'_> {
         self.narrow(alloc, found, (Failing::ByError, size), (1, 0))
     }
 
-    /// Compares what a sink takes that has room for so many bytes, how often it is flushed and
-    /// fails, and what is told of it.
+    /// Compares the bytes that a sink with this capacity takes, how often it is flushed and fails,
+    /// and the reported fault.
     fn narrow(
         &self,
         alloc: Global,
@@ -163,7 +162,7 @@ impl Output<'_> {
         )
     }
 
-    /// What the call writes into a sink that has room for so many bytes, and the line of its fault.
+    /// What the call writes into a sink with this capacity, and the line of its fault.
     fn given_to(
         &self,
         alloc: Global,

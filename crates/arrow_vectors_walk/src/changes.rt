@@ -1,12 +1,12 @@
-//! Changes of a stream, and what a reader answers to each, in numbers.
+//! Changes of a stream, and the results of a reader for each, in numbers.
 
 use crate::findings::Findings;
 use crate::pack::Vector;
 use arrow_stream_reader::{Item, StreamReader};
 use std::alloc::{AllocError, Global};
 
-/// Compares what a reader answers to each change of a stream that a file tells of; of the values of
-/// one byte to the first and the last alone, where few are to be tried.
+/// Compares the results of a reader for each change of a stream that a file lists; if `are_few`,
+/// only for the first and the last of the values of one byte.
 pub(crate) fn walk(
     alloc: Global,
     found: &mut Findings,
@@ -31,12 +31,12 @@ pub(crate) fn walk(
     Ok(())
 }
 
-/// The name of the stream that a file changes, which stands in its second line.
+/// The name of the stream that a file changes, which is in its second line.
 pub(crate) fn base_of(text: &str) -> Option<&str> {
     text.split('\n').nth(1)?.strip_prefix("base ")
 }
 
-/// How many streams a file tells of.
+/// How many streams a file lists.
 pub(crate) fn count(text: &str) -> usize {
     let mut count = 0usize;
     for line in text.split('\n').skip(2) {
@@ -47,7 +47,7 @@ pub(crate) fn count(text: &str) -> usize {
     count
 }
 
-/// How many streams a change stands for.
+/// How many streams a change describes.
 fn count_of(change: &str) -> usize {
     let (first, last) = match length_of(change) {
         Some(lengths) => lengths,
@@ -56,7 +56,7 @@ fn count_of(change: &str) -> usize {
     last.saturating_sub(first).saturating_add(1)
 }
 
-/// The first and the last length of the beginnings that a change stands for.
+/// The first and the last length of the prefixes that a change describes.
 fn length_of(change: &str) -> Option<(usize, usize)> {
     let lengths = change.strip_prefix("length ")?;
     let (first, last) = lengths.split_once("..").unwrap_or((lengths, lengths));
@@ -74,7 +74,7 @@ fn bytes_of(change: &str) -> Option<(usize, usize)> {
     Some((first as usize, last as usize))
 }
 
-/// The place that a change sets from.
+/// The offset from which a change sets bytes.
 fn place_of(setting: &str) -> Option<usize> {
     let (place, _) = setting.split_once(" := ")?;
     place.rsplit_once(" at ")?.1.parse::<usize>().ok()
@@ -92,7 +92,7 @@ struct Tried<'a> {
 }
 
 impl Tried<'_> {
-    /// Tries the streams that a change stands for.
+    /// Tries the streams that a change describes.
     fn change(&mut self, base: &[u8], change: &str) -> Result<(), AllocError> {
         if let Some((first, last)) = length_of(change) {
             for length in first..last.saturating_add(1) {
@@ -116,7 +116,7 @@ impl Tried<'_> {
         self.stream(&stream)
     }
 
-    /// Compares what the reader, which begins anew, answers to one stream.
+    /// Compares the results of the reader, which is restarted, for one stream.
     fn stream(&mut self, stream: &[u8]) -> Result<(), AllocError> {
         self.reader.restart();
         let (batches, rows) = read_all(self.reader, stream);
@@ -136,7 +136,7 @@ fn set(stream: &mut [u8], place: usize, value: u8) {
     }
 }
 
-/// Sets the bytes of a setting, which stand in hexadecimal.
+/// Sets the bytes of a setting, which are given in hexadecimal.
 fn set_all(stream: &mut [u8], setting: &str) {
     let (Some(place), Some((_, digits))) = (place_of(setting), setting.split_once(" := ")) else {
         return;
@@ -150,7 +150,7 @@ fn set_all(stream: &mut [u8], setting: &str) {
     }
 }
 
-/// How many batches and rows a reader hands out of a stream.
+/// How many batches and rows a reader returns from a stream.
 fn read_all(reader: &mut StreamReader, stream: &[u8]) -> (u64, u64) {
     let (mut batches, mut rows) = (0u64, 0u64);
     let mut rest = stream;

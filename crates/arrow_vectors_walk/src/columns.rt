@@ -1,14 +1,14 @@
-//! Schemas as a text tells them.
+//! Schemas in the text of a vector.
 
 use crate::values::push_bytes;
 use arrow_types::{Field, Schema};
-use arrowflow_report::schema_lines_of;
+use arrowflow_text::schema_lines_of;
 use std::alloc::{AllocError, Global};
 
 /// More levels than a type has.
 const LEVELS: u32 = 40;
 
-/// Appends `schema`, a line for each column, and below what it is of one for the custom metadata.
+/// Appends `schema`, a line for each column, and below the line of a column its custom metadata.
 pub(crate) fn push_schema(
     alloc: Global,
     text: &mut String,

@@ -4,43 +4,43 @@ use crate::copying::{WAYS, copy_of};
 use crate::findings::Findings;
 use crate::given::{Given, limits_of};
 use crate::reading::answers_to;
+use crate::reported::{Message, Reported, push_ending};
 use crate::reports::fault_of;
-use crate::told::{Message, Told, push_ending};
 use arrow_sink::probe::Trickle;
 use arrow_stream_writer::Options;
 use arrow_types::TypeSet;
 use arrowflow_drill::drill;
-use arrowflow_report::ToolFault;
+use arrowflow_input::ToolFault;
 use std::alloc::{AllocError, Global};
 use std::collections::BTreeMap;
 
-/// A stream of up to so many bytes breaks at each of them.
+/// A stream of up to this many bytes breaks at each of them.
 const SMALL: u64 = 200;
 
-/// In pieces of how many bytes connections are delivered, in turn.
+/// The sizes of the pieces in which connections are delivered, used in turn.
 const PIECES: [u64; 12] = [0, 1, 2, 3, 4, 5, 6, 7, 65, 1_000, 65_536, 1_073_741_824];
 
-/// Compares what is told of a connection over the stream, written in each way, that breaks: in the
-/// first way behind each byte where few are written, else behind those that are chosen, in the
-/// others where a message ends. What is written is what a copy has, whose places the reader tells.
+/// Compares the report on a connection over the stream, written in each way, that breaks: in the
+/// first way after each byte if few are written, else after the chosen ones, in the others where a
+/// message ends. What is written is a copy, and a reader gives its offsets.
 pub(crate) fn walk(
     alloc: Global,
     found: &mut Findings,
     given: Given<'_>,
-    told: &Told<'_>,
+    reported: &Reported<'_>,
 ) -> Result<(), AllocError> {
-    if !told.is_clean() {
+    if !reported.is_clean() {
         return Ok(());
     }
     for (way, options) in WAYS.iter().enumerate() {
         let (bytes, _) = copy_of(alloc, given, *options)?;
         let answers = answers_to(alloc, &bytes, given.types)?;
-        let sent = Told::of(alloc, &answers)?;
+        let sent = Reported::of(alloc, &answers)?;
         for place in 0..sent.place().saturating_add(2) {
             let is_tried = if way == 0 {
                 sent.place() <= SMALL || sent.is_chosen(place, sent.place())
             } else {
-                sent.is_beside_an_end(place)
+                sent.is_next_to_an_end(place)
             };
             if is_tried {
                 let delivery = delivery_at(place, sent.place());
@@ -54,35 +54,36 @@ pub(crate) fn walk(
     Ok(())
 }
 
-/// How a stream of this size is delivered up to a place: whole behind its end.
+/// How a stream of this size is delivered up to an offset: the complete stream if the offset is
+/// past its end.
 fn delivery_at(place: u64, size: u64) -> (u64, u64) {
     let piece = PIECES.get(place as usize % PIECES.len()).unwrap_or(&1);
     (if place > size { u64::MAX } else { place }, *piece)
 }
 
-/// Compares what is told of three connections, the first and the last over the stream, written in
-/// some of the ways, that break at one place: nothing but the fault of the stream where it has one.
-/// Where the input of one of them fails, this is told, and no further one is read.
+/// Compares the report on three connections, the first and the last over the stream, written in
+/// some of the ways, that break at one offset: it is only the fault of the stream if it has one. If
+/// the input of one of them fails, this is reported, and no further input is read.
 pub(crate) fn walk_several(
     alloc: Global,
     found: &mut Findings,
     given: Given<'_>,
     between: Given<'_>,
-    told: &Told<'_>,
+    reported: &Reported<'_>,
 ) -> Result<(), AllocError> {
-    if !told.is_clean() {
+    if !reported.is_clean() {
         let givens = [between, given, Given::whole(&[], given.types)];
         let answer = drilled(alloc, &givens, WAYS[0], (u64::MAX, 8))?;
-        let fault = fault_of(alloc, told)?;
+        let fault = fault_of(alloc, reported)?;
         return found.compare(("drilled behind another", 1), &answer, &fault);
     }
     for (way, options) in WAYS.iter().enumerate().take(2) {
         let (bytes, _) = copy_of(alloc, given, *options)?;
         let answers = answers_to(alloc, &bytes, given.types)?;
-        let sent = Told::of(alloc, &answers)?;
+        let sent = Reported::of(alloc, &answers)?;
         let (bytes, _) = copy_of(alloc, between, *options)?;
         let others = answers_to(alloc, &bytes, between.types)?;
-        let other_sent = Told::of(alloc, &others)?;
+        let other_sent = Reported::of(alloc, &others)?;
         let delivery = (sent.place() / 3 * 2, 100);
         let answer = drilled(alloc, &[given, between, given], *options, delivery)?;
         let mut wanted = String::new(alloc);
@@ -91,10 +92,10 @@ pub(crate) fn walk_several(
         push_connection(alloc, &mut wanted, 2, &sent, delivery)?;
         found.compare(("three drilled in way", way), &answer, &wanted)?;
     }
-    walk_failing(alloc, found, given, between, told.place() as usize / 2)
+    walk_failing(alloc, found, given, between, reported.place() as usize / 2)
 }
 
-/// Compares what is told of three inputs, of which each in turn fails at a place, and how far they
+/// Compares the report on three inputs, each of which in turn fails at an offset, and how far they
 /// are read.
 fn walk_failing(
     alloc: Global,
@@ -132,8 +133,8 @@ fn walk_failing(
     Ok(())
 }
 
-/// What is told of connections of which so many bytes are delivered, in pieces of this length; all of
-/// them are read with the same limits.
+/// The report on connections of which this many bytes are delivered, in pieces of this length; all
+/// of them are read with the same limits.
 fn drilled(
     alloc: Global,
     givens: &[Given<'_>],
@@ -168,12 +169,12 @@ fn fault_text(alloc: Global, fault: &ToolFault) -> Result<String, AllocError> {
     format!(in alloc; "{} {line}\n", fault.status())
 }
 
-/// Appends what is to be told of the connection of this number that sends these messages.
+/// Appends the expected report on the connection with this number that sends these messages.
 fn push_connection(
     alloc: Global,
     text: &mut String,
     number: usize,
-    sent: &Told<'_>,
+    sent: &Reported<'_>,
     delivery: (u64, u64),
 ) -> Result<(), AllocError> {
     let (size, batches) = (sent.place(), sent.batches_before(u64::MAX));

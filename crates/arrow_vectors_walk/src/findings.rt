@@ -1,15 +1,15 @@
-//! What was found: answers that are not as told.
+//! Findings: results that are not as expected.
 
 use std::alloc::{AllocError, Global};
 
-/// So many answers of a vector are shown.
+/// This many wrong results of a vector are shown.
 const SHOWN: u64 = 3;
 
-/// The answers of a vector that are not as told.
+/// The results of a vector that are not as expected.
 #[derive(Drop)]
 pub(crate) struct Findings {
     wrong: u64,
-    // the first of them
+    /// the first of them
     text: String,
 }
 
@@ -22,7 +22,7 @@ impl Findings {
         }
     }
 
-    /// Compares what a call answered with what it should. The words and the number say which call
+    /// Compares the result of a call with the expected one. The words and the number say which call
     /// it was.
     pub(crate) fn compare(
         &mut self,

@@ -1,4 +1,4 @@
-//! Inputs as the calls are given them.
+//! Inputs in the form in which the calls receive them.
 
 use arrow_sink::probe::Trickle;
 use arrow_types::{Limits, TypeSet};
@@ -11,14 +11,14 @@ pub(crate) struct Given<'a> {
     pub(crate) stream: &'a [u8],
     /// The types of the calls' limits.
     pub(crate) types: TypeSet,
-    /// So many of them come at once, at most.
+    /// At most this many of them are delivered at once.
     pub(crate) at_once: usize,
     /// Where it fails, if it does.
     pub(crate) fails: Option<usize>,
 }
 
 impl<'a> Given<'a> {
-    /// An input that gives all that it can at once.
+    /// An input that delivers as much as possible at once.
     pub(crate) fn whole(stream: &'a [u8], types: TypeSet) -> Given<'a> {
         Given {
             stream,
@@ -34,13 +34,13 @@ impl<'a> Given<'a> {
         Trickle::new(self.stream, self.at_once, fails)
     }
 
-    /// The place where it fails, or else how much of it comes at once.
+    /// The offset at which it fails, or else how much of it is delivered at once.
     pub(crate) fn number(&self) -> usize {
         self.fails.unwrap_or(self.at_once)
     }
 }
 
-/// The error by which an input fails at a place: each is told alike.
+/// The error with which an input fails at an offset: each is reported in the same way.
 fn error_at(place: usize) -> ErrorKind {
     match place % 4 {
         0 => ErrorKind::Interrupted,

@@ -1,23 +1,23 @@
-//! Walks the vectors: each stream goes through each call that takes one, and what the calls answer
-//! is compared with the vector's text. The file `vectors.arrows` has all of them, and says which are
-//! read with all types (`pack`).
+//! Walks the vectors: each stream goes through each call that takes one, and the results of the
+//! calls are compared with the vector's text. The file `vectors.arrows` has all of them, and says
+//! which are read with all types (`pack`).
 //!
 //! | Module | What is compared |
 //! |---|---|
-//! | `reading` | all that `StreamReader::read` and `end` answer: the whole in one piece, byte by byte, and cut in two at each place |
-//! | `receiving` | the batches, the dictionaries and the ending that `receive` gives, of the same pieces |
+//! | `reading` | all results of `StreamReader::read` and `end`: for the whole in one piece, byte by byte, and cut in two at each offset |
+//! | `receiving` | the batches, the dictionaries and the ending that `receive` gives, for the same pieces |
 //! | `reports` | what `schema_text`, `check`, `check_quietly`, `show` and `show_selection` write, with the status and the line of their fault |
-//! | `copying` | what a reader answers to a copy, and that a copy of the copy is the copy |
-//! | `drilling` | what `drill` tells of a connection that breaks, and of three |
-//! | `breaking` | all these calls where the input ends early or fails, or the output fails |
-//! | `changes` | how many batches and rows a reader hands out of a changed stream, and how that ends |
+//! | `copying` | what a reader reads of a copy, and that a copy of the copy is the copy |
+//! | `drilling` | the report of `drill` on a connection that breaks, and on three |
+//! | `breaking` | all these calls if the input ends early or fails, or the output fails |
+//! | `changes` | how many batches and rows a reader returns from a changed stream, and how that ends |
 //!
-//! Nothing of an answer is written down here: each is made of the lines of the text (`told`), which
+//! No expected result is written down here: each is made of the lines of the text (`reported`), which
 //! come from a model in another language. The program prints a line for each vector, and the first
-//! answers that are not as told. It ends with status 1 where there is one. With the word `whole`
-//! behind its name no stream is given in pieces, inputs, outputs and connections break at few
-//! places, a byte is set to few values, and the first stream that is answered otherwise is the last
-//! one.
+//! results that are not as expected. It ends with status 1 if there is one. With the word `whole`
+//! after its name, no stream is delivered in pieces, inputs, outputs and connections break at few
+//! offsets, a byte is set to few values, and the walk ends with the first stream that has a wrong
+//! result.
 #![tactic(auto)]
 
 mod breaking;
@@ -31,15 +31,15 @@ mod pack;
 mod reading;
 mod receiving;
 mod records;
+mod reported;
 mod reports;
-mod told;
 mod values;
 
 use crate::changes::base_of;
 use crate::findings::Findings;
 use crate::given::Given;
 use crate::pack::{Vector, batches_in, stream_of, vectors_in};
-use crate::told::Told;
+use crate::reported::Reported;
 use std::alloc::{AllocError, Global};
 use std::process::ExitCode;
 use std::rt::{Env, Files};
@@ -48,10 +48,10 @@ use std::{env, fs, io};
 /// The file that has the vectors.
 const FILE: &str = "vectors.arrows";
 
-/// The stream of a connection beside others.
+/// The stream of a connection that runs together with others.
 const OTHER: &str = "growing_dictionary";
 
-/// The word by which streams are given whole alone.
+/// The word with which streams are only delivered whole.
 const WHOLE: &str = "whole";
 
 fn main(rt: HostRuntime) -> ExitCode {
@@ -62,9 +62,9 @@ fn main(rt: HostRuntime) -> ExitCode {
     }
 }
 
-/// Walks the vectors of the file, and prints what was found: whether there are any, and all answers
-/// were as told. Streams that are given whole come first, since they tell most; in pieces they come
-/// only where each whole one was answered as told.
+/// Walks the vectors of the file, and prints the findings. Returns whether there are any vectors
+/// and all results were as expected. Streams that are delivered whole come first, since they show
+/// most; streams in pieces follow only if each whole one had the expected results.
 fn walk_all<R: AllocGlobal + Env + Files + Print>(rt: &R) -> io::Result<bool>
 where
     R::File: Drop,
@@ -105,14 +105,14 @@ enum Part {
 #[derive(Clone, Copy)]
 struct Walk<'a> {
     vectors: &'a [Vector<'a>],
-    /// The stream of a connection beside others.
+    /// The stream of a connection that runs together with others.
     other: &'a [u8],
     are_whole: bool,
 }
 
 impl Walk<'_> {
-    /// Walks a part of the vectors; how many answers are not as told. Where streams are given whole
-    /// alone, the first with such an answer is the last one.
+    /// Walks a part of the vectors. Returns how many results are not as expected. If streams are
+    /// only delivered whole, the first vector with such a result is the last one walked.
     fn each<R: AllocGlobal + Print>(&self, rt: &R, part: Part) -> io::Result<u64> {
         let mut wrong = 0u64;
         for vector in self.vectors {
@@ -126,7 +126,7 @@ impl Walk<'_> {
         Ok(wrong)
     }
 
-    /// Walks one vector, and prints it; how many answers are not as told.
+    /// Walks one vector, and prints it. Returns how many results are not as expected.
     fn one<R: AllocGlobal + Print>(
         &self,
         rt: &R,
@@ -141,16 +141,16 @@ impl Walk<'_> {
                 print_line(rt, vector, changes::count(vector.text), &found)?;
             }
             Part::Whole if !is_of_changes => {
-                let told = Told::of(alloc, vector.lines())?;
-                self.whole(alloc, &mut found, vector, &told)?;
+                let reported = Reported::of(alloc, vector.lines())?;
+                self.whole(alloc, &mut found, vector, &reported)?;
                 if found.wrong() > 0 {
-                    print_line(rt, vector, told.messages.len(), &found)?;
+                    print_line(rt, vector, reported.messages.len(), &found)?;
                 }
             }
             Part::Pieces if !is_of_changes => {
-                let told = Told::of(alloc, vector.lines())?;
-                self.pieces(alloc, &mut found, vector, &told)?;
-                print_line(rt, vector, told.messages.len(), &found)?;
+                let reported = Reported::of(alloc, vector.lines())?;
+                self.pieces(alloc, &mut found, vector, &reported)?;
+                print_line(rt, vector, reported.messages.len(), &found)?;
             }
             _ => {}
         }
@@ -173,16 +173,16 @@ impl Walk<'_> {
         alloc: Global,
         found: &mut Findings,
         vector: &Vector<'_>,
-        told: &Told<'_>,
+        reported: &Reported<'_>,
     ) -> Result<(), AllocError> {
         let (given, other) = (vector.given(), Given::whole(self.other, vector.types()));
         reading::walk_whole(alloc, found, vector)?;
-        receiving::walk_whole(alloc, found, given, told)?;
-        reports::walk(alloc, found, given, told)?;
-        copying::walk(alloc, found, self.vectors, vector, told)?;
-        drilling::walk_several(alloc, found, given, other, told)?;
+        receiving::walk_whole(alloc, found, given, reported)?;
+        reports::walk(alloc, found, given, reported)?;
+        copying::walk(alloc, found, self.vectors, vector, reported)?;
+        drilling::walk_several(alloc, found, given, other, reported)?;
         if self.are_whole {
-            breaking::walk(alloc, found, vector, told, true)?;
+            breaking::walk(alloc, found, vector, reported, true)?;
         }
         Ok(())
     }
@@ -192,7 +192,7 @@ impl Walk<'_> {
         alloc: Global,
         found: &mut Findings,
         vector: &Vector<'_>,
-        told: &Told<'_>,
+        reported: &Reported<'_>,
     ) -> Result<(), AllocError> {
         let given = Given {
             stream: vector.stream,
@@ -200,15 +200,15 @@ impl Walk<'_> {
             at_once: 1,
             fails: None,
         };
-        reading::walk_in_pieces(alloc, found, vector, told)?;
-        receiving::walk_in_pieces(alloc, found, vector, told)?;
-        reports::walk(alloc, found, given, told)?;
-        drilling::walk(alloc, found, vector.given(), told)?;
-        breaking::walk(alloc, found, vector, told, false)
+        reading::walk_in_pieces(alloc, found, vector, reported)?;
+        receiving::walk_in_pieces(alloc, found, vector, reported)?;
+        reports::walk(alloc, found, given, reported)?;
+        drilling::walk(alloc, found, vector.given(), reported)?;
+        breaking::walk(alloc, found, vector, reported, false)
     }
 }
 
-/// Prints what was found of a vector of so many messages, or of so many changes.
+/// Prints the findings for a vector with this number of messages, or of changes.
 fn print_line<R: AllocGlobal + Print>(
     rt: &R,
     vector: &Vector<'_>,

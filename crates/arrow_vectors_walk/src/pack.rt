@@ -1,16 +1,16 @@
-//! The file of vectors: a stream of three columns, `name`, `text` and `stream`, with a row for each. A
-//! file of changes stands there like a vector without a stream, and what is written of a vector in
-//! one of the ways like one without a text, by the name `NAME.copyWAY`. A vector whose name begins
-//! with `all/` is read with all types, any other one with the core.
+//! The file of vectors: a stream of three columns, `name`, `text` and `stream`, with a row for
+//! each. A file of changes is stored like a vector without a stream. What is written of a vector in
+//! one of the ways is stored like one without a text, with the name `NAME.copyWAY`. A vector whose
+//! name begins with `all/` is read with all types, any other one with the core.
 
 use crate::given::{Given, limits_of};
 use arrow_data::Batch;
 use arrow_stream_reader::StreamReader;
 use arrow_types::{Limits, TypeSet};
-use arrowflow_report::session::{Received, receive};
+use arrowflow_input::session::{Received, receive};
 use std::alloc::{AllocError, Global};
 
-/// What the name of a vector begins with that is read with all types.
+/// The prefix of the name of a vector that is read with all types.
 const OF_ALL: &str = "all/";
 
 /// A vector.
@@ -18,14 +18,14 @@ const OF_ALL: &str = "all/";
 pub(crate) struct Vector<'a> {
     /// Its name.
     pub(crate) name: &'a str,
-    /// What it is about, whom it binds, and the lines.
+    /// Its subject, what it binds, and the lines.
     pub(crate) text: &'a str,
     /// The bytes.
     pub(crate) stream: &'a [u8],
 }
 
 impl<'a> Vector<'a> {
-    /// Whether it is what is written of a vector.
+    /// Whether it is the copy that is written of a vector.
     pub(crate) fn is_a_copy(&self) -> bool {
         self.text.is_empty()
     }
@@ -40,7 +40,7 @@ impl<'a> Vector<'a> {
         limits_of(self.types())
     }
 
-    /// The types of these.
+    /// The types of these limits.
     pub(crate) fn types(&self) -> TypeSet {
         if self.name.starts_with(OF_ALL) {
             TypeSet::All
@@ -49,12 +49,12 @@ impl<'a> Vector<'a> {
         }
     }
 
-    /// Its bytes as an input that gives all that it can at once.
+    /// Its bytes as an input that delivers as much as possible at once.
     pub(crate) fn given(&self) -> Given<'a> {
         Given::whole(self.stream, self.types())
     }
 
-    /// The lines that tell what a reader answers: those behind the first two.
+    /// The lines with the results of a reader: those after the first two.
     pub(crate) fn lines(&self) -> &'a str {
         match self.text.split_once('\n') {
             Some((_, rest)) => rest.split_once('\n').map_or("", |parts| parts.1),
@@ -91,7 +91,7 @@ pub(crate) fn vectors_in(alloc: Global, batches: &[Batch]) -> Result<Vec<Vector<
     Ok(vectors)
 }
 
-/// The vector in a row, where there is one.
+/// The vector in a row, if there is one.
 fn vector_at(batch: &Batch, row: usize) -> Option<Vector<'_>> {
     let [name, text, stream] = batch.columns() else {
         return None;

@@ -1,20 +1,20 @@
-//! What a reader answers, call by call.
+//! The results of a reader, call by call.
 
 use crate::columns::push_schema;
 use crate::findings::Findings;
 use crate::given::limits_of;
 use crate::pack::Vector;
-use crate::told::Told;
+use crate::reported::Reported;
 use crate::values::{push_batch, push_dictionary};
 use arrow_data::Batch;
 use arrow_stream_reader::{Fault, Item, StreamReader};
 use arrow_types::TypeSet;
 use std::alloc::{AllocError, Global};
 
-/// A stream of up to so many bytes is cut at each place.
+/// A stream of up to this many bytes is cut at each offset.
 const SMALL: u64 = 200;
 
-/// Compares what a reader answers to the stream in one piece.
+/// Compares the results of a reader for the stream in one piece.
 pub(crate) fn walk_whole(
     alloc: Global,
     found: &mut Findings,
@@ -24,13 +24,13 @@ pub(crate) fn walk_whole(
     found.compare(("read in pieces:", 1), &answers, vector.lines())
 }
 
-/// Compares what a reader answers to the stream byte by byte, and cut in two at each place that is
-/// chosen.
+/// Compares the results of a reader for the stream byte by byte, and cut in two at each offset that
+/// is chosen.
 pub(crate) fn walk_in_pieces(
     alloc: Global,
     found: &mut Findings,
     vector: &Vector<'_>,
-    told: &Told<'_>,
+    reported: &Reported<'_>,
 ) -> Result<(), AllocError> {
     let (wanted, stream) = (vector.lines(), vector.stream);
     let mut reader = StreamReader::new(alloc, vector.limits());
@@ -41,7 +41,7 @@ pub(crate) fn walk_in_pieces(
     answers.finish(&reader)?;
     found.compare(("read in pieces:", stream.len()), &answers.text, wanted)?;
     for cut in 0..stream.len().saturating_add(1) {
-        if stream.len() as u64 <= SMALL || told.is_chosen(cut as u64, stream.len() as u64) {
+        if stream.len() as u64 <= SMALL || reported.is_chosen(cut as u64, stream.len() as u64) {
             let answers = answers_when_cut(alloc, &mut reader, stream, cut)?;
             found.compare(("read, cut at", cut), &answers, wanted)?;
         }
@@ -49,7 +49,8 @@ pub(crate) fn walk_in_pieces(
     Ok(())
 }
 
-/// What a reader of these types answers to a stream in one piece, as a text tells it.
+/// The results of a reader of these types for a stream in one piece, in the form of a vector's
+/// text.
 pub(crate) fn answers_to(
     alloc: Global,
     stream: &[u8],
@@ -62,7 +63,7 @@ pub(crate) fn answers_to(
     Ok(answers.text)
 }
 
-/// What a reader that begins anew answers to a stream in two pieces.
+/// The results of a reader, which is restarted, for a stream in two pieces.
 fn answers_when_cut(
     alloc: Global,
     reader: &mut StreamReader,
@@ -78,12 +79,12 @@ fn answers_when_cut(
     Ok(answers.text)
 }
 
-/// What a reader has answered so far.
+/// The results of a reader so far.
 #[derive(Drop)]
 struct Answers {
     alloc: Global,
     text: String,
-    /// The batches, and their rows when they were handed out.
+    /// The batches, and their rows when they were returned.
     batches: Vec<Batch>,
     rows: String,
     /// How many bytes were taken since the last item, and before it.
@@ -107,7 +108,7 @@ impl Answers {
         }
     }
 
-    /// Gives a reader a piece, and what it leaves of it again.
+    /// Gives a reader a piece, and then again the bytes of it that the reader left.
     fn give(&mut self, reader: &mut StreamReader, piece: &[u8]) -> Result<(), AllocError> {
         let mut rest = piece;
         for _ in 0..piece.len().saturating_add(1) {
@@ -131,7 +132,7 @@ impl Answers {
         self.taken = self.taken.saturating_add(count as u64);
     }
 
-    /// Where no item comes the whole rest is taken, and nothing of it behind an end marker.
+    /// If no item comes, all remaining bytes are taken, and after an end marker none of them.
     fn check_rest(&mut self, len: usize, count: usize) -> Result<(), AllocError> {
         if self.is_done && count > 0 || !self.is_done && count != len {
             return write!(self.text, "{count} of {len} bytes taken\n");
@@ -169,7 +170,7 @@ impl Answers {
         }
     }
 
-    /// Behind an item the reader stands behind the bytes that it took, and holds none.
+    /// After an item the reader is at the end of the bytes that it took, and holds none.
     fn check_place(&mut self, reader: &StreamReader) -> Result<(), AllocError> {
         let (place, held) = (reader.place(), reader.held());
         if place != self.before || held != 0 {
@@ -178,7 +179,7 @@ impl Answers {
         Ok(())
     }
 
-    /// A refusal is the same each time.
+    /// An error is the same each time.
     fn push_fault(&mut self, fault: Fault) -> Result<(), AllocError> {
         if self.refused == Some(fault) {
             return Ok(());
@@ -187,7 +188,7 @@ impl Answers {
         write!(self.text, "refuse {} at {}\n", fault.kind, fault.place)
     }
 
-    /// Looks at the reader where nothing more comes, and at the batches again.
+    /// Checks the reader when nothing more comes, and the batches again.
     fn finish(&mut self, reader: &StreamReader) -> Result<(), AllocError> {
         if self.refused.is_none() {
             write!(self.text, "take {} nothing\n", self.taken)?;
@@ -204,7 +205,7 @@ impl Answers {
         self.look_again()
     }
 
-    /// The batches have the rows that they had when they were handed out.
+    /// The batches have the rows that they had when they were returned.
     fn look_again(&mut self) -> Result<(), AllocError> {
         let mut rows = String::new(self.alloc);
         for batch in &self.batches {

@@ -3,10 +3,10 @@
 use crate::findings::Findings;
 use crate::given::{Given, limits_of};
 use crate::pack::Vector;
-use crate::told::{Form, Told};
+use crate::reported::{Form, Reported};
 use crate::values::{push_batch, push_dictionary};
 use arrow_stream_reader::StreamReader;
-use arrowflow_report::session::{Ending, Received, receive};
+use arrowflow_input::session::{Ending, Received, receive};
 use std::alloc::{AllocError, Global};
 
 /// Compares what is received of the stream in one piece.
@@ -14,28 +14,32 @@ pub(crate) fn walk_whole(
     alloc: Global,
     found: &mut Findings,
     given: Given<'_>,
-    told: &Told<'_>,
+    reported: &Reported<'_>,
 ) -> Result<(), AllocError> {
     let mut reader = StreamReader::new(alloc, limits_of(given.types));
     let whole = received(alloc, &mut reader, given.stream, &[])?;
-    found.compare(("received in pieces:", 1), &whole, &wanted_of(alloc, told)?)
+    found.compare(
+        ("received in pieces:", 1),
+        &whole,
+        &wanted_of(alloc, reported)?,
+    )
 }
 
-/// Compares what is received of the stream byte by byte, and cut in two at each place that is
+/// Compares what is received of the stream byte by byte, and cut in two at each offset that is
 /// chosen.
 pub(crate) fn walk_in_pieces(
     alloc: Global,
     found: &mut Findings,
     vector: &Vector<'_>,
-    told: &Told<'_>,
+    reported: &Reported<'_>,
 ) -> Result<(), AllocError> {
-    let (wanted, stream) = (wanted_of(alloc, told)?, vector.stream);
+    let (wanted, stream) = (wanted_of(alloc, reported)?, vector.stream);
     let mut reader = StreamReader::new(alloc, vector.limits());
     let ones = vec![in alloc; 1; stream.len()]?;
     let each = received(alloc, &mut reader, stream, &ones)?;
     found.compare(("received in pieces:", stream.len()), &each, &wanted)?;
     for cut in 0..stream.len().saturating_add(1) {
-        if told.is_chosen(cut as u64, stream.len() as u64) {
+        if reported.is_chosen(cut as u64, stream.len() as u64) {
             let two = received(alloc, &mut reader, stream, &[cut])?;
             found.compare(("received, cut at", cut), &two, &wanted)?;
         }
@@ -43,18 +47,18 @@ pub(crate) fn walk_in_pieces(
     Ok(())
 }
 
-/// The batches, the dictionaries as they are at last, and the ending.
-fn wanted_of(alloc: Global, told: &Told<'_>) -> Result<String, AllocError> {
+/// The batches, the dictionaries in their last state, and the ending.
+fn wanted_of(alloc: Global, reported: &Reported<'_>) -> Result<String, AllocError> {
     let mut text = String::new(alloc);
-    for message in &told.messages {
+    for message in &reported.messages {
         if message.form == Form::Batch {
             message.push_to(&mut text)?;
         }
     }
-    for message in told.dictionaries_at(alloc, u64::MAX)?.values() {
+    for message in reported.dictionaries_at(alloc, u64::MAX)?.values() {
         message.push_to(&mut text)?;
     }
-    write!(text, "end {}\n", told.end)?;
+    write!(text, "end {}\n", reported.end)?;
     Ok(text)
 }
 

@@ -1,6 +1,6 @@
 //! Rows of a text as records of comma-separated values.
 
-use crate::told::column_in;
+use crate::reported::column_in;
 use std::alloc::{AllocError, Global};
 
 /// Appends the record of the columns' names.
@@ -19,7 +19,7 @@ pub(crate) fn push_header(
     text.push('\n')
 }
 
-/// A name, in which a line has some characters by number: `\x` and two digits.
+/// The name that a line gives with some characters as numbers: `\x` and two digits.
 fn shown(alloc: Global, name: &str) -> Result<String, AllocError> {
     let mut text = String::new(alloc);
     for (number, part) in name.split("\\x").enumerate() {
@@ -35,7 +35,7 @@ fn shown(alloc: Global, name: &str) -> Result<String, AllocError> {
     Ok(text)
 }
 
-/// Appends the record of a row, behind the number of its batch.
+/// Appends the record of a row, after the number of its batch.
 pub(crate) fn push_record(
     alloc: Global,
     text: &mut String,
@@ -53,7 +53,7 @@ pub(crate) fn push_record(
     text.push('\n')
 }
 
-/// Appends a comma and a field, in quotes where it needs them.
+/// Appends a comma and a field, in quotes if it needs them.
 fn push_field(text: &mut String, field: &str) -> Result<(), AllocError> {
     text.push(',')?;
     if !field.contains(|ch| matches!(ch, ',' | '"' | '\n' | '\r')) {
@@ -69,16 +69,16 @@ fn push_field(text: &mut String, field: &str) -> Result<(), AllocError> {
     text.push('"')
 }
 
-/// Where the reading of a row stands.
+/// The state of reading a row.
 #[derive(Clone, Copy, PartialEq, Eq)]
 enum Mode {
     /// Between texts.
     Plain,
-    /// Inside of a text's quotes.
+    /// Inside a text's quotes.
     Text,
-    /// Behind a backslash there.
+    /// After a backslash there.
     Escape,
-    /// Behind `\u`, with so many digits to come of the number.
+    /// After `\u`: how many digits of the number are still to come, and the number so far.
     Number(u32, u32),
 }
 
@@ -88,7 +88,7 @@ struct Values {
     mode: Mode,
     /// How many lists and structs are open.
     depth: u32,
-    /// What is read of the field, up to the value in work.
+    /// What was read of the field, up to the current value.
     field: String,
     value: String,
     is_quoted: bool,
@@ -133,7 +133,7 @@ impl Values {
             ',' if self.depth == 0 => self.push_to(text),
             ',' => self.close_value(Some(';')),
             ':' => self.close_value(Some('=')),
-            // what was read is an index, whose value follows, or are bits, whose text does
+            // what was read is an index, and its value follows, or bits, and their text follows
             '>' | '=' => {
                 self.value.clear();
                 Ok(())
@@ -178,7 +178,7 @@ impl Values {
         self.value.push(char::from_u32(number).unwrap_or('?'))
     }
 
-    /// Puts the value to the field, and behind it a mark.
+    /// Appends the value to the field, and after it a mark.
     fn close_value(&mut self, mark: Option<char>) -> Result<(), AllocError> {
         self.field.push_str(&self.value)?;
         self.value.clear();

@@ -1,13 +1,13 @@
-//! What the calls behind `schema`, `check` and `show` write.
+//! What the library calls of `schema`, `check` and `show` write.
 
 use crate::findings::Findings;
 use crate::given::{Given, limits_of};
 use crate::records::{push_header, push_record};
-use crate::told::{Form, Message, Told, column_in};
+use crate::reported::{Form, Message, Reported, column_in};
 use arrow_sink::Counted;
-use arrowflow_report::{
-    ColumnsFault, Layout, Selection, ToolFault, check, check_quietly, schema_text, show,
-    show_selection,
+use arrowflow_input::ToolFault;
+use arrowflow_text::{
+    ColumnsFault, Layout, Selection, check, check_quietly, schema_text, show, show_selection,
 };
 use std::alloc::{AllocError, Global};
 
@@ -18,12 +18,12 @@ pub(crate) enum Call {
     Check,
     Quiet,
     Show,
-    /// The first rows, so many.
+    /// The first rows, this many.
     First(u64),
 }
 
 impl Call {
-    /// It in words.
+    /// The call in words.
     fn words(self) -> &'static str {
         match self {
             Call::Schema => "schema by reads of",
@@ -40,9 +40,9 @@ pub(crate) fn walk(
     alloc: Global,
     found: &mut Findings,
     given: Given<'_>,
-    told: &Told<'_>,
+    reported: &Reported<'_>,
 ) -> Result<(), AllocError> {
-    let rows = told.rows_before(u64::MAX);
+    let rows = reported.rows_before(u64::MAX);
     let calls = [
         Call::Schema,
         Call::Check,
@@ -56,13 +56,13 @@ pub(crate) fn walk(
     ];
     for call in &calls {
         let answer = answer_of(alloc, *call, given)?;
-        let wanted = wanted_of(alloc, *call, told)?;
+        let wanted = wanted_of(alloc, *call, reported)?;
         found.compare((call.words(), given.number()), &answer, &wanted)?;
     }
     Ok(())
 }
 
-/// What a call writes of an input, and behind it the status and the line of its fault.
+/// What a call writes of an input, and after it the status and the line of its fault.
 fn answer_of(alloc: Global, call: Call, given: Given<'_>) -> Result<String, AllocError> {
     let (limits, mut input) = (limits_of(given.types), given.input());
     let output = Counted::new(Vec::new(alloc));
@@ -76,7 +76,7 @@ fn answer_of(alloc: Global, call: Call, given: Given<'_>) -> Result<String, Allo
     written(alloc, &output.into_inner(), &answer)
 }
 
-/// What is written of the first rows of an input, so many.
+/// What is written of the first `rows` rows of an input.
 fn first_answer(alloc: Global, given: Given<'_>, rows: u64) -> Result<String, AllocError> {
     let selection = Selection {
         layout: Layout::usual(),
@@ -100,18 +100,22 @@ fn schema_answer(alloc: Global, given: Given<'_>) -> Result<String, AllocError> 
     }
 }
 
-/// What a call is to write of a stream, with the line of the fault.
-pub(crate) fn wanted_of(alloc: Global, call: Call, told: &Told<'_>) -> Result<String, AllocError> {
+/// The expected output of a call for a stream, with the line of the fault.
+pub(crate) fn wanted_of(
+    alloc: Global,
+    call: Call,
+    reported: &Reported<'_>,
+) -> Result<String, AllocError> {
     match call {
-        Call::Schema => schema_of(alloc, told),
-        Call::Check => messages_of(alloc, told),
-        Call::Quiet => fault_of(alloc, told),
-        Call::Show => rows_of(alloc, told, None),
-        Call::First(rows) => rows_of(alloc, told, Some(rows)),
+        Call::Schema => schema_of(alloc, reported),
+        Call::Check => messages_of(alloc, reported),
+        Call::Quiet => fault_of(alloc, reported),
+        Call::Show => rows_of(alloc, reported, None),
+        Call::First(rows) => rows_of(alloc, reported, Some(rows)),
     }
 }
 
-/// What was written, and behind it the status and the line of the fault.
+/// What was written, and after it the status and the line of the fault.
 pub(crate) fn written(
     alloc: Global,
     bytes: &[u8],
@@ -127,10 +131,10 @@ pub(crate) fn written(
 }
 
 /// The text of the schema.
-fn schema_of(alloc: Global, told: &Told<'_>) -> Result<String, AllocError> {
+fn schema_of(alloc: Global, reported: &Reported<'_>) -> Result<String, AllocError> {
     let mut text = String::new(alloc);
-    let Some(schema) = told.schema() else {
-        told.push_fault(&mut text)?;
+    let Some(schema) = reported.schema() else {
+        reported.push_fault(&mut text)?;
         return Ok(text);
     };
     for line in &schema.below {
@@ -145,24 +149,24 @@ fn schema_of(alloc: Global, told: &Told<'_>) -> Result<String, AllocError> {
 }
 
 /// A line for each message, and how the stream ends.
-fn messages_of(alloc: Global, told: &Told<'_>) -> Result<String, AllocError> {
+fn messages_of(alloc: Global, reported: &Reported<'_>) -> Result<String, AllocError> {
     let mut text = String::new(alloc);
     let mut batches = 0u64;
-    for message in &told.messages {
+    for message in &reported.messages {
         write!(text, "at {}: ", message.place)?;
         push_message(&mut text, message, batches)?;
         if message.form == Form::Batch {
             batches = batches.saturating_add(1);
         }
     }
-    if told.is_clean() && !told.is_ended() {
-        write!(text, "at {}: end of input\n", told.place())?;
+    if reported.is_clean() && !reported.is_ended() {
+        write!(text, "at {}: end of input\n", reported.place())?;
     }
-    told.push_fault(&mut text)?;
+    reported.push_fault(&mut text)?;
     Ok(text)
 }
 
-/// What is told of a message, of a batch with its number.
+/// The line of a message, for a batch with its number.
 fn push_message(text: &mut String, message: &Message<'_>, number: u64) -> Result<(), AllocError> {
     let count = message.count();
     match message.form {
@@ -177,22 +181,26 @@ fn push_message(text: &mut String, message: &Message<'_>, number: u64) -> Result
     }
 }
 
-/// The line of the fault alone.
-pub(crate) fn fault_of(alloc: Global, told: &Told<'_>) -> Result<String, AllocError> {
+/// Only the line of the fault.
+pub(crate) fn fault_of(alloc: Global, reported: &Reported<'_>) -> Result<String, AllocError> {
     let mut text = String::new(alloc);
-    told.push_fault(&mut text)?;
+    reported.push_fault(&mut text)?;
     Ok(text)
 }
 
-/// The names of the columns, then the rows of each batch behind its number, or the first of them:
-/// nothing is told of what stands behind these.
-fn rows_of(alloc: Global, told: &Told<'_>, first: Option<u64>) -> Result<String, AllocError> {
+/// The names of the columns, then the rows of each batch, each after the batch's number, or only
+/// the first `first` of them: then nothing is reported of what follows these.
+fn rows_of(
+    alloc: Global,
+    reported: &Reported<'_>,
+    first: Option<u64>,
+) -> Result<String, AllocError> {
     let (mut text, mut left) = (String::new(alloc), first.unwrap_or(u64::MAX));
-    let Some(schema) = told.schema() else {
-        return fault_of(alloc, told);
+    let Some(schema) = reported.schema() else {
+        return fault_of(alloc, reported);
     };
     push_header(alloc, &mut text, &schema.below)?;
-    let batches = told.messages.iter().filter(|it| it.form == Form::Batch);
+    let batches = reported.messages.iter().filter(|it| it.form == Form::Batch);
     for (number, batch) in batches.enumerate() {
         for row in &batch.below {
             if left > 0 {
@@ -202,7 +210,7 @@ fn rows_of(alloc: Global, told: &Told<'_>, first: Option<u64>) -> Result<String,
         }
     }
     if first.is_none() || left > 0 {
-        told.push_fault(&mut text)?;
+        reported.push_fault(&mut text)?;
     }
     Ok(text)
 }

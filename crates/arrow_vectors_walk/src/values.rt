@@ -1,4 +1,4 @@
-//! Values as a text tells them.
+//! Values in the text of a vector.
 
 use arrow_data::{Array, Batch, Decimal, Dictionary, Interval, SlotValue, floats, half};
 use arrow_types::{DataType, Field, Precision};
@@ -9,10 +9,10 @@ use std::num::{f32_from_bits_with_nan, f64_from_bits_with_nan};
 /// More levels than a type has.
 const LEVELS: u32 = 40;
 
-/// How many bytes 256 bits are.
+/// The number of bytes in 256 bits.
 const BYTES: usize = 32;
 
-/// As many decimal digits as 256 bits have.
+/// The number of decimal digits of 256 bits.
 const DIGITS: usize = 78;
 
 /// Appends `batch of K`, and a line for each row.
@@ -50,7 +50,7 @@ pub(crate) fn push_dictionary(
     Ok(())
 }
 
-/// Appends the value of a slot: of an encoded column the index, and the value to which it refers.
+/// Appends the value of a slot: for an encoded column the index, and the value to which it refers.
 #[cycle(value)]
 fn push_value(text: &mut String, column: &Array, at: usize, levels: u32) -> Result<(), AllocError> {
     if levels == 0 || at >= column.len() {
@@ -102,7 +102,7 @@ fn push_number(text: &mut String, data_type: &DataType, number: i128) -> Result<
     }
 }
 
-/// Appends the text of an interval after the number or the bytes that it is.
+/// Appends the text of an interval after the number or the bytes that encode it.
 fn push_interval(text: &mut String, interval: Option<Interval>) -> Result<(), AllocError> {
     match interval {
         None => Ok(()),
@@ -120,7 +120,7 @@ fn push_interval(text: &mut String, interval: Option<Interval>) -> Result<(), Al
     }
 }
 
-/// Appends the text of a decimal after the number or the bytes that it is.
+/// Appends the text of a decimal after the number or the bytes that encode it.
 fn push_decimal(text: &mut String, decimal: Option<Decimal>) -> Result<(), AllocError> {
     let Some(decimal) = decimal else {
         return Ok(());
@@ -170,7 +170,7 @@ fn magnitude(decimal: Decimal) -> [u8; BYTES] {
     number
 }
 
-/// Divides a number by ten, and gives what is left.
+/// Divides a number by ten, and returns the remainder.
 fn divide_by_ten(number: &mut [u8; BYTES]) -> u8 {
     let mut rest = 0;
     for at in 0..BYTES {
@@ -181,8 +181,8 @@ fn divide_by_ten(number: &mut [u8; BYTES]) -> u8 {
     rest
 }
 
-/// The next byte of a long division by ten: it and what is left of the bytes above it, divided, and
-/// what is left of it.
+/// The next byte of a long division by ten: the quotient of the byte and the remainder of the bytes
+/// above it, and the new remainder.
 fn tenth_of(rest: u8, byte: u8) -> (u8, u8) {
     let part = u16::from(rest) * 256 + u16::from(byte);
     ((part / 10 % 256) as u8, (part % 10) as u8)

@@ -8,7 +8,8 @@ pub use Rattle.arrow_body.specs as Body
 pub use Rattle.arrow_stream.specs as Stream
 pub use Rattle.arrow_csv.specs as Csv
 pub use Rattle.arrow_json.specs as Json
-pub use Rattle.arrowflow_report.specs as Report
+pub use Rattle.arrowflow_input.specs as Input
+pub use Rattle.arrowflow_text.specs as Text
 pub use Rattle.arrowflow_json.specs as ShowJson
 pub use Rattle.arrowflow_explain.specs as Explain
 pub use Rattle.arrowflow_session.specs as Session

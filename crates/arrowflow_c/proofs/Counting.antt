@@ -1,4 +1,4 @@
--- Fields of the program that stand side by side.
+-- Sibling fields of the program.
 use Rattle.std.proofs.Common.{◌≡◌, ℕ, zero, suc, List, [], ◌∷◌, slice_get, option_map, refl}
 use Rattle.arrow_types.specs.View.{fields_view, notes_view}
 use Rattle.arrow_types.specs.declared.field.Field.{Field}

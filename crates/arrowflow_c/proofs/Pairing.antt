@@ -11,7 +11,7 @@ use Rattle.arrowflow_c.specs.Fields.{counted, metadata_bytes, pair_bytes}
 abbrev pub Pair : Type 0
 Pair = Vec ℕ Global × Vec ℕ Global
 
--- one more pair comes after those before
+-- one more pair comes after those before it
 pub pairs_next : (ps : List Pair) (k : ℕ) (p : Pair) (key value : List ℕ) → take (k + 1) ps ≡ take k ps ++ p ∷ [] → key ≡ p.0.items → value ≡ p.1.items
     → (flat_map pair_bytes (pairs_view (take k ps)) ++ counted key) ++ counted value ≡ flat_map pair_bytes (pairs_view (take (k + 1) ps))
 pairs_next ps k p key value next is_key is_value =
@@ -22,7 +22,7 @@ pairs_next ps k p key value next is_key is_value =
     ∙ ap (flat_map pair_bytes) (sym (map-append pair_view (take k ps) (p ∷ [])))
     ∙ ap (λ l. flat_map pair_bytes (map pair_view l)) (sym next)
 
--- the number of some pairs stands before them
+-- the number of some pairs precedes them
 pub metadata_some : (ps : List Pair) → 0 < length ps → number_bytes 4 (length ps) ++ flat_map pair_bytes (pairs_view ps) ≡ metadata_bytes (pairs_view ps)
 metadata_some [] some = absurd (omega (arith, some))
 metadata_some (p ∷ ps) some = ap (λ n. number_bytes 4 (suc n) ++ flat_map pair_bytes (pairs_view (p ∷ ps))) (sym (length-map ps pair_view))

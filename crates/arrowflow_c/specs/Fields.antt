@@ -1,8 +1,8 @@
 -- A schema and its fields as a caller gets them (Arrow C data interface, "The ArrowSchema structure").
 use Rattle.std.specs.Prelude.{◌≡◌, ℕ, zero, suc, pos, ◌+◌, Bool, true, false, if◌then◌else◌, List, [], ◌∷◌, ◌++◌, length, flat_map, Option, Some, None, MatchOption}
 use Rattle.arrow_bits.specs.Numbers.{number_bytes}
-use Rattle.arrow_types.specs.DataType.{Tag, int, map, struct}
-use Rattle.arrow_types.specs.Field.{Head, Fields, none, more, FieldShape, width}
+use Rattle.arrow_types.specs.DataType.{TypeId, int, map, struct}
+use Rattle.arrow_types.specs.Field.{FieldHeader, FieldTree, none, more, FieldShape, width}
 use Rattle.arrow_types.specs.Notes.{KeyValue, Notes, unnoted, noted, FieldNotes, SchemaShape}
 use Rattle.arrow_types.specs.View.{field_notes, field_view}
 use Rattle.arrow_types.specs.declared.field.Encoding.{Encoding}
@@ -13,14 +13,14 @@ use Rattle.arrowflow_c.specs.declared.places.Place.TheVariants as places
 use Rattle.arrowflow_c.specs.declared.reading.Reading.{Reading}
 use Rattle.arrowflow_c.specs.Survey.{reported}
 use Rattle.arrowflow_c.specs.Texts.{filled}
-use Rattle.arrowflow_report.specs.TypeWords.{format_of}
+use Rattle.arrowflow_text.specs.TypeWords.{format_of}
 
--- a field with its metadata and those below it
+-- a field with its metadata and the fields below it
 pub record NotedField : Type 0 where
   pub shape : FieldShape
   pub notes : FieldNotes
 
--- The schema as the field that has its columns for children ("an ArrowSchema of struct type").
+-- The schema as a field whose children are its columns ("an ArrowSchema of struct type").
 abbrev pub schema_field : SchemaShape → NotedField
 schema_field s = record {
   shape = record { head = record { name = []; nullable = false; tag = struct; encoding = None }; children = s.fields };
@@ -34,15 +34,16 @@ values_field f = record {
   notes = record { pairs = []; below = f.notes.below };
 }
 
--- field n of those that stand side by side
-abbrev pub nth_field : Fields → Notes → ℕ → Option NotedField
+-- field n of some sibling fields
+abbrev pub nth_field : FieldTree → Notes → ℕ → Option NotedField
 nth_field none notes n = None
 nth_field (more head children rest) unnoted n = None
 nth_field (more head children rest) (noted pairs below notes) zero =
     Some (record { shape = record { head = head; children = children }; notes = record { pairs = pairs; below = below } })
 nth_field (more head children rest) (noted pairs below notes) (suc n) = nth_field rest notes n
 
--- The field below a field by its number: a child; below one that holds indices, under 0, that of the dictionary's values.
+-- The field below a field by its number: a child; below a field that holds indices, under 0, the field of the
+-- dictionary's values.
 abbrev pub below_by : Option Encoding → NotedField → ℕ → Option NotedField
 below_by None f n = nth_field f.shape.children f.notes.below n
 below_by (Some encoding) f zero = Some (values_field f)
@@ -57,40 +58,40 @@ field_below f (n ∷ path) = elim (below_by f.shape.head.encoding f n) [ None �
 abbrev pub noted_field : Field → NotedField
 noted_field f = record { shape = field_view f; notes = field_notes f }
 
--- what the program points at: the schema, a field, or the field of a field's dictionary
+-- the field that a `Place` of the program refers to: the schema, a field, or the field of a field's dictionary
 abbrev pub field_in : Place → NotedField
 field_in (places.Schema s) = schema_field s.now
 field_in (places.Field f) = noted_field f.now
 field_in (places.Values f) = values_field (noted_field f.now)
 
--- a flag's number, where it is set ("ArrowSchema.flags")
+-- a flag's number if the flag is set, else 0 ("ArrowSchema.flags")
 abbrev pub flag : Bool → ℕ → ℕ
 flag set n = if set then n else 0
 
--- whether the order of a dictionary's values means something
+-- whether the order of a dictionary's values is meaningful
 abbrev pub is_ordered : Option Encoding → Bool
 is_ordered None = false
 is_ordered (Some e) = e.ordered
 
 -- whether a type is that of maps with sorted keys
-abbrev pub is_sorted_map : Tag → Bool
+abbrev pub is_sorted_map : TypeId → Bool
 is_sorted_map (map sorted) = sorted
 is_sorted_map _ = false
 
--- whether slots are maps with sorted keys, and no indices
-abbrev pub has_sorted_keys : Option Encoding → Tag → Bool
+-- whether slots are maps with sorted keys, and not indices
+abbrev pub has_sorted_keys : Option Encoding → TypeId → Bool
 has_sorted_keys None tag = is_sorted_map tag
 has_sorted_keys (Some e) tag = false
 
 -- ARROW_FLAG_DICTIONARY_ORDERED 1, ARROW_FLAG_NULLABLE 2, ARROW_FLAG_MAP_KEYS_SORTED 4
-abbrev pub flags_of : Head → ℕ
+abbrev pub flags_of : FieldHeader → ℕ
 flags_of h = flag (is_ordered h.encoding) 1 + flag h.nullable 2 + flag (has_sorted_keys h.encoding h.tag) 4
 
--- the format string of a field: of one that holds indices that of their type
-abbrev pub field_format : Head → List ℕ
+-- the format string of a field; for a field that holds indices, that of the index type
+abbrev pub field_format : FieldHeader → List ℕ
 field_format h = elim (h.encoding) [ None ↦ format_of h.tag | Some e ↦ format_of (int e.index.bits e.index.signed) ]
 
--- bytes after their number ("ArrowSchema.metadata": 32-bit lengths; here of a greater number the lowest 32 bits)
+-- bytes after their count ("ArrowSchema.metadata": 32-bit lengths; here the lowest 32 bits of a larger number)
 abbrev pub counted : List ℕ → List ℕ
 counted bytes = number_bytes 4 (length bytes) ++ bytes
 
@@ -98,7 +99,7 @@ counted bytes = number_bytes 4 (length bytes) ++ bytes
 abbrev pub pair_bytes : KeyValue → List ℕ
 pair_bytes p = counted p.key ++ counted p.value
 
--- metadata: the number of the pairs, and each pair; of none no bytes ("ArrowSchema.metadata")
+-- metadata: the number of pairs, and each pair; no bytes if there are no pairs ("ArrowSchema.metadata")
 abbrev pub metadata_bytes : List KeyValue → List ℕ
 metadata_bytes [] = []
 metadata_bytes (p ∷ ps) = number_bytes 4 (length (p ∷ ps)) ++ flat_map pair_bytes (p ∷ ps)
@@ -116,9 +117,9 @@ abbrev pub with_encoding : Option Encoding → FieldC → FieldC
 with_encoding None c = c
 with_encoding (Some e) c = record c { is_encoded = true; id = e.id; children = 0 }
 
--- The struct of a field: one that holds indices has no children, which its dictionary's values have.
-abbrev pub field_told : ℕ → NotedField → FieldC
-field_told found f = with_encoding f.shape.head.encoding (record {
+-- The struct of a field: a field that holds indices has no children; those are below its dictionary's values.
+abbrev pub field_reported : ℕ → NotedField → FieldC
+field_reported found f = with_encoding f.shape.head.encoding (record {
   found = found;
   flags = flags_of f.shape.head;
   is_encoded = false;
@@ -134,21 +135,21 @@ abbrev pub found_by : List ℕ → ℕ
 found_by [] = 1
 found_by (n ∷ path) = 2
 
--- A field was told, and its texts put into the room, as much of their front as fits.
-pub record TellsField (found : ℕ) (f : NotedField) (old : List ℕ) (c : FieldC) (new : List ℕ) : Type 0 where
-  pub told : c ≡ field_told found f
+-- A field was returned, and its texts were put into the output buffer, as much of their beginning as fits.
+pub record ReportsField (found : ℕ) (f : NotedField) (old : List ℕ) (c : FieldC) (new : List ℕ) : Type 0 where
+  pub stated : c ≡ field_reported found f
   pub room : new ≡ filled old (texts_of f)
 
--- no field was told
-abbrev pub TellsNone : List ℕ → FieldC → List ℕ → Type 0
-TellsNone old c new = (c ≡ no_field) × (new ≡ old)
+-- no field was returned
+abbrev pub ReportsNone : List ℕ → FieldC → List ℕ → Type 0
+ReportsNone old c new = (c ≡ no_field) × (new ≡ old)
 
--- the field of a schema was told that a path leads to, if there are such a schema and field
+-- the field of a schema that a path leads to was returned, if there are such a schema and field
 abbrev pub FieldAt : Option SchemaShape → List ℕ → List ℕ → FieldC → List ℕ → Type 0
-FieldAt None path old c new = TellsNone old c new
-FieldAt (Some s) path old c new = MatchOption (field_below (schema_field s) path) (TellsNone old c new) (λ f. TellsField (found_by path) f old c new)
+FieldAt None path old c new = ReportsNone old c new
+FieldAt (Some s) path old c new = MatchOption (field_below (schema_field s) path) (ReportsNone old c new) (λ f. ReportsField (found_by path) f old c new)
 
--- the same of the schema of a reader, where there is one, which stays as it was
+-- the same for the schema of a reader, if there is a reader, which is unchanged
 abbrev pub FieldIf : Option Reading → List ℕ → List ℕ → FieldC → List ℕ → Option Reading → Type 0
-FieldIf None path old c new after = TellsNone old c new × (after ≡ None)
+FieldIf None path old c new after = ReportsNone old c new × (after ≡ None)
 FieldIf (Some r) path old c new after = FieldAt r.reader.at.state.schema path old c new × (after ≡ Some r)

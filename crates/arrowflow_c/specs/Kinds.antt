@@ -1,13 +1,13 @@
--- The numbers by which a caller is told how a call ended. (They are this project's own.)
+-- The numbers that report to a caller how a call ended. (They are this project's own.)
 use Rattle.std.specs.Prelude.{ℕ, ◌+◌, Result, Ok, Err}
 use Rattle.arrow_sink.specs.Refusals.{number_of as refusal_number}
 use Rattle.arrow_stream_reader.specs.declared.fault.Fault.{Fault}
 use Rattle.arrow_stream_reader.specs.Kind.{number_of}
-use Rattle.arrowflow_report.specs.declared.what.What.TheVariants.{Start, Batch, Finish}
-use Rattle.arrowflow_report.specs.declared.tool_fault.ToolFault.{ToolFault}
-use Rattle.arrowflow_report.specs.declared.tool_fault.ToolFault.TheVariants.{Input, Output, Stream, Refused, Memory}
+use Rattle.arrowflow_input.specs.declared.what.RefusedItem.TheVariants.{Start, Batch, Finish}
+use Rattle.arrowflow_input.specs.declared.tool_fault.ToolFault.{ToolFault}
+use Rattle.arrowflow_input.specs.declared.tool_fault.ToolFault.TheVariants.{Input, Output, Stream, Refused, Memory}
 
--- a growth was refused: nothing is said of the stream
+-- an allocation failed: nothing is said of the stream
 abbrev pub out_of_memory : ℕ
 out_of_memory = 19
 
@@ -19,7 +19,7 @@ bad_limits = 20
 abbrev pub no_handle : ℕ
 no_handle = 21
 
--- the number of a stream's ending: 0 without fault, else that of the fault's kind
+-- the number of how a stream ends: 0 without a fault, else that of the fault's kind
 abbrev pub kind_by : Result (Unit {0}) Fault → ℕ
 kind_by (Ok done) = 0
 kind_by (Err fault) = number_of fault.kind
@@ -34,7 +34,7 @@ kind_of (Refused (Batch number) kind) = 40 + refusal_number kind
 kind_of (Refused Finish kind) = 50 + refusal_number kind
 kind_of Memory = out_of_memory
 
--- the place of a stream's fault, or the number of the batch that was refused
+-- the place of a stream's fault, or the number of the rejected batch
 abbrev pub place_of : ToolFault → ℕ
 place_of (Input number) = 0
 place_of Output = 0

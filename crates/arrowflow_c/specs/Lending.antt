@@ -1,4 +1,4 @@
--- What a slot becomes that lends its reader, and a handle.
+-- What becomes of a slot that lends its reader, and of a handle.
 use base.Fml.{Fml}
 use Rattle.std.specs.Prelude.{◌≡◌, Some}
 use Rattle.std.specs.Borrow.{Lends, MutBor}

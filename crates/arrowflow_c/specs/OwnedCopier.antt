@@ -1,4 +1,4 @@
--- What the address of a copier owns, or of nothing.
+-- What the address of a copier, or of nothing, owns.
 use base.Fml.{Fml, ftrue}
 use denote.RawPtr.{Ptr}
 use Rattle.std.specs.Prelude.{Option, None, Some}

@@ -20,14 +20,16 @@ pub struct CellC {
     pub what: u32,
     /// The truth value.
     pub truth: bool,
-    /// The number; of a date, a time, a timestamp or a duration that of its units, of an interval in
-    /// months that of its months. (Any other interval is a byte string.)
+    /// The number; for a date, a time, a timestamp or a duration the number of its units, for an
+    /// interval in months the number of its months. (Any other interval is a byte string.)
     pub number: i64,
-    /// The number, where it is above 2^63 - 1.
+    /// The number, if it is above 2^63 - 1.
     pub large: u64,
-    /// The floating-point number: one of 16 or 32 bits widened, of what is no number some NaN.
+    /// The floating-point number: one of 16 or 32 bits is widened; if it is not a number, this is
+    /// some NaN.
     pub real: f64,
-    /// How many bytes the byte string or the text has, whether they fit into the room or not.
+    /// How many bytes the byte string or the text has, whether they fit into the output buffer or
+    /// not.
     pub size: u64,
 }
 
@@ -39,7 +41,7 @@ impl CellC {
         CellC::bare(8)
     }
 
-    /// A cell of this kind alone.
+    /// A cell with only this kind.
     fn bare(what: u32) -> CellC
         ensures { result ≡ bare_cell what }
     {
@@ -72,7 +74,8 @@ impl CellC {
         }
     }
 
-    /// The number that a value of this type is: of a floating-point one that of its bits.
+    /// The number that a value of this type is: for a floating-point type the one that its bits
+    /// encode.
     fn of_int(data_type: &DataType, number: i128) -> CellC
         ensures { result ≡ int_cell (type_view data_type.now).tag number }
     {
@@ -85,7 +88,8 @@ impl CellC {
         }
     }
 
-    /// A value of this type; as much of a byte string or a text as fits is put into the room.
+    /// A value of this type; as much of a byte string or a text as fits is put into the output
+    /// buffer.
     fn of(data_type: &DataType, value: SlotValue<'_>, room: &mut [u8]) -> CellC
         ensures { GivesShown (type_view data_type.now).tag value.entry room.old result room.new }
     {

@@ -1,10 +1,10 @@
-//! Columns of a batch, as the buffers that they lie in.
+//! Columns of a batch, as the buffers that hold them.
 
 ghost use Rattle.std.specs.Prelude.{◌≡◌, ◌≤◌, MatchOption, length};
 ghost use Rattle.arrow_data.specs.Column.{HasValue};
 ghost use Rattle.arrowflow_c.specs.Columns.{ColumnAt, HasNothing, IsBelow, IsColumnOf, ShowsBelow};
 ghost use Rattle.arrow_types.specs.View.{type_view};
-ghost use Rattle.arrowflow_c.specs.Columns.{bare_column, is_float, no_column, plain_of, told_of};
+ghost use Rattle.arrowflow_c.specs.Columns.{bare_column, is_float, no_column, plain_of, column_of};
 ghost use Rattle.arrowflow_c.specs.Columns.{with_lists, with_numbers, with_strings, with_values};
 
 use arrow_data::form::ListForm;
@@ -19,24 +19,24 @@ pub struct ColumnC<'a> {
     /// of one length, 7 lists, 8 structs, 9 indices, 10 floating-point numbers, 11 fixed-size lists.
     /// Intervals in months are numbers, all others byte strings of one length.
     pub layout: u32,
-    /// Whether the numbers or the indices have a sign.
+    /// Whether the numbers or the indices are signed.
     pub has_sign: bool,
-    /// How many bytes a number, an index, a byte string of one length or an offset takes; of fixed-size
-    /// lists how many items each has.
+    /// How many bytes a number, an index, a byte string of one length or an offset takes; for
+    /// fixed-size lists how many items each has.
     pub width: u64,
     /// How many slots there are.
     pub slots: u64,
-    /// How many children stand below the column: of lists one, of structs one for each field.
+    /// How many children the column has: one for lists, one for each field for structs.
     pub children: u64,
-    /// How many values the dictionary has, of indices.
+    /// For indices, how many values the dictionary has.
     pub entries: u64,
-    /// Where the path ends with a value of a dictionary, the slot that this value stands in.
+    /// If the path ends with a value of a dictionary, the slot that holds this value.
     pub slot: u64,
-    /// A bit for each slot, or nothing where each slot has a value.
+    /// A bit for each slot, or nothing if each slot has a value.
     pub validity: &'a [u8],
-    /// The offsets of lists, byte strings and texts; of no slots there may be none.
+    /// The offsets of lists, byte strings and texts; there may be none if there are no slots.
     pub offsets: &'a [u8],
-    /// The bits, numbers or indices; of byte strings and texts their bytes.
+    /// The bits, numbers or indices; for byte strings and texts their bytes.
     pub values: &'a [u8],
 }
 
@@ -48,7 +48,7 @@ impl<'a> ColumnC<'a> {
         ColumnC::bare(0, 0, 0)
     }
 
-    /// A column of this layout without a buffer.
+    /// A column of this layout, without buffers.
     fn bare(layout: u32, slots: usize, place: usize) -> ColumnC<'a>
         ensures { plain_of result ≡ bare_column layout slots place }
     {
@@ -66,7 +66,7 @@ impl<'a> ColumnC<'a> {
         }
     }
 
-    /// Values of so many bytes each, or of a bit.
+    /// Values of `width` bytes each, or of a bit.
     fn of_values(self, width: usize, validity: &'a [u8], values: &'a [u8]) -> ColumnC<'a>
         ensures { plain_of result ≡ with_values (plain_of self.entry) width validity.now values.now }
     {
@@ -120,10 +120,10 @@ impl<'a> ColumnC<'a> {
         }
     }
 
-    /// A column of this type and so many slots with these buffers.
-    fn told(data_type: &DataType, slots: usize, place: usize, buffers: Buffers<'a>) -> ColumnC<'a>
+    /// A column of this type with `slots` slots and these buffers.
+    fn stated(data_type: &DataType, slots: usize, place: usize, buffers: Buffers<'a>) -> ColumnC<'a>
         ensures { plain_of result
-            ≡ told_of (type_view data_type.now).tag slots place buffers.entry }
+            ≡ column_of (type_view data_type.now).tag slots place buffers.entry }
     {
         match buffers {
             Buffers::Nulls => ColumnC::bare(1, slots, place),
@@ -164,11 +164,11 @@ impl<'a> ColumnC<'a> {
         }
     }
 
-    /// A column, of which a place is meant.
+    /// A column, of which slot `place` is the one in question.
     fn of(column: &'a Array, place: usize) -> ColumnC<'a>
         ensures { IsColumnOf column.now place result }
     {
-        ColumnC::told(column.data_type(), column.len(), place, column.buffers())
+        ColumnC::stated(column.data_type(), column.len(), place, column.buffers())
     }
 }
 
@@ -179,7 +179,7 @@ fn is_float(data_type: &DataType) -> bool
     matches!(data_type, DataType::FloatingPoint(_))
 }
 
-/// Value `n` of a dictionary: the array that it stands in, and its place there.
+/// Value `n` of a dictionary: the array that holds it, and its index there.
 fn entry_of(dictionary: &Dictionary, n: usize) -> Option<(&Array, usize)>
     ensures { MatchOption result (length dictionary.now.values ≤ n)
         (λ r. HasValue dictionary.now n r.0.now r.1) }
@@ -191,8 +191,8 @@ fn entry_of(dictionary: &Dictionary, n: usize) -> Option<(&Array, usize)>
     }
 }
 
-/// What stands below a column under a number: the child of a list under 0, field `n` of a struct,
-/// and the array in which value `n` of a dictionary stands, with its place there.
+/// What a column has below it under a number: the child of a list under 0, field `n` of a struct,
+/// and the array that holds value `n` of a dictionary, with its index there.
 fn below(column: &Array, n: usize) -> Option<(&Array, usize)>
     ensures { MatchOption result (HasNothing column.now n)
         (λ r. IsBelow column.now n r.0.now r.1) }
@@ -211,7 +211,7 @@ fn below(column: &Array, n: usize) -> Option<(&Array, usize)>
     }
 }
 
-/// The column that a path leads to from this one, of which a place is meant.
+/// The column that a path leads to from this one, of which slot `place` is the one in question.
 fn column_below<'a>(column: &'a Array, place: usize, path: &[usize]) -> ColumnC<'a>
     ensures { ShowsBelow column.now place path.now result }
 {

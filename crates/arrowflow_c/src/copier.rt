@@ -10,9 +10,9 @@ use crate::terms::{LimitsC, OptionsC};
 use std::alloc::Global;
 use std::mem::replace;
 
-/// Makes a copier of a new stream, in place of the one that the handle has. It answers 0; or 19
-/// where an allocation failed and 20 where a limit is above its ceiling or the types are no set, and
-/// then there is none.
+/// Makes a copier of a new stream, in place of the one that the handle has. Returns 0; or 19 if an
+/// allocation failed and 20 if a limit is above its ceiling or there is no such set of types, and
+/// then the handle has none.
 #[unsafe(no_mangle)]
 pub extern "C" fn arrowflow_copier_open(
     alloc: Global,
@@ -35,39 +35,39 @@ pub extern "C" fn arrowflow_copier_open(
     }
 }
 
-/// Gives the copier the next piece of its stream, all of which it takes, and tells how the copy is.
-/// Once it has ended nothing changes.
+/// Gives the copier the next piece of its stream, all of which it takes, and returns the state of
+/// the copy. Once the copy has ended nothing changes.
 #[unsafe(no_mangle)]
 pub extern "C" fn arrowflow_copier_put(alloc: Global, copier: &mut CopierC, piece: &[u8]) -> CopiedC
     ensures { PutsIf copier.old.slot.value piece.now result copier.new.slot.value }
 {
     match replace(copier, CopierC::none()).into_box(alloc) {
         Some(mut copying) => {
-            let told = copying.put(piece);
+            let stated = copying.put(piece);
             *copier = CopierC::of(copying);
-            told
+            stated
         }
         None => CopiedC::none(),
     }
 }
 
-/// Tells the copier that its stream ends here. Once the copy has ended nothing changes.
+/// Informs the copier that its stream ends here. Once the copy has ended nothing changes.
 #[unsafe(no_mangle)]
 pub extern "C" fn arrowflow_copier_end(alloc: Global, copier: &mut CopierC) -> CopiedC
     ensures { EndsCopy copier.old.slot.value result copier.new.slot.value }
 {
     match replace(copier, CopierC::none()).into_box(alloc) {
         Some(mut copying) => {
-            let told = copying.end();
+            let stated = copying.end();
             *copier = CopierC::of(copying);
-            told
+            stated
         }
         None => CopiedC::none(),
     }
 }
 
-/// Moves the first bytes that are written and wait into the room, as many as it has place for, and
-/// answers how many.
+/// Moves the first of the written and waiting bytes into the output buffer, as many as it has space
+/// for, and returns how many.
 #[unsafe(no_mangle)]
 pub extern "C" fn arrowflow_copier_take(
     alloc: Global,

@@ -3,21 +3,21 @@
 ghost use Rattle.std.specs.Prelude.{◌≡◌, None, Some, is_some, option_map};
 
 use crate::copier_slot::CopierSlot;
-use crate::loose::Loose;
 use crate::pieces::Copying;
+use crate::raw_box::RawBox;
 use std::alloc::Global;
 
-/// A handle: of a copier, or of none.
+/// A handle, with a copier or without one.
 #[repr(C)]
 #[derive(Drop)]
 pub struct CopierC {
     pub(crate) slot: CopierSlot,
     live: bool,
-    ghost told: { live ≡ is_some slot.value },
+    ghost stated: { live ≡ is_some slot.value },
 }
 
 impl CopierC {
-    /// A handle of none.
+    /// A handle without a copier.
     pub(crate) fn none() -> CopierC
         ensures { result.slot.value ≡ None }
     {
@@ -32,7 +32,7 @@ impl CopierC {
         ensures { result.slot.value ≡ Some copying.value }
     {
         CopierC {
-            slot: CopierSlot::of(Loose::of(copying)),
+            slot: CopierSlot::of(RawBox::of(copying)),
             live: true,
         }
     }

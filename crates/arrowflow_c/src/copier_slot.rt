@@ -1,17 +1,17 @@
-//! Where a copier may be, for C.
+//! The address of a copier or of nothing, for C.
 
 ghost use Rattle.std.specs.Prelude.{◌≡◌, IsTrue, None, Option, Some, is_some};
 ghost use Rattle.std.specs.Coded.{coded_option};
 ghost use Rattle.arrowflow_c.specs.contracts.pieces.Copying.{the_row as held_row};
 ghost use Rattle.arrowflow_c.specs.declared.pieces.Copying.{Copying as Held};
 
-use crate::loose::Loose;
 use crate::pieces::Copying;
+use crate::raw_box::RawBox;
 use std::alloc::Global;
 use std::marker::Model;
 use std::ptr::null_mut;
 
-/// The address of a copier, or of nothing. Where it is let go, the copier stays where it is.
+/// The address of a copier, or of nothing. If it is dropped, the copier stays where it is.
 #[repr(C)]
 #[derive(Drop)]
 pub struct CopierSlot {
@@ -34,20 +34,20 @@ impl CopierSlot {
     }
 
     /// The address of a copier.
-    pub(crate) fn of(loose: Loose<Copying, Global>) -> CopierSlot
+    pub(crate) fn of(loose: RawBox<Copying, Global>) -> CopierSlot
         ensures { result.value ≡ Some loose.value }
     {
-        let Loose { at, alloc: _ } = loose;
+        let RawBox { at, alloc: _ } = loose;
         CopierSlot { at: at as *mut u8 }
     }
 
     /// The copier at the address.
-    pub(crate) fn into_loose(self, alloc: Global) -> Loose<Copying, Global>
+    pub(crate) fn into_loose(self, alloc: Global) -> RawBox<Copying, Global>
         requires { IsTrue (is_some self.value) }
         ensures { self.value ≡ Some result.value }
     {
         let CopierSlot { at } = self;
-        Loose {
+        RawBox {
             at: at as *mut Copying,
             alloc,
         }

@@ -11,7 +11,8 @@ use arrowflow_copy::copy;
 use std::alloc::Global;
 
 /// Writes a stream again: the stream of the batches that were read, as `arrowflow copy` writes it.
-/// As much of it as fits stands in the room: an empty room measures.
+/// As much of it as fits is put into the output buffer: with an empty buffer the call measures its
+/// size.
 #[unsafe(no_mangle)]
 pub extern "C" fn arrowflow_copy(
     alloc: Global,

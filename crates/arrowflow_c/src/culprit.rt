@@ -1,4 +1,4 @@
-//! The column at fault of a stream in memory.
+//! The column at fault in a stream in memory.
 
 ghost use Rattle.std.specs.Prelude.{◌≡◌, ◌↔◌, ◌<◌, Err, IsTrue, MatchBool, MatchOption, drop, slice_index, take};
 ghost use Rattle.arrow_meta_reader.specs.Means.{batch_view, message_view};
@@ -7,14 +7,14 @@ ghost use Rattle.arrow_stream_reader.specs.Batch.{Loads};
 ghost use Rattle.arrow_stream_reader.specs.Frame.{number_at};
 ghost use Rattle.arrow_types.specs.View.{fields_view};
 ghost use Rattle.arrow_body_reader.specs.Held.{count_of};
-ghost use Rattle.arrowflow_c.specs.Blame.{IsFaultOf, TellsEnding, TellsSo, body_fault, ending_fault, refusal_by};
-ghost use Rattle.arrowflow_c.specs.Culprit.{Blames, IsAtFault, TellsContent};
-ghost use Rattle.arrowflow_c.specs.Culprit.{TellsCulprit, no_culprit};
+ghost use Rattle.arrowflow_c.specs.Blame.{IsFaultOf, ReportsEnding, ReportsSo, body_fault, ending_fault, refusal_by};
+ghost use Rattle.arrowflow_c.specs.Culprit.{Blames, IsAtFault, ReportsContent};
+ghost use Rattle.arrowflow_c.specs.Culprit.{ReportsCulprit, no_culprit};
 
 use crate::kinds::{BAD_LIMITS, MEMORY};
-use crate::survey::survey;
+use crate::scan::scan;
 use crate::terms::LimitsC;
-use arrow_body_reader::{BodyFault, check, have_length};
+use arrow_body_reader::{BodyFault, check, check_row_count};
 use arrow_data::Dictionary;
 use arrow_meta_reader::{Header, Message, MetaFault, RecordBatch, decode};
 use arrow_stream_reader::{Fault, Kind, StreamReader};
@@ -25,8 +25,8 @@ use std::alloc::Global;
 #[repr(C)]
 #[derive(Clone, Copy)]
 pub struct CulpritC {
-    /// 0; 19 where an allocation failed, 20 for limits above their ceilings or of types that are no
-    /// set.
+    /// 0; 19 if an allocation failed, 20 if limits are above their ceilings or there is no such set
+    /// of types.
     pub kind: u32,
     /// Whether a column is at fault.
     pub found: bool,
@@ -47,8 +47,8 @@ impl CulpritC {
     }
 }
 
-/// Tells which column is at fault of a stream whose fault is of a record batch's body: the first one
-/// with which the body is refused by the stream's kind.
+/// Returns which column is at fault in a stream whose fault is in a record batch's body: the first
+/// one with which the body is rejected with the stream's kind of fault.
 #[unsafe(no_mangle)]
 pub extern "C" fn arrowflow_fault_column(alloc: Global, bytes: &[u8], limits: LimitsC) -> CulpritC
     ensures { Blames limits bytes.now result }
@@ -59,20 +59,20 @@ pub extern "C" fn arrowflow_fault_column(alloc: Global, bytes: &[u8], limits: Li
     }
 }
 
-/// The column at fault of these bytes.
+/// The column at fault in these bytes.
 fn culprit_in(alloc: Global, bytes: &[u8], limits: Limits) -> CulpritC
-    ensures { TellsCulprit limits bytes.now result }
+    ensures { ReportsCulprit limits bytes.now result }
 {
     let mut reader = StreamReader::new(alloc, limits);
-    match survey(&mut reader, bytes) {
+    match scan(&mut reader, bytes) {
         Ok(_) => culprit_at(alloc, &limits, &reader, bytes),
         Err(_) => CulpritC::none(MEMORY),
     }
 }
 
-/// The same, of bytes that the reader has read to their end.
+/// The same, for bytes that the reader has read to their end.
 fn culprit_at(alloc: Global, limits: &Limits, reader: &StreamReader, bytes: &[u8]) -> CulpritC
-    ensures { TellsEnding limits.now reader.now.at.verdict reader.now.at.state
+    ensures { ReportsEnding limits.now reader.now.at.verdict reader.now.at.state
         (drop reader.now.at.place bytes.now) result }
 {
     match ending_fault(reader.end()) {
@@ -94,7 +94,7 @@ fn ending_fault(answer: Result<(), Fault>) -> Option<BodyFault>
     }
 }
 
-/// The fault of a body that a kind is of.
+/// The fault of a body that has this kind, if there is one.
 fn body_fault(kind: Kind) -> Option<BodyFault>
     ensures { result ≡ body_fault kind }
 {
@@ -109,7 +109,7 @@ fn body_fault(kind: Kind) -> Option<BodyFault>
     }
 }
 
-/// The column at fault of the message at the front of these bytes, at which the reader stands.
+/// The column at fault in the message at the start of these bytes, which is the reader's next one.
 fn culprit_of(
     alloc: Global,
     limits: &Limits,
@@ -117,7 +117,7 @@ fn culprit_of(
     reader: &StreamReader,
     message: &[u8],
 ) -> CulpritC
-    ensures { TellsSo limits.now fault reader.now.at.state message.now result }
+    ensures { ReportsSo limits.now fault reader.now.at.state message.now result }
 {
     let (size, rest) = (metadata_size(message), tail(message, 8));
     match decode(alloc, head(rest, size), limits) {
@@ -139,15 +139,15 @@ fn is_memory(fault: MetaFault) -> bool
     }
 }
 
-/// The column at fault of a message, whose body is at the front of these bytes.
+/// The column at fault in a message whose body is at the start of these bytes.
 fn in_message(message: &Message, fault: BodyFault, reader: &StreamReader, after: &[u8]) -> CulpritC
-    ensures { TellsContent (refusal_by fault) reader.now.at.state after.now
+    ensures { ReportsContent (refusal_by fault) reader.now.at.state after.now
         (message_view message.now).body_len (message_view message.now).header result }
 {
     let Header::Batch(record_batch) = &message.header else {
         return CulpritC::none(0);
     };
-    let body = Body {
+    let body = BatchBody {
         record_batch,
         bytes: head(after, message.body_len as usize),
         dictionaries: reader.dictionaries().entries(),
@@ -168,15 +168,15 @@ fn in_message(message: &Message, fault: BodyFault, reader: &StreamReader, after:
 
 /// The body of a record batch, and the dictionaries in which its indices are looked up.
 #[derive(Clone, Copy)]
-struct Body<'a> {
+struct BatchBody<'a> {
     record_batch: &'a RecordBatch,
     bytes: &'a [u8],
     dictionaries: &'a [(i64, Dictionary)],
 }
 
-impl Body<'_> {
-    /// The first field with which the body has this fault, or none where it does not have it. Takes
-    /// as many checks of the body as the number of fields has bits.
+impl BatchBody<'_> {
+    /// The first field with which the body has this fault, or none if the body does not have it.
+    /// Checks the body as many times as the number of fields has bits.
     fn first_at_fault(&self, fields: &[Field], fault: BodyFault) -> Option<usize>
         ensures { MatchOption result
             (Loads self.now.bytes.now self.now.dictionaries.now (fields_view fields.now)
@@ -199,7 +199,7 @@ impl Body<'_> {
         Some(sound)
     }
 
-    /// Whether the body has this fault, where these are its columns.
+    /// Whether the body has this fault, if these are its columns.
     fn has_fault(&self, fields: &[Field], fault: BodyFault) -> bool
         ensures { IsTrue result
             ↔ Loads self.now.bytes.now self.now.dictionaries.now (fields_view fields.now)
@@ -211,13 +211,13 @@ impl Body<'_> {
         }
     }
 
-    /// The fault of the body, where these are its columns.
+    /// The fault of the body, if these are its columns.
     fn fault(&self, fields: &[Field]) -> Option<BodyFault>
         ensures { IsFaultOf result self.now.bytes.now self.now.dictionaries.now
             (fields_view fields.now) (batch_view self.now.record_batch.now) }
     {
         let batch = self.record_batch;
-        if !have_length(fields, &batch.nodes, row_count(batch)) {
+        if !check_row_count(fields, &batch.nodes, row_count(batch)) {
             return Some(BodyFault::Layout);
         }
         match check(
@@ -233,14 +233,15 @@ impl Body<'_> {
     }
 }
 
-/// How many rows a batch has, 0 where its length is negative.
+/// How many rows a batch has, 0 if its length is negative.
 fn row_count(record_batch: &RecordBatch) -> usize
     ensures { result ≡ count_of record_batch.now.length }
 {
     record_batch.length.max(0) as usize
 }
 
-/// How long the metadata are, by the prefix at the front of these bytes; a byte that is missing is 0.
+/// How long the metadata are, by the prefix at the start of these bytes; a missing byte counts as
+/// 0.
 fn metadata_size(message: &[u8]) -> usize
     ensures { result ≡ number_at message.now 4 }
 {
@@ -249,7 +250,7 @@ fn metadata_size(message: &[u8]) -> usize
     low + 65536 * high
 }
 
-/// A byte, or 0 where there is none.
+/// A byte, or 0 if there is none.
 fn byte_at(bytes: &[u8], at: usize) -> usize
     ensures value { result ≡ slice_index bytes.now at }
     ensures small { result < 256 }
@@ -257,14 +258,14 @@ fn byte_at(bytes: &[u8], at: usize) -> usize
     bytes.get(at).map_or(0, |byte| *byte as usize)
 }
 
-/// The bytes from a place on, none past the end.
+/// The bytes from an offset on, none past the end.
 fn tail(bytes: &[u8], at: usize) -> &[u8]
     ensures { result.now ≡ drop at bytes.now }
 {
     bytes.get(at..).unwrap_or(&[])
 }
 
-/// The first bytes, as many as there are of them.
+/// The first `count` bytes, or all if there are fewer.
 fn head(bytes: &[u8], count: usize) -> &[u8]
     ensures { result.now ≡ take count bytes.now }
 {

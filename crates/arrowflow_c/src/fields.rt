@@ -1,10 +1,10 @@
-//! Fields of a reader's schema, as the Arrow C data interface tells them.
+//! Fields of a reader's schema, as the Arrow C data interface describes them.
 
 ghost use Rattle.std.specs.Prelude.{◌≡◌, option_map};
-ghost use Rattle.arrowflow_c.specs.Fields.{FieldAt, TellsField, field_in, no_field, with_encoding};
+ghost use Rattle.arrowflow_c.specs.Fields.{FieldAt, ReportsField, field_in, no_field, with_encoding};
 
 use crate::metadata::put_metadata;
-use crate::pens::Pen;
+use crate::pens::TextPen;
 use crate::places::{Place, place_below};
 use arrow_types::{Encoding, Schema};
 
@@ -14,20 +14,22 @@ use arrow_types::{Encoding, Schema};
 pub struct FieldC {
     /// 0 no such field, 1 the schema, 2 a field.
     pub found: u32,
-    /// The sum of 1 if the dictionary's order means something, 2 if slots may be null, and 4 if the
+    /// The sum of 1 if the dictionary's order is meaningful, 2 if slots may be null, and 4 if the
     /// keys of maps are sorted.
     pub flags: u32,
     /// Whether the slots hold indices into a dictionary.
     pub is_encoded: bool,
     /// The id of the dictionary.
     pub id: i64,
-    /// How many fields stand below: of the schema its columns; of a field that holds indices none.
+    /// How many child fields there are: the columns of the schema; none for a field that holds
+    /// indices.
     pub children: u64,
-    /// How many bytes the name has, whether they fit into the room or not, at most 2^64 - 1.
+    /// How many bytes the name has, whether they fit into the output buffer or not, at most 2^64 -
+    /// 1.
     pub name_len: u64,
-    /// The same of the format string.
+    /// The same for the format string.
     pub format_len: u64,
-    /// The same of the metadata.
+    /// The same for the metadata.
     pub metadata_len: u64,
 }
 
@@ -48,7 +50,7 @@ impl FieldC {
         }
     }
 
-    /// The same of slots that hold these indices.
+    /// The same field, whose slots hold these indices.
     fn encoded(self, encoding: Option<Encoding>) -> FieldC
         ensures { result ≡ with_encoding encoding self }
     {
@@ -63,11 +65,11 @@ impl FieldC {
         }
     }
 
-    /// The field of a place, whose texts are put into the room.
+    /// The field that `place` refers to; its texts are put into the output buffer.
     fn of(found: u32, place: Place<'_>, room: &mut [u8]) -> FieldC
-        ensures { TellsField found (field_in place.entry) room.old result room.new }
+        ensures { ReportsField found (field_in place.entry) room.old result room.new }
     {
-        let name = Pen::new().put(room, place.name());
+        let name = TextPen::new().put(room, place.name());
         let format = place.put_format(room, name.next());
         let metadata = put_metadata(room, format.next(), place.metadata());
         FieldC {
@@ -83,8 +85,8 @@ impl FieldC {
     }
 }
 
-/// Tells of the field of a schema that a path leads to, if there is one.
-pub(crate) fn tell_field(schema: Option<&Schema>, path: &[usize], room: &mut [u8]) -> FieldC
+/// Returns the field of a schema that a path leads to, if there is one.
+pub(crate) fn report_field(schema: Option<&Schema>, path: &[usize], room: &mut [u8]) -> FieldC
     ensures { FieldAt (option_map (λ s. s.now) schema.entry) path.now room.old result room.new }
 {
     let found = if path.is_empty() { 1 } else { 2 };

@@ -4,15 +4,15 @@ ghost use Rattle.std.specs.Prelude.{◌++◌, codes};
 ghost use Rattle.std.specs.Fmt.{decimal, signed_decimal};
 ghost use Rattle.arrow_types.specs.View.{type_view};
 ghost use Rattle.arrowflow_c.specs.Pens.{Puts};
-ghost use Rattle.arrowflow_report.specs.TypeWords.{format_of};
+ghost use Rattle.arrowflow_text.specs.TypeWords.{format_of};
 
-use crate::pens::Pen;
+use crate::pens::TextPen;
 use arrow_types::DataType;
-use arrowflow_report::{format_width, words_of};
+use arrowflow_text::{format_width, words_of};
 use itoa::Buffer;
 
-/// Puts the format string of a type into the room.
-pub(crate) fn put_type(room: &mut [u8], pen: Pen, data_type: &DataType) -> Pen
+/// Puts the format string of a type into the output buffer.
+pub(crate) fn put_type(room: &mut [u8], pen: TextPen, data_type: &DataType) -> TextPen
     ensures { Puts room.old pen (format_of (type_view data_type.now).tag) result room.new }
 {
     let pen = pen.put(room, words_of(data_type).format.as_bytes());
@@ -29,8 +29,8 @@ pub(crate) fn put_type(room: &mut [u8], pen: Pen, data_type: &DataType) -> Pen
     }
 }
 
-/// Puts the precision and the scale of a decimal into the room.
-fn put_digits(room: &mut [u8], pen: Pen, precision: u8, scale: i8) -> Pen
+/// Puts the precision and the scale of a decimal into the output buffer.
+fn put_digits(room: &mut [u8], pen: TextPen, precision: u8, scale: i8) -> TextPen
     ensures { Puts room.old pen (decimal precision ++ codes "," ++ signed_decimal scale) result
         room.new }
 {

@@ -4,32 +4,32 @@ ghost use Rattle.std.specs.Prelude.{◌≡◌, option_map};
 ghost use Rattle.arrowflow_copy.specs.CopierShown.{copier_view};
 ghost use Rattle.arrowflow_copy.specs.Pieces.{PutsEnd, PutsPiece, TakesWritten};
 ghost use Rattle.arrow_stream_writer.specs.Shown.{options_view};
-ghost use Rattle.arrowflow_c.specs.Copied.{IsFresh, copied_told, no_copier, place_so, kind_so};
+ghost use Rattle.arrowflow_c.specs.Copied.{IsFresh, copied_reported, no_copier, place_so, kind_so};
 
 use crate::kinds::{NO_HANDLE, kind_of, place_of};
 use arrow_stream_writer::Options;
 use arrow_types::Limits;
 use arrowflow_copy::StreamCopier;
-use arrowflow_report::ToolFault;
+use arrowflow_input::ToolFault;
 use std::alloc::Global;
 
-/// What is told of a copy so far.
+/// The state of a copy so far.
 #[repr(C)]
 #[derive(Clone, Copy)]
 pub struct CopiedC {
-    /// 0, or the kind of the fault, as of a text; 21 where there is no copier.
+    /// 0, or the kind of the fault, as for a text; 21 if there is no copier.
     pub kind: u32,
     /// Whether it takes no more bytes.
     pub is_over: bool,
     /// The place of the message at fault in bytes from the stream's beginning, or the number of the
-    /// batch that was refused.
+    /// rejected batch.
     pub place: u64,
-    /// How many bytes are written and wait to be taken.
+    /// How many bytes are written and waiting to be taken.
     pub waiting: u64,
 }
 
 impl CopiedC {
-    /// What is told where there is no copier.
+    /// The state that is reported if there is no copier.
     pub(crate) fn none() -> CopiedC
         ensures { result ≡ no_copier }
     {
@@ -58,26 +58,26 @@ impl Copying {
         }
     }
 
-    /// Gives the copier the next piece of its stream, and tells how the copy is.
+    /// Gives the copier the next piece of its stream, and returns the state of the copy.
     pub(crate) fn put(&mut self, piece: &[u8]) -> CopiedC
         ensures puts { PutsPiece (copier_view self.old.copier) piece.now
             (copier_view self.new.copier) }
-        ensures told { result ≡ copied_told (copier_view self.new.copier) }
+        ensures stated { result ≡ copied_reported (copier_view self.new.copier) }
     {
         self.copier.put(piece);
-        self.told()
+        self.stated()
     }
 
-    /// Ends the stream, and tells how the copy is.
+    /// Ends the stream, and returns the state of the copy.
     pub(crate) fn end(&mut self) -> CopiedC
         ensures puts { PutsEnd (copier_view self.old.copier) (copier_view self.new.copier) }
-        ensures told { result ≡ copied_told (copier_view self.new.copier) }
+        ensures stated { result ≡ copied_reported (copier_view self.new.copier) }
     {
         self.copier.end();
-        self.told()
+        self.stated()
     }
 
-    /// Moves bytes that wait into the room, and answers how many.
+    /// Moves waiting bytes into the output buffer, and returns how many.
     pub(crate) fn take(&mut self, room: &mut [u8]) -> usize
         ensures { TakesWritten (copier_view self.old.copier) room.old result
             (copier_view self.new.copier) room.new }
@@ -85,9 +85,9 @@ impl Copying {
         self.copier.take(room)
     }
 
-    /// How the copy is.
-    fn told(&self) -> CopiedC
-        ensures { result ≡ copied_told (copier_view self.now.copier) }
+    /// The state of the copy.
+    fn stated(&self) -> CopiedC
+        ensures { result ≡ copied_reported (copier_view self.now.copier) }
     {
         let ended = self.copier.ended();
         CopiedC {
@@ -109,7 +109,7 @@ fn kind_so(ended: Option<&Result<(), ToolFault>>) -> u32
     }
 }
 
-/// The place of the fault with which a copy ended.
+/// The place of the fault with which a copy ended, 0 if there is none.
 fn place_so(ended: Option<&Result<(), ToolFault>>) -> u64
     ensures { result ≡ place_so (option_map (λ answer. answer.now) ended.entry) }
 {

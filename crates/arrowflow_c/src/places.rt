@@ -8,9 +8,9 @@ ghost use Rattle.arrowflow_c.specs.Fields.{has_sorted_keys, is_sorted_map, nth_f
 ghost use Rattle.arrowflow_c.specs.Pens.{Puts};
 
 use crate::formats::put_type;
-use crate::pens::Pen;
+use crate::pens::TextPen;
 use arrow_types::{DataType, Encoding, Field, Schema};
-use arrowflow_report::int_words;
+use arrowflow_text::int_words;
 
 /// What a path leads to.
 #[derive(Clone, Copy)]
@@ -24,7 +24,7 @@ pub(crate) enum Place<'a> {
 }
 
 impl<'a> Place<'a> {
-    /// The name, which a schema and the field of a dictionary's values have not.
+    /// The name; a schema and the field of a dictionary's values have none.
     pub(crate) fn name(self) -> &'a [u8]
         ensures { result.now ≡ (field_in self.entry).shape.head.name }
     {
@@ -94,7 +94,7 @@ impl<'a> Place<'a> {
         }
     }
 
-    /// The metadata, which the field of a dictionary's values has not.
+    /// The metadata; the field of a dictionary's values has none.
     pub(crate) fn metadata(self) -> &'a [(Vec<u8>, Vec<u8>)]
         ensures { pairs_view result.now ≡ (field_in self.entry).notes.pairs }
     {
@@ -105,8 +105,8 @@ impl<'a> Place<'a> {
         }
     }
 
-    /// Puts the format string into the room.
-    pub(crate) fn put_format(self, room: &mut [u8], pen: Pen) -> Pen
+    /// Puts the format string into the output buffer.
+    pub(crate) fn put_format(self, room: &mut [u8], pen: TextPen) -> TextPen
         ensures { Puts room.old pen (field_format (field_in self.entry).shape.head)
             result room.new }
     {
@@ -120,7 +120,7 @@ impl<'a> Place<'a> {
         }
     }
 
-    /// The field below by its number: a child, or under 0 that of the dictionary's values.
+    /// The field below by its number: a child, or the field of the dictionary's values under 0.
     fn below(self, n: usize) -> Option<Place<'a>>
         ensures { option_map field_in result
             ≡ below_by (field_in self.entry).shape.head.encoding (field_in self.entry) n }
@@ -135,7 +135,7 @@ impl<'a> Place<'a> {
     }
 }
 
-/// Field `n` of those that stand side by side.
+/// Field `n` of some sibling fields.
 fn nth_field(fields: &[Field], n: usize) -> Option<Place<'_>>
     ensures { option_map field_in result
         ≡ nth_field (fields_view fields.now) (notes_view fields.now) n }
@@ -146,7 +146,7 @@ fn nth_field(fields: &[Field], n: usize) -> Option<Place<'_>>
     }
 }
 
-/// What a path leads to from a place.
+/// What a path leads to from a field or the schema.
 pub(crate) fn place_below<'a>(place: Place<'a>, path: &[usize]) -> Option<Place<'a>>
     ensures { option_map field_in result ≡ field_below (field_in place.entry) path.now }
 {

@@ -10,7 +10,7 @@ ghost use Rattle.arrowflow_c.specs.Reading.{Ends, Opens, ReadsIf};
 
 use crate::cells::{CellC, cell_at};
 use crate::columns::{ColumnC, column_at};
-use crate::fields::{FieldC, tell_field};
+use crate::fields::{FieldC, report_field};
 use crate::handle::ReaderC;
 use crate::kinds::{BAD_LIMITS, MEMORY, NO_HANDLE};
 use crate::reading::Reading;
@@ -19,9 +19,9 @@ use crate::terms::LimitsC;
 use std::alloc::Global;
 use std::mem::replace;
 
-/// Makes a reader of a new stream, in place of the one that the handle has. It answers 0; or 19
-/// where a growth was refused and 20 where a limit is above its ceiling or the types are no set, and
-/// then there is none.
+/// Makes a reader of a new stream, in place of the one that the handle has. Returns 0; or 19 if an
+/// allocation failed and 20 if a limit is above its ceiling or there is no such set of types, and
+/// then the handle has none.
 #[unsafe(no_mangle)]
 pub extern "C" fn arrowflow_reader_open(alloc: Global, limits: LimitsC, reader: &mut ReaderC) -> u32
     ensures { Opens limits result reader.new.slot.value }
@@ -39,10 +39,10 @@ pub extern "C" fn arrowflow_reader_open(alloc: Global, limits: LimitsC, reader: 
     }
 }
 
-/// Gives the reader a piece, of which it takes the bytes up to the end of one message, or all of
-/// them where no message of it is whole, and tells what came. What it left is given again. The batch
-/// that a call gives is the reader's until the next call; where a growth was refused nothing has
-/// changed.
+/// Gives the reader a piece, and returns what came. The reader takes the bytes up to the end of one
+/// message, or all of them if none of its messages is complete. The bytes that it did not take must
+/// be given again. The batch that a call gives is the reader's until the next call; if an
+/// allocation failed, nothing has changed.
 #[unsafe(no_mangle)]
 pub extern "C" fn arrowflow_reader_read(alloc: Global, reader: &mut ReaderC, piece: &[u8]) -> StepC
     ensures { ReadsIf reader.old.slot.value piece.now result reader.new.slot.value }
@@ -57,7 +57,7 @@ pub extern "C" fn arrowflow_reader_read(alloc: Global, reader: &mut ReaderC, pie
     }
 }
 
-/// Tells what a stream answers that ends here.
+/// Returns the result of a stream that ends here.
 #[unsafe(no_mangle)]
 pub extern "C" fn arrowflow_reader_end(alloc: Global, reader: &mut ReaderC) -> FaultC
     ensures { Ends reader.old.slot.value result reader.new.slot.value }
@@ -75,9 +75,9 @@ pub extern "C" fn arrowflow_reader_end(alloc: Global, reader: &mut ReaderC) -> F
     }
 }
 
-/// Tells the value in a row and a column of the reader's batch, both counted from 0, with indices
-/// looked up. As much of a byte string or a text as fits is put into the room, and its length is
-/// told.
+/// Returns the value in a row and a column of the reader's batch, both counted from 0, with indices
+/// looked up. As much of a byte string or a text as fits is put into the output buffer, and its
+/// length is returned.
 #[unsafe(no_mangle)]
 pub extern "C" fn arrowflow_reader_cell(
     alloc: Global,
@@ -99,11 +99,11 @@ pub extern "C" fn arrowflow_reader_cell(
     }
 }
 
-/// Tells of a column of the reader's batch where its buffers lie, which stay there until the handle
-/// is used again. The path has the number of the column, and behind it, from level to level, what
-/// stands below: of lists 0, of structs the number of a field, of indices the number of a value of
-/// the dictionary, which leads to the array that this value stands in. All are counted from 0. What
-/// the struct held before is not looked at, but its references are such ones.
+/// Gives a column of the reader's batch: where its buffers lie. They stay there until the handle is
+/// used again. The path is the number of the column, and then, from level to level, what is below:
+/// 0 for lists, the number of a field for structs, and for indices the number of a value of the
+/// dictionary, which leads to the array that holds this value. All are counted from 0. The previous
+/// contents of the struct are not read, but its references must be valid ones.
 #[unsafe(no_mangle)]
 pub extern "C" fn arrowflow_reader_column<'a>(
     reader: &'a mut ReaderC,
@@ -116,7 +116,7 @@ pub extern "C" fn arrowflow_reader_column<'a>(
     show_column(reader.reading(), path, column)
 }
 
-/// Tells of the column of a reader's batch that a path leads to.
+/// Gives the column of a reader's batch that a path leads to.
 fn show_column<'a>(reading: Option<&'a Reading>, path: &[usize], column: &mut ColumnC<'a>)
     ensures { ColumnIf (option_map (λ r. r.now) reading.entry) path.now column.new }
 {
@@ -126,11 +126,12 @@ fn show_column<'a>(reading: Option<&'a Reading>, path: &[usize], column: &mut Co
     };
 }
 
-/// Tells of the reader's schema, or of the field that a path leads to: the number of the column, and
+/// Returns the reader's schema, or the field that a path leads to: the number of the column, and
 /// after it, from level to level, that of a child; below a dictionary-encoded field 0 leads to the
 /// field of the dictionary's values, which has its type and its children. All are counted from 0.
 /// The name, the format string and the metadata, as the Arrow C data interface writes them, are put
-/// into the room one after another, as much of their front as fits, and their lengths are told.
+/// into the output buffer one after another, as much of their beginning as fits, and their lengths
+/// are returned.
 #[unsafe(no_mangle)]
 pub extern "C" fn arrowflow_reader_field(
     alloc: Global,
@@ -143,7 +144,7 @@ pub extern "C" fn arrowflow_reader_field(
 {
     match replace(reader, ReaderC::none()).into_box(alloc) {
         Some(reading) => {
-            let field = tell_field(reading.reader.schema(), path, room);
+            let field = report_field(reading.reader.schema(), path, room);
             *reader = ReaderC::of(reading);
             field
         }

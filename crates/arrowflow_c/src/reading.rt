@@ -3,7 +3,7 @@
 ghost use Rattle.std.specs.Prelude.{◌≡◌, None};
 ghost use Rattle.arrow_stream_reader.specs.Stream.{ended_so, fresh};
 ghost use Rattle.arrowflow_c.specs.Reading.{Reads, batch_given};
-ghost use Rattle.arrowflow_c.specs.Steps.{end_told};
+ghost use Rattle.arrowflow_c.specs.Steps.{end_reported};
 
 use crate::kinds::MEMORY;
 use crate::steps::{FaultC, StepC};
@@ -32,27 +32,27 @@ impl Reading {
     }
 
     /// Reads on in a piece, up to the end of one message, and keeps its batch in place of the last
-    /// one, which is let go where none came. Where a growth was refused the last one stays.
+    /// one, which is dropped if none came. If an allocation failed, the last one stays.
     pub(crate) fn read(&mut self, piece: &[u8]) -> StepC
         ensures { Reads self.old piece.now result self.new }
     {
         let answer = self.reader.read(piece);
-        let step = StepC::told(&answer);
+        let step = StepC::stated(&answer);
         if step.kind != MEMORY {
             self.batch = batch_given(answer);
         }
         step
     }
 
-    /// What a stream answers that ends here.
+    /// The result of a stream that ends here.
     pub(crate) fn end(&self) -> FaultC
-        ensures { result ≡ end_told (ended_so self.now.reader.at) }
+        ensures { result ≡ end_reported (ended_so self.now.reader.at) }
     {
-        FaultC::told(self.reader.end())
+        FaultC::stated(self.reader.end())
     }
 }
 
-/// The batch of a reader's answer, if it gave one.
+/// The batch of a reader's result, if it gave one.
 fn batch_given(answer: Result<(usize, Option<Item>), Fault>) -> Option<Batch>
     ensures { result ≡ batch_given answer }
 {

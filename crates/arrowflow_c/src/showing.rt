@@ -1,13 +1,13 @@
-//! Streams in memory, told as text.
+//! Streams in memory, printed as text.
 
 ghost use Rattle.arrowflow_c.specs.Terms.{numbers};
-ghost use Rattle.arrowflow_c.specs.Texts.{Gives, IsSchemaTold, IsShown, IsTold};
+ghost use Rattle.arrowflow_c.specs.Texts.{Gives, IsSchemaReported, IsShown, IsReported};
 
 use crate::kinds::BAD_LIMITS;
 use crate::terms::LimitsC;
 use crate::texts::TextC;
 use arrow_sink::Counted;
-use arrowflow_report::{check, schema_text, show};
+use arrowflow_text::{check, schema_text, show};
 use std::alloc::Global;
 
 /// The rows of a stream as records of comma-separated values, as `arrowflow show` prints them.
@@ -38,7 +38,7 @@ pub extern "C" fn arrowflow_messages(
     limits: LimitsC,
     room: &mut [u8],
 ) -> TextC
-    ensures told { Gives limits (IsTold (numbers limits) bytes.now)
+    ensures stated { Gives limits (IsReported (numbers limits) bytes.now)
         room.old result room.new }
 {
     let Some(limits) = limits.limits() else {
@@ -50,7 +50,7 @@ pub extern "C" fn arrowflow_messages(
     TextC::given(&answer, &output.into_inner(), room)
 }
 
-/// The schema of a stream, a line a field, as `arrowflow schema` prints it.
+/// The schema of a stream, one line for each field, as `arrowflow schema` prints it.
 #[unsafe(no_mangle)]
 pub extern "C" fn arrowflow_schema(
     alloc: Global,
@@ -58,7 +58,7 @@ pub extern "C" fn arrowflow_schema(
     limits: LimitsC,
     room: &mut [u8],
 ) -> TextC
-    ensures told { Gives limits (IsSchemaTold (numbers limits) bytes.now)
+    ensures stated { Gives limits (IsSchemaReported (numbers limits) bytes.now)
         room.old result room.new }
 {
     let Some(limits) = limits.limits() else {

@@ -1,17 +1,17 @@
-//! What the calls of a reader tell.
+//! What the calls of a reader return.
 
 ghost use Rattle.std.specs.Prelude.{◌≡◌};
-ghost use Rattle.arrowflow_c.specs.Steps.{bare_step, end_told, fault_step, step_told};
+ghost use Rattle.arrowflow_c.specs.Steps.{bare_step, end_reported, fault_step, step_reported};
 
 use arrow_stream_reader::{Fault, Item};
 
-/// What a reader told of a piece.
+/// What a reader reports of a piece.
 #[repr(C)]
 #[derive(Clone, Copy)]
 pub struct StepC {
-    /// 0, or the kind of the fault, as in a report; 21 where there is no reader.
+    /// 0, or the kind of the fault, as in a report; 21 if there is no reader.
     pub kind: u32,
-    /// What was whole: 0 nothing, 1 the schema, 2 a dictionary, 3 a batch, 4 the end marker.
+    /// What was complete: 0 nothing, 1 the schema, 2 a dictionary, 3 a batch, 4 the end marker.
     pub what: u32,
     /// How many bytes of the piece were taken.
     pub taken: u64,
@@ -26,7 +26,7 @@ pub struct StepC {
 }
 
 impl StepC {
-    /// That this was whole, and so many bytes were taken.
+    /// This was complete, and that many bytes were taken.
     fn of(what: u32, taken: usize) -> StepC
         ensures { result ≡ bare_step what taken }
     {
@@ -52,9 +52,9 @@ impl StepC {
         }
     }
 
-    /// What is told of a reader's answer.
-    pub(crate) fn told(answer: &Result<(usize, Option<Item>), Fault>) -> StepC
-        ensures { result ≡ step_told answer.now }
+    /// What is reported of a reader's result.
+    pub(crate) fn stated(answer: &Result<(usize, Option<Item>), Fault>) -> StepC
+        ensures { result ≡ step_reported answer.now }
     {
         match answer {
             Ok((taken, None)) => StepC::of(0, *taken),
@@ -74,20 +74,20 @@ impl StepC {
     }
 }
 
-/// What a stream answers that ends.
+/// The result of a stream that ends.
 #[repr(C)]
 #[derive(Clone, Copy)]
 pub struct FaultC {
-    /// 0, or the kind of the fault, as in a report; 21 where there is no reader.
+    /// 0, or the kind of the fault, as in a report; 21 if there is no reader.
     pub kind: u32,
     /// The place of the message at fault, in bytes from the stream's beginning.
     pub place: u64,
 }
 
 impl FaultC {
-    /// What is told of a reader's answer where its stream ends.
-    pub(crate) fn told(answer: Result<(), Fault>) -> FaultC
-        ensures { result ≡ end_told answer }
+    /// What is reported of a reader's result when its stream ends.
+    pub(crate) fn stated(answer: Result<(), Fault>) -> FaultC
+        ensures { result ≡ end_reported answer }
     {
         match answer {
             Ok(()) => FaultC { kind: 0, place: 0 },

@@ -1,4 +1,4 @@
-//! On what terms a stream is read, and written again.
+//! The limits with which a stream is read, and the options with which it is written again.
 
 ghost use Rattle.std.specs.Prelude.{◌≡◌, SomeIff};
 ghost use Rattle.arrow_stream_writer.specs.Shown.{options_view};
@@ -7,7 +7,7 @@ ghost use Rattle.arrowflow_c.specs.Terms.{AreLimits, numbers, options_by};
 use arrow_stream_writer::{Align, Options, Updates};
 use arrow_types::{Limits, TypeSet};
 
-/// How much a stranger's stream may ask for.
+/// The limits of what an untrusted stream may ask for.
 #[repr(C)]
 #[derive(Clone, Copy)]
 pub struct LimitsC {
@@ -22,7 +22,7 @@ pub struct LimitsC {
 }
 
 impl LimitsC {
-    /// The limits of a reader, or None where one is above its ceiling or there is no such set of
+    /// The limits of a reader, or None if one is above its ceiling or there is no such set of
     /// types.
     pub(crate) fn limits(self) -> Option<Limits>
         ensures { SomeIff result (AreLimits self) (numbers self) }
@@ -37,12 +37,12 @@ impl LimitsC {
     }
 }
 
-/// How a stream is written again. All false: dictionaries that grew are sent as deltas, and buffers
-/// are padded to 64 bytes.
+/// How a stream is written again. If all are false, dictionaries that grew are sent as deltas, and
+/// buffers are padded to 64 bytes.
 #[repr(C)]
 #[derive(Clone, Copy)]
 pub struct OptionsC {
-    /// Whether a dictionary that grew is sent whole.
+    /// Whether a dictionary that grew is sent in full.
     pub resend: bool,
     /// Whether buffers are padded to 8 bytes.
     pub pad_to_8: bool,

@@ -1,28 +1,28 @@
-//! Texts that are put into the caller's room.
+//! Texts that are put into the caller's output buffer.
 
 ghost use Rattle.std.specs.Prelude.{◌≡◌, length};
-ghost use Rattle.arrowflow_c.specs.Texts.{bare_text, filled, text_told};
+ghost use Rattle.arrowflow_c.specs.Texts.{bare_text, filled, text_reported};
 
 use crate::kinds::{kind_of, place_of};
-use arrowflow_report::ToolFault;
+use arrowflow_input::ToolFault;
 
-/// What is told of a text that a call gave, and how the call ended.
+/// What is reported of a text that a call gave, and how the call ended.
 #[repr(C)]
 #[derive(Clone, Copy)]
 pub struct TextC {
-    /// 0 where all was given, 1 to 18 for a fault of the stream, 19 where a growth was refused, 20
-    /// for limits above their ceilings, from 30 on where the writer refused the stream: 30 and more
+    /// 0 if all was given, 1 to 18 for a fault of the stream, 19 if an allocation failed, 20 if
+    /// limits are above their ceilings, from 30 on if the writer rejected the stream: 30 and more
     /// the schema, 40 and more a batch, 50 and more the end marker.
     pub kind: u32,
     /// The place of the message at fault in bytes from the stream's beginning, or the number of the
-    /// batch that was refused.
+    /// rejected batch.
     pub place: u64,
-    /// How many bytes the text has, whether they fit into the room or not.
+    /// How many bytes the text has, whether they fit into the output buffer or not.
     pub size: u64,
 }
 
 impl TextC {
-    /// An empty text, and this kind alone.
+    /// An empty text, with only this kind.
     pub(crate) fn bare(kind: u32) -> TextC
         ensures { result ≡ bare_text kind }
     {
@@ -33,9 +33,10 @@ impl TextC {
         }
     }
 
-    /// Puts the text of a call that ended so into the room, as much of its front as fits.
+    /// Puts the text of a call that ended like this into the output buffer, as much of its
+    /// beginning as fits.
     pub(crate) fn given(answer: &Result<(), ToolFault>, text: &[u8], room: &mut [u8]) -> TextC
-        ensures told { result ≡ text_told answer.now (length text.now) }
+        ensures stated { result ≡ text_reported answer.now (length text.now) }
         ensures filled { room.new ≡ filled room.old text.now }
     {
         let size = fill(room, text);
@@ -53,7 +54,8 @@ impl TextC {
     }
 }
 
-/// Puts the front of a text into the room, as much of it as fits, and answers the text's length.
+/// Puts the beginning of a text into the output buffer, as much of it as fits, and returns the
+/// text's length.
 pub(crate) fn fill(room: &mut [u8], text: &[u8]) -> u64
     ensures count { result ≡ length text.now }
     ensures filled { room.new ≡ filled room.old text.now }

@@ -1,8 +1,8 @@
--- Why streams that hold the same are copied to equal bytes.
+-- Why streams with equal content are copied to equal bytes.
 use Rattle.std.proofs.Common.{◌≡◌, ℕ, true, List, map, Option, None, Some, sym, ap, ◌∙◌, subst}
 use Rattle.std.specs.Io.KnownBytes.{Appends}
 use Rattle.arrow_types.specs.Limits.{LimitNumbers}
-use Rattle.arrow_stream_reader.specs.Front.{Entry, Standing, FrontOf}
+use Rattle.arrow_stream_reader.specs.Front.{Entry, Snapshot, FrontOf}
 use Rattle.arrow_stream_reader.specs.Tables.{tables_of}
 use Rattle.arrow_stream_reader.proofs.Fronts.{one_front}
 use Rattle.arrow_stream_laws.specs.Sent.{Content, content_of, sent_of}
@@ -12,17 +12,17 @@ use Rattle.arrow_stream_laws.proofs.Sending.{written_sent}
 use Rattle.arrowflow_copy.specs.Copy.{IsClosed}
 use Rattle.arrowflow_copy.specs.Equal.{CopiesAreEqual, CopyIsSent}
 
--- what was written of a whole stream, by its front
-closed_sent : {limits : LimitNumbers} {o : Options} {bytes : List ℕ} {e f : Standing} {before after : Option (List ℕ)} {es : List Entry} → FrontOf limits bytes es e → (x : IsClosed limits o bytes f before after)
+-- the bytes written for a complete stream, from its complete messages
+closed_sent : {limits : LimitNumbers} {o : Options} {bytes : List ℕ} {e f : Snapshot} {before after : Option (List ℕ)} {es : List Entry} → FrontOf limits bytes es e → (x : IsClosed limits o bytes f before after)
     → Appends before after (joined (sent_of o x.shape true (map content_of (tables_of es))))
 closed_sent {o = o} {before = before} {after = after} y x =
     let same = (one_front x.front y).0 in
     subst (λ ps. Appends before after (joined ps)) (written_sent x.sent.text ∙ ap (λ fs. sent_of o x.shape true (map content_of (tables_of fs))) same) x.sent.wrote
 
--- and the schema is that of the front
-closed_shape : {limits : LimitNumbers} {o : Options} {bytes : List ℕ} {e f : Standing} {before after : Option (List ℕ)} {es : List Entry} → FrontOf limits bytes es e → (x : IsClosed limits o bytes f before after)
+-- and the schema is that of these messages
+closed_shape : {limits : LimitNumbers} {o : Options} {bytes : List ℕ} {e f : Snapshot} {before after : Option (List ℕ)} {es : List Entry} → FrontOf limits bytes es e → (x : IsClosed limits o bytes f before after)
     → e.state.schema ≡ Some x.shape
-closed_shape y x = ap (λ (s : Standing). s.state.schema) (sym (one_front x.front y).1) ∙ x.schema
+closed_shape y x = ap (λ (s : Snapshot). s.state.schema) (sym (one_front x.front y).1) ∙ x.schema
 
 pub copy_is_sent : CopyIsSent
 copy_is_sent limits o bytes left before after failed now es e shape y is c =
@@ -30,7 +30,7 @@ copy_is_sent limits o bytes left before after failed now es e shape y is c =
     let same : x.shape ≡ shape = let q = sym (closed_shape y x) ∙ is in cc in
     subst (λ s. Appends before after (joined (sent_of o s true (map content_of (tables_of es))))) same (closed_sent y x)
 
--- what grew by the same from the same is the same
+-- appending equal bytes to equal bytes gives equal bytes
 grown : (before : List ℕ) (after after' : Option (List ℕ)) (xs : List ℕ) → Appends (Some before) after xs → Appends (Some before) after' xs → after ≡ after'
 grown before None after' xs p q = absurd p
 grown before (Some x) None xs p q = absurd q

@@ -1,4 +1,4 @@
--- A copy whose output gave away the first bytes that it held: its calls do what they would do if it held them still.
+-- A copy whose output gave away the first bytes that it held: its calls do the same as if it still held them.
 use Rattle.std.proofs.Common.{◌≡◌, ℕ, List, ◌++◌, take, drop, Option, None, Some, Result, Ok, Err, refl, sym, ap, ◌∙◌, subst, append_assoc, take-append-drop, inl, inr}
 use Rattle.std.specs.Io.KnownBytes.{Appends, prepend_known}
 use Rattle.arrow_types.specs.Limits.{LimitNumbers}
@@ -11,7 +11,7 @@ use Rattle.arrow_stream_laws.specs.Sizes.{Options}
 use Rattle.arrow_stream_laws.specs.Writer.{Accepts, Ends, Fails, FailsAtEnd, Finishes, StartFails, Starts, WriterView, Writes}
 use Rattle.arrow_stream_laws.proofs.Writers.{accepts_of, ends_of, fails_at_end, fails_of}
 use Rattle.arrow_stream_reader.specs.State.{Given, batch_given, dictionary_given, ended, schema_given}
-use Rattle.arrowflow_report.specs.declared.tool_fault.ToolFault.{ToolFault}
+use Rattle.arrowflow_input.specs.declared.tool_fault.ToolFault.{ToolFault}
 use Rattle.arrowflow_copy.specs.Copying.{AddsBatch, At, BeginsCopy, Closes, TakesItem, TakesOne, failures_at, held_at, waiting, writing}
 use Rattle.arrowflow_copy.specs.Taken.{holding, with_taken, writer_with}
 
@@ -75,13 +75,13 @@ module _ (gone : List ℕ) where
     starts new s = record {
       part = s.part;
       new_is = ap W s.new_is;
-      stands = record {
-        frames = s.stands.frames;
-        written = s.stands.written;
-        sent_are = s.stands.sent_are;
-        place_is = s.stands.place_is;
-        accepted = appends base new.contents _ s.stands.accepted;
-        status_is = s.stands.status_is;
+      position = record {
+        frames = s.position.frames;
+        written = s.position.written;
+        sent_are = s.position.sent_are;
+        place_is = s.position.place_is;
+        accepted = appends base new.contents _ s.position.accepted;
+        status_is = s.position.status_is;
       };
     }
 
@@ -116,7 +116,7 @@ module _ (gone : List ℕ) where
   takes_one w (batch_given t) number answer at' number' x = adds_batch w t number answer at' number' x
   takes_one w ended number answer at' number' x = (x.0, ap (with_taken gone) x.1, x.2)
 
-  -- a message is made the same of
+  -- a message is handled in the same way
   pub takes_item : (limits : LimitNumbers) (o : Options) (schema : Option SchemaShape) (g : Given) (at : At) (number : ℕ) (answer : Result (Unit {0}) ToolFault) (at' : At) (number' : ℕ) → TakesItem limits o schema g at number answer at' number'
       → TakesItem limits o schema g (with_taken gone at) number answer (with_taken gone at') number'
   takes_item limits o None g (waiting held failed) number answer at' number' x = ((x.0.0, ap (with_taken gone) x.0.1), x.1)
@@ -129,17 +129,17 @@ module _ (gone : List ℕ) where
   closes (writing w) (Ok done) at' x = (W x.0, ap (with_taken gone) x.1, ends w x.0 x.2)
   closes (writing w) (Err f) at' x = (x.0, W x.1, x.2, ap (with_taken gone) x.3, finishes w x.1 (Err x.0) x.4)
 
--- what was taken changes nothing of how many calls failed
+-- the bytes taken do not change the number of failed calls
 pub taken_failures : (gone : List ℕ) (at : At) → failures_at (with_taken gone at) ≡ failures_at at
 taken_failures gone (waiting held failed) = refl
 taken_failures gone (writing w) = refl
 
--- it is there besides what is held
+-- the bytes taken come before those that are held
 pub taken_held : (gone : List ℕ) (at : At) (held : List ℕ) → held_at at ≡ Some held → held_at (with_taken gone at) ≡ Some (gone ++ held)
 taken_held gone (waiting h failed) held e = ap (prepend_known gone) e
 taken_held gone (writing w) held e = ap (prepend_known gone) e
 
--- a copy that gives away more of what it holds is where it was
+-- giving away more of the bytes held does not change the state with the bytes taken
 pub taken_more : (gone : List ℕ) (n : ℕ) (at : At) (held : List ℕ) → held_at at ≡ Some held → with_taken (gone ++ take n held) (holding (Some (drop n held)) at) ≡ with_taken gone at
 taken_more gone n at held e = by at e
   where

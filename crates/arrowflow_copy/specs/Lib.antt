@@ -1,7 +1,7 @@
 pub mod Copy
 pub mod OfFront
 pub mod Copying
-pub mod Target
+pub mod WriterState
 pub mod Equal
 pub mod Outbox
 pub mod Taken

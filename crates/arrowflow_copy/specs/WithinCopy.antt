@@ -1,12 +1,12 @@
--- What is written of a stream with bounds that is copied.
+-- The output of a copied stream that has bounds.
 use Rattle.std.specs.Prelude.{ℕ, List, Option, Result}
 use Rattle.arrow_types.specs.Limits.{LimitNumbers}
 use Rattle.arrow_stream_laws.specs.Sizes.{Options}
-use Rattle.arrowflow_report.specs.Reports.{IsOpenAt}
-use Rattle.arrowflow_report.specs.Within.{Within}
-use Rattle.arrowflow_report.specs.declared.bounds.Excess.{Excess}
-use Rattle.arrowflow_report.specs.declared.bounds.WholeLimits.{WholeLimits}
-use Rattle.arrowflow_report.specs.declared.tool_fault.ToolFault.{ToolFault}
+use Rattle.arrowflow_input.specs.Endings.{IsOpenAt}
+use Rattle.arrowflow_input.specs.Within.{Within}
+use Rattle.arrowflow_input.specs.declared.bounds.Excess.{Excess}
+use Rattle.arrowflow_input.specs.declared.bounds.WholeLimits.{WholeLimits}
+use Rattle.arrowflow_input.specs.declared.tool_fault.ToolFault.{ToolFault}
 use Rattle.arrowflow_copy.specs.Copy.{Copies}
 
 -- a stream is copied that has these bounds

@@ -1,26 +1,26 @@
-//! A stream with bounds copied piece by piece.
+//! Copies a stream with bounds piece by piece.
 
 ghost use Rattle.std.specs.Prelude.{◌≡◌, ◌<◌, ◌-◌, ◌^◌, Err, IfErr, IfSome, OnOk};
 ghost use Rattle.arrow_stream_writer.specs.Shown.{options_view};
-ghost use Rattle.arrowflow_report.specs.Blame.{BlamesOnly};
-ghost use Rattle.arrowflow_report.specs.Within.{IsToBlame, left_of};
-ghost use Rattle.arrowflow_report.specs.declared.tool_fault.ToolFault.TheVariants.{Input as Unread};
+ghost use Rattle.arrowflow_input.specs.Blame.{BlamesOnly};
+ghost use Rattle.arrowflow_input.specs.Within.{IsToBlame, left_of};
+ghost use Rattle.arrowflow_input.specs.declared.tool_fault.ToolFault.TheVariants.{Input as Unread};
 ghost use Rattle.arrowflow_copy.specs.WithinCopy.{CopiesWithin};
 
-use crate::copier::{Copier, Target, Terms};
+use crate::copier::{Copier, CopySettings, WriterState};
 use arrow_sink::Sink;
 use arrow_stream_reader::StreamReader;
 use arrow_stream_writer::Options;
 use arrow_types::Limits;
-use arrowflow_report::{Bounded, Input, ToolFault, drive_within};
+use arrowflow_input::{Bounded, Input, ToolFault, drive_within};
 use std::alloc::Global;
 
-/// Writes a stream again as [`copy`](crate::copy) does, as long as it keeps the bounds of its input, and hands the
-/// output back.
+/// Writes a stream again as [`copy`](crate::copy) does, as long as it keeps the bounds of its
+/// input, and returns the output.
 ///
-/// If the stream passes a bound, `Input(0)` is answered, and [`Bounded::excess`] has the bound and
-/// the place: the batches of the messages before it are written, without an end marker. Else the
-/// answer and what is written are those of [`copy`](crate::copy).
+/// If the stream exceeds a bound, `Input(0)` is returned, and [`Bounded::excess`] has the bound and
+/// the place: the batches of the messages before it are written, without an end marker. Otherwise
+/// the result and the bytes written are those of [`copy`](crate::copy).
 pub fn copy_within<R: Input, S: Sink>(
     alloc: Global,
     input: &mut Bounded<R>,
@@ -38,12 +38,12 @@ pub fn copy_within<R: Input, S: Sink>(
 {
     let mut reader = StreamReader::new(alloc, *limits);
     let copier = Copier {
-        terms: Terms {
+        terms: CopySettings {
             alloc,
             options,
             limits: *limits,
         },
-        target: Target::Waiting(output),
+        target: WriterState::Waiting(output),
         number: 0,
     };
     let (copier, answer) = drive_within(alloc, &mut reader, input, copier);

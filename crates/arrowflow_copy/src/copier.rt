@@ -6,27 +6,27 @@ ghost use Rattle.arrow_types.specs.Schema.{IsNoted};
 ghost use Rattle.arrow_stream_writer.specs.Shown.{options_view, shown};
 ghost use Rattle.arrowflow_copy.specs.Copying.{AddsBatch, BeginsCopy, Closes, IsWriting, TakesItem, TakesOne};
 ghost use Rattle.arrowflow_copy.specs.Copying.{failures_at, fault_of, writing};
-ghost use Rattle.arrowflow_copy.specs.Target.{IsPassedOn, at_of, sink_in};
+ghost use Rattle.arrowflow_copy.specs.WriterState.{IsPassedOn, at_of, sink_in};
 
 use arrow_data::Batch;
 use arrow_sink::{Sink, WriteFault};
 use arrow_stream_reader::{Item, StreamReader};
 use arrow_stream_writer::{Options, StreamWriter};
 use arrow_types::{Limits, Schema};
-use arrowflow_report::{Consumer, ToolFault, Wants, What};
+use arrowflow_input::{Consumer, RefusedItem, ToolFault, Wants};
 use std::alloc::Global;
 
-/// Where the new stream goes: the output as it came, or, once the schema was read, a writer over
-/// it.
+/// The output of the new stream: the sink as it was passed, or, once the schema was read, a writer
+/// over it.
 #[derive(Drop)]
-pub(crate) enum Target<S: Sink> {
+pub(crate) enum WriterState<S: Sink> {
     Waiting(S),
     Writing(StreamWriter<S>),
 }
 
-/// How a stream is written again.
+/// Options of the copy: how a stream is written again.
 #[derive(Drop)]
-pub(crate) struct Terms {
+pub(crate) struct CopySettings {
     pub(crate) alloc: Global,
     pub(crate) options: Options,
     pub(crate) limits: Limits,
@@ -35,8 +35,8 @@ pub(crate) struct Terms {
 /// A stream on its way to a writer, message by message.
 #[derive(Drop)]
 pub(crate) struct Copier<S: Sink> {
-    pub(crate) terms: Terms,
-    pub(crate) target: Target<S>,
+    pub(crate) terms: CopySettings,
+    pub(crate) target: WriterState<S>,
     /// How many batches were written.
     pub(crate) number: usize,
 }
@@ -44,9 +44,9 @@ pub(crate) struct Copier<S: Sink> {
 impl<S: Sink> Consumer for Copier<S> {
     ghost use Rattle.std.specs.Prelude.{◌<◌, ◌-◌, ◌^◌, OnOk};
     ghost use Rattle.arrow_stream_writer.specs.Shown.{options_view};
-    ghost use Rattle.arrowflow_report.specs.Through.{IsThrough};
+    ghost use Rattle.arrowflow_input.specs.Through.{IsThrough};
     ghost use Rattle.arrowflow_copy.specs.Copying.{Began, HasAnswered, IsCopying, failures_at};
-    ghost use Rattle.arrowflow_copy.specs.Target.{IsPassedOn, at_of};
+    ghost use Rattle.arrowflow_copy.specs.WriterState.{IsPassedOn, at_of};
 
     ghost Start = { Began };
 
@@ -77,8 +77,12 @@ impl<S: Sink> Consumer for Copier<S> {
     }
 }
 
-/// Starts a writer of the schema.
-fn begin<S: Sink>(terms: &Terms, sink: S, schema: &Schema) -> (Target<S>, Result<(), ToolFault>)
+/// Starts a writer with the schema.
+fn begin<S: Sink>(
+    terms: &CopySettings,
+    sink: S,
+    schema: &Schema,
+) -> (WriterState<S>, Result<(), ToolFault>)
     requires { S.failed sink < 2 ^ 64 - 1 }
     ensures known { IsNoted schema.now }
     ensures begins { BeginsCopy terms.now.limits (options_view terms.now.options) schema.now (S.contents sink)
@@ -87,8 +91,11 @@ fn begin<S: Sink>(terms: &Terms, sink: S, schema: &Schema) -> (Target<S>, Result
     // what is known of each schema is known of this one, also where its frame is cut off
     let _metadata = schema.metadata();
     match StreamWriter::start(terms.alloc, sink, schema, terms.options, terms.limits) {
-        Ok(writer) => (Target::Writing(writer), Ok(())),
-        Err((kind, sink)) => (Target::Waiting(sink), Err(fault_of(What::Start, kind))),
+        Ok(writer) => (WriterState::Writing(writer), Ok(())),
+        Err((kind, sink)) => (
+            WriterState::Waiting(sink),
+            Err(fault_of(RefusedItem::Start, kind)),
+        ),
     }
 }
 
@@ -107,12 +114,13 @@ fn add<S: Sink>(
         return Err(ToolFault::Memory);
     };
     let written = writer.write(batch);
-    written.map_err(|kind| fault_of(What::Batch(before), kind))?;
+    written.map_err(|kind| fault_of(RefusedItem::Batch(before), kind))?;
     *number = next;
     Ok(())
 }
 
-/// What a writer makes of a message: of a batch its part, of others nothing.
+/// A writer's step for a message: it writes the batch messages of a batch, and nothing for other
+/// messages.
 fn take_one<S: Sink>(
     writer: &mut StreamWriter<S>,
     number: &mut usize,
@@ -129,8 +137,8 @@ fn take_one<S: Sink>(
 }
 
 impl<S: Sink> Copier<S> {
-    /// What is made of a message that the reader has just read: the first one, the schema, starts
-    /// the writer.
+    /// Handles a message that the reader has just read: the first one, the schema, starts the
+    /// writer.
     pub(crate) fn take(self, reader: &StreamReader, item: &Item) -> (Self, Result<(), ToolFault>)
         requires { failures_at (at_of S.contents S.failed self.target) < 2 ^ 64 - 1 }
         ensures takes { TakesItem self.terms.limits (options_view self.terms.options)
@@ -145,10 +153,10 @@ impl<S: Sink> Copier<S> {
             mut number,
         } = self;
         match target {
-            Target::Waiting(sink) => {
+            WriterState::Waiting(sink) => {
                 let (target, answer) = match reader.schema() {
                     Some(schema) => begin(&terms, sink, schema),
-                    None => (Target::Waiting(sink), Ok(())),
+                    None => (WriterState::Waiting(sink), Ok(())),
                 };
                 let copier = Copier {
                     terms,
@@ -157,11 +165,11 @@ impl<S: Sink> Copier<S> {
                 };
                 (copier, answer)
             }
-            Target::Writing(mut writer) => {
+            WriterState::Writing(mut writer) => {
                 let answer = take_one(&mut writer, &mut number, item);
                 let copier = Copier {
                     terms,
-                    target: Target::Writing(writer),
+                    target: WriterState::Writing(writer),
                     number,
                 };
                 (copier, answer)
@@ -194,8 +202,8 @@ impl<S: Sink> Copier<S> {
     }
 }
 
-/// Writes the end marker behind the last batch.
-pub(crate) fn close<S: Sink>(target: Target<S>) -> (Target<S>, Result<(), ToolFault>)
+/// Writes the end marker after the last batch.
+pub(crate) fn close<S: Sink>(target: WriterState<S>) -> (WriterState<S>, Result<(), ToolFault>)
     requires failed { failures_at (at_of S.contents S.failed target) < 2 ^ 64 - 1 }
     ensures closes { Closes (at_of S.contents S.failed target) result.1
         (at_of S.contents S.failed result.0) }
@@ -203,29 +211,29 @@ pub(crate) fn close<S: Sink>(target: Target<S>) -> (Target<S>, Result<(), ToolFa
         → OnOk result.1 (IsPassedOn S.is_passed_on result.0) }
 {
     match target {
-        Target::Waiting(sink) => (Target::Waiting(sink), Ok(())),
-        Target::Writing(mut writer) => {
+        WriterState::Waiting(sink) => (WriterState::Waiting(sink), Ok(())),
+        WriterState::Writing(mut writer) => {
             let finished = writer.finish();
-            let answer = finished.map_err(|kind| fault_of(What::Finish, kind));
-            (Target::Writing(writer), answer)
+            let answer = finished.map_err(|kind| fault_of(RefusedItem::Finish, kind));
+            (WriterState::Writing(writer), answer)
         }
     }
 }
 
-impl<S: Sink> Target<S> {
+impl<S: Sink> WriterState<S> {
     /// The output.
     pub(crate) fn into_sink(self) -> S
         ensures { result ≡ sink_in self }
     {
         match self {
-            Target::Waiting(sink) => sink,
-            Target::Writing(writer) => writer.into_sink(),
+            WriterState::Waiting(sink) => sink,
+            WriterState::Writing(writer) => writer.into_sink(),
         }
     }
 }
 
-/// What is told of a writer's fault.
-fn fault_of(what: What, kind: WriteFault) -> ToolFault
+/// The program's fault for a writer's fault.
+fn fault_of(what: RefusedItem, kind: WriteFault) -> ToolFault
     ensures { result ≡ fault_of what kind }
 {
     match kind {

@@ -1,11 +1,12 @@
-//! Bytes that are written, until they are taken.
+//! Written bytes that wait until they are taken.
 
 ghost use Rattle.std.specs.Prelude.{◌≡◌, ◌≤◌, [], length};
 
 use arrow_sink::{Sink, SinkFault};
 use std::alloc::Global;
 
-/// A sink that keeps what it accepts until it is taken. Its memory is used anew once all is.
+/// A sink that keeps the bytes it accepts until they are taken. Its memory is reused once all of
+/// them are.
 #[derive(Drop)]
 pub(crate) struct Outbox {
     written: Vec<u8>,
@@ -44,7 +45,7 @@ impl Sink for Outbox {
 impl Outbox {
     ghost use Rattle.arrowflow_copy.specs.Outbox.{Moves, waiting_in};
 
-    /// A sink that accepted nothing yet. It takes no memory.
+    /// A sink that has accepted nothing yet. It allocates no memory.
     pub(crate) fn new(alloc: Global) -> Outbox
         ensures waiting { waiting_in result ≡ [] }
         ensures failures { result.failures ≡ 0 }
@@ -63,7 +64,7 @@ impl Outbox {
         self.written.len() - self.start
     }
 
-    /// Moves the first bytes that wait into the room, as many as it has place for.
+    /// Moves the first bytes that wait into the buffer `room`, as many as fit.
     pub(crate) fn take(&mut self, room: &mut [u8]) -> usize
         ensures { Moves self.old room.old result self.new room.new }
     {

@@ -5,10 +5,10 @@ ghost use Rattle.std.specs.Prelude.{◌<◌, ◌-◌, ◌^◌};
 use crate::copier::Copier;
 use crate::outbox::Outbox;
 use arrow_stream_reader::{Item, StreamReader};
-use arrowflow_report::{Consumer, ToolFault, Wants};
+use arrowflow_input::{Consumer, ToolFault, Wants};
 
-/// A copy whose output gave away the first bytes that it held. To a consumer's words they are there:
-/// how it began has them.
+/// A copy whose output gave away the first bytes that it held. In the consumer's contract these
+/// bytes are still there: the record of how the copy began has them.
 #[derive(Drop)]
 pub(crate) struct PartCopier {
     pub(crate) copier: Copier<Outbox>,
@@ -20,7 +20,7 @@ impl Consumer for PartCopier {
     ghost use Rattle.arrowflow_copy.specs.Outbox.{contents_of, failed_of};
     ghost use Rattle.arrowflow_copy.specs.Parted.{PartBegan};
     ghost use Rattle.arrowflow_copy.specs.Taken.{with_taken};
-    ghost use Rattle.arrowflow_copy.specs.Target.{at_of};
+    ghost use Rattle.arrowflow_copy.specs.WriterState.{at_of};
 
     ghost Start = { PartBegan };
 

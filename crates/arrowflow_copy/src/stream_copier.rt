@@ -1,28 +1,28 @@
-//! A stream that is copied as its pieces come.
+//! Copies a stream as its pieces come.
 
 ghost use Rattle.std.specs.Prelude.{◌≡◌, ◌<◌, ◌-◌, ◌^◌, [], None, Some, length, option_map};
 ghost use Rattle.arrow_stream_writer.specs.Shown.{options_view};
 ghost use Rattle.arrowflow_copy.specs.Copying.{failures_at};
 ghost use Rattle.arrowflow_copy.specs.Copying.{waiting};
 ghost use Rattle.arrowflow_copy.specs.Outbox.{contents_of, failed_of};
-ghost use Rattle.arrowflow_copy.specs.Target.{at_of};
+ghost use Rattle.arrowflow_copy.specs.WriterState.{at_of};
 
-use crate::copier::{Copier, Target, Terms};
+use crate::copier::{Copier, CopySettings, WriterState};
 use crate::outbox::Outbox;
 use crate::part_copier::PartCopier;
 use arrow_stream_reader::StreamReader;
 use arrow_stream_writer::Options;
 use arrow_types::Limits;
-use arrowflow_report::{Consumer, Progress, ToolFault, take_piece};
+use arrowflow_input::{Consumer, Progress, ToolFault, take_piece};
 use std::alloc::Global;
 use std::mem::replace;
 
-/// A stream that is written again as its pieces come: what [`copy`](crate::copy) does with an input,
-/// for who has the bytes himself (Columnar Format, "IPC Streaming Format").
+/// A stream that is written again as its pieces come: it does what [`copy`](crate::copy) does with
+/// an input, for a caller who has the bytes (Columnar Format, "IPC Streaming Format").
 ///
-/// What is written waits until it is [taken](StreamCopier::take). So memory is bounded by a message
-/// and what waits, whatever the stream's length. How the stream is cut changes nothing of what is
-/// written.
+/// The bytes written wait until they are [taken](StreamCopier::take). So memory is bounded by a
+/// message and the waiting bytes, whatever the stream's length. The way in which the stream is cut
+/// into pieces does not change the bytes written.
 #[derive(Drop)]
 pub struct StreamCopier {
     reader: StreamReader,
@@ -37,7 +37,7 @@ impl StreamCopier {
     ghost use Rattle.arrowflow_copy.specs.Pieces.{GoesOnAt, PutsEnd, PutsPiece, TakesWritten};
     ghost use Rattle.arrowflow_copy.specs.CopierShown.{copier_view};
 
-    /// A copier to which nothing was given. It takes no memory.
+    /// A copier that was given nothing. It allocates no memory.
     pub fn new(alloc: Global, options: Options, limits: Limits) -> StreamCopier
         ensures goes_on { (copier_view result).ended ≡ None }
         ensures nothing { GoesOnAt limits (options_view options) (copier_view result) [] [] }
@@ -53,10 +53,10 @@ impl StreamCopier {
     /// read, and each batch as it comes; after an end marker the copy has ended well, and its own
     /// end marker is written.
     ///
-    /// The copy ends with the first fault: `Stream` where the stream is refused, `Refused` where the
+    /// The copy ends with the first fault: `Stream` if the stream is rejected, `Refused` if the
     /// schema, the next batch or the end marker cannot be written within the limits, `Memory` and
-    /// `Output` where an allocation failed. Then all batches before it are written, without an end
-    /// marker, or with the last two a beginning of them. Once a copy has ended nothing changes.
+    /// `Output` if an allocation failed. Then all batches before it are written, without an end
+    /// marker, or with the last two a prefix of them. Once a copy has ended nothing changes.
     pub fn put(&mut self, piece: &[u8])
         ensures { PutsPiece (copier_view self.old) piece.now (copier_view self.new) }
     {
@@ -76,8 +76,8 @@ impl StreamCopier {
         }
     }
 
-    /// Ends the stream: the end marker is written, or the fault is answered that a stream has which
-    /// ends inside a message or before a schema. Where the copy has ended nothing changes.
+    /// Ends the stream: the end marker is written, or the copy ends with the fault of a stream that
+    /// ends inside a message or before a schema. If the copy has ended nothing changes.
     pub fn end(&mut self)
         ensures { PutsEnd (copier_view self.old) (copier_view self.new) }
     {
@@ -92,22 +92,22 @@ impl StreamCopier {
         self.close(copier, answer);
     }
 
-    /// How the copy ended, or `None` while it goes on. It takes no memory.
+    /// How the copy ended, or `None` while it goes on. It allocates no memory.
     pub fn ended(&self) -> Option<&Result<(), ToolFault>>
         ensures { option_map (λ answer. answer.now) result ≡ (copier_view self.now).ended }
     {
         self.ended.as_ref()
     }
 
-    /// How many bytes are written and wait to be taken. It takes no memory.
+    /// How many bytes are written and wait to be taken. It allocates no memory.
     pub fn waiting(&self) -> usize
         ensures { result ≡ length (copier_view self.now).waiting }
     {
         self.copier.copier.target.waiting()
     }
 
-    /// Moves the first bytes that wait into the room, as many as it has place for, and answers how
-    /// many. It takes no memory.
+    /// Moves the first bytes that wait into the buffer `room`, as many as fit, and returns how
+    /// many. It allocates no memory.
     pub fn take(&mut self, room: &mut [u8]) -> usize
         ensures { TakesWritten (copier_view self.old) room.old result (copier_view self.new)
             room.new }
@@ -118,13 +118,13 @@ impl StreamCopier {
 }
 
 impl StreamCopier {
-    /// The copy, for a while in which a copy of nothing is in its place.
+    /// The copy, replaced by an empty one for a while.
     fn lend(&mut self) -> PartCopier
         ensures copier { result ≡ self.old.copier }
         ensures reader { self.new.reader ≡ self.old.reader }
         ensures ended { self.new.ended ≡ self.old.ended }
     {
-        let Terms {
+        let CopySettings {
             alloc,
             options,
             limits,
@@ -132,7 +132,7 @@ impl StreamCopier {
         replace(&mut self.copier, nothing_yet(alloc, options, limits))
     }
 
-    /// The copy has ended so.
+    /// Records the copy, which has ended with this result.
     fn close(&mut self, copier: PartCopier, answer: Result<(), ToolFault>)
         ensures copier { self.new.copier ≡ copier }
         ensures reader { self.new.reader ≡ self.old.reader }
@@ -143,7 +143,7 @@ impl StreamCopier {
     }
 }
 
-/// A copy of which nothing is written yet.
+/// A copy that has written nothing yet.
 fn nothing_yet(alloc: Global, options: Options, limits: Limits) -> PartCopier
     ensures terms { result.copier.terms
         ≡ record { alloc = alloc; options = options; limits = limits } }
@@ -151,33 +151,33 @@ fn nothing_yet(alloc: Global, options: Options, limits: Limits) -> PartCopier
     ensures number { result.copier.number ≡ 0 }
 {
     let copier = Copier {
-        terms: Terms {
+        terms: CopySettings {
             alloc,
             options,
             limits,
         },
-        target: Target::Waiting(Outbox::new(alloc)),
+        target: WriterState::Waiting(Outbox::new(alloc)),
         number: 0,
     };
     PartCopier { copier }
 }
 
-impl Target<Outbox> {
+impl WriterState<Outbox> {
     ghost use Rattle.arrowflow_copy.specs.Outbox.{Moves, waiting_in};
     ghost use Rattle.arrowflow_copy.specs.Taken.{holding};
-    ghost use Rattle.arrowflow_copy.specs.Target.{sink_in};
+    ghost use Rattle.arrowflow_copy.specs.WriterState.{sink_in};
 
     /// How many bytes wait in the output.
     fn waiting(&self) -> usize
         ensures { result ≡ length (waiting_in (sink_in self.now)) }
     {
         match self {
-            Target::Waiting(outbox) => outbox.len(),
-            Target::Writing(writer) => writer.sink().len(),
+            WriterState::Waiting(outbox) => outbox.len(),
+            WriterState::Writing(writer) => writer.sink().len(),
         }
     }
 
-    /// Moves the first bytes that wait in the output into the room.
+    /// Moves the first bytes that wait in the output into the buffer `room`.
     fn take(&mut self, alloc: Global, room: &mut [u8]) -> usize
         ensures moves { Moves (sink_in self.old) room.old result (sink_in self.new) room.new }
         ensures held { at_of contents_of failed_of self.new
@@ -185,8 +185,8 @@ impl Target<Outbox> {
             (at_of contents_of failed_of self.old) }
     {
         match self {
-            Target::Waiting(outbox) => outbox.take(room),
-            Target::Writing(writer) => {
+            WriterState::Waiting(outbox) => outbox.take(room),
+            WriterState::Writing(writer) => {
                 let mut outbox = writer.replace_sink(Outbox::new(alloc));
                 let count = outbox.take(room);
                 let _empty = writer.replace_sink(outbox);

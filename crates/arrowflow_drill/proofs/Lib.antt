@@ -1,4 +1,4 @@
 mod Streams
 mod Inputs
 mod Lined
-mod Told
+mod Reported

@@ -1,5 +1,5 @@
 pub mod Reading
-pub mod Terms
+pub mod DrillOptions
 pub mod Counts
 pub mod Lines
 pub mod Drill

@@ -1,4 +1,4 @@
--- The lines that tell of connections. (This project's own.)
+-- The lines that report connections. (Specific to this project.)
 use Rattle.std.specs.Prelude.{ℕ, ℤ, ◌+◌, List, [], ◌∷◌, ◌++◌, length, take, codes}
 use Rattle.std.specs.List.{flat_map}
 use Rattle.std.specs.Fmt.{decimal, signed_decimal}
@@ -6,39 +6,40 @@ use Rattle.arrow_data.specs.Batch.{Table}
 use Rattle.arrow_data.specs.Column.{ValueList}
 use Rattle.arrow_stream_reader.specs.Kind.{name_of}
 use Rattle.arrow_stream_laws.specs.Text.{joined}
-use Rattle.arrowflow_report.specs.Faults.{refusal_name}
-use Rattle.arrowflow_report.specs.declared.session.Ending.{Ending}
-use Rattle.arrowflow_report.specs.declared.session.Ending.TheVariants.{Clean, Fault}
-use Rattle.arrowflow_report.specs.declared.what.What.{What}
-use Rattle.arrowflow_report.specs.declared.what.What.TheVariants.{Start, Batch, Finish}
+use Rattle.arrowflow_input.specs.Faults.{refusal_name}
+use Rattle.arrowflow_input.specs.declared.session.Ending.{Ending}
+use Rattle.arrowflow_input.specs.declared.session.Ending.TheVariants.{Clean, Fault}
+use Rattle.arrowflow_input.specs.declared.what.RefusedItem.{RefusedItem}
+use Rattle.arrowflow_input.specs.declared.what.RefusedItem.TheVariants.{Start, Batch, Finish}
 use Rattle.arrowflow_session.specs.Asked.{Asked, asked_of}
-use Rattle.arrowflow_session.specs.Report.{Told, told_by}
+use Rattle.arrowflow_session.specs.Report.{Reported, reported_by}
 use Rattle.arrowflow_session.specs.declared.refusal.Refusal.{Refusal}
-use Rattle.arrowflow_session.specs.declared.session.Connection.{Connection}
+use Rattle.arrowflow_session.specs.declared.connection.Connection.{Connection}
 use Rattle.arrowflow_session.specs.declared.session.Report.{Report}
 use Rattle.arrowflow_drill.specs.Counts.{rows_in}
 
--- which connection a line is of, by its number
+-- the connection that a line belongs to, by its number
 abbrev pub line_start : ℕ → List ℕ
 line_start number = codes "connection " ++ decimal number ++ codes ": "
 
--- how many bytes were written in these parts, and how many of them, so many at most, were delivered in pieces of this length
+-- how many bytes were written in these parts, and how many of them, at most `deliver`, were delivered in pieces of
+-- this length
 unfoldable pub written_line : ℕ → List (List ℕ) → ℕ → ℕ → List ℕ
 written_line number parts deliver piece =
     line_start number ++ codes "wrote " ++ decimal (length (joined parts)) ++ codes " bytes in " ++ decimal (length parts) ++ codes " parts, delivered "
     ++ decimal (length (take deliver (joined parts))) ++ codes " in pieces of " ++ decimal piece ++ codes "\n"
 
--- which of the writer's calls was refused
-abbrev pub call_name : What → List ℕ
+-- which of the writer's calls was rejected
+abbrev pub call_name : RefusedItem → List ℕ
 call_name Start = codes "start"
 call_name (Batch number) = codes "batch " ++ decimal number
 call_name Finish = codes "end"
 
--- what the writer refused, and why
+-- what the writer rejected, and why
 unfoldable pub refusal_line : ℕ → Refusal → List ℕ
 refusal_line number refusal = line_start number ++ call_name refusal.what ++ codes " refused: " ++ refusal_name refusal.kind ++ codes "\n"
 
--- how many batches the reader handed out, of so many, and how many rows these have
+-- how many of `count` batches the reader delivered, and how many rows these have
 unfoldable pub handed_line : ℕ → List Table → ℕ → List ℕ
 handed_line number handed count =
     line_start number ++ codes "handed out " ++ decimal (length handed) ++ codes " of " ++ decimal count ++ codes " batches, " ++ decimal (rows_in handed) ++ codes " rows\n"
@@ -65,14 +66,15 @@ ending_text (Fault fault) = name_of fault.kind ++ codes " at " ++ decimal fault.
 unfoldable pub ending_line : ℕ → Ending → List ℕ
 ending_line number ending = line_start number ++ codes "ending " ++ ending_text ending ++ codes "\n"
 
--- The lines of the connection of this number, of which this was asked and told: it was delivered in pieces of this length.
-abbrev pub connection_lines : ℕ → ℕ → Asked → Told → List ℕ
+-- The lines of the connection of this number, for this request and this report: it was delivered in pieces of this
+-- length.
+abbrev pub connection_lines : ℕ → ℕ → Asked → Reported → List ℕ
 connection_lines piece number c r =
     written_line number r.parts c.deliver piece ++ flat_map (refusal_line number) r.refused ++ handed_line number r.handed (length c.batches)
     ++ dictionaries_line number r.reader_dictionaries r.writer_dictionaries ++ ending_line number r.ending
 
--- the lines of connections with their reports, one behind the other, the first of which has this number
+-- the lines of connections with their reports, one after the other, the first of which has this number
 abbrev pub lines_from : ℕ → ℕ → List Connection → List Report → List ℕ
 lines_from piece number [] rs = []
 lines_from piece number (c ∷ cs) [] = []
-lines_from piece number (c ∷ cs) (r ∷ rs) = connection_lines piece number (asked_of c) (told_by r) ++ lines_from piece (number + 1) cs rs
+lines_from piece number (c ∷ cs) (r ∷ rs) = connection_lines piece number (asked_of c) (reported_by r) ++ lines_from piece (number + 1) cs rs

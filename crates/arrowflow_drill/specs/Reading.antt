@@ -6,37 +6,38 @@ use Rattle.arrow_types.specs.Limits.{LimitNumbers}
 use Rattle.arrow_types.specs.Notes.{SchemaShape}
 use Rattle.arrow_data.specs.Batch.{Table}
 use Rattle.arrow_stream_reader.specs.declared.fault.Fault.{Fault}
-use Rattle.arrow_stream_reader.specs.Front.{Entry, Standing, FrontOf}
+use Rattle.arrow_stream_reader.specs.Front.{Entry, Snapshot, FrontOf}
 use Rattle.arrow_stream_reader.specs.Tables.{tables_of}
 use Rattle.arrow_stream_laws.specs.Sizes.{Options}
 use Rattle.arrowflow_session.specs.Asked.{Asked, asked_of}
-use Rattle.arrowflow_session.specs.declared.session.Connection.{Connection}
-use Rattle.arrowflow_report.specs.Reads.{IsReadWhile}
-use Rattle.arrowflow_report.specs.Reports.{EndsBadly, EndsWell, IsOpenAt}
-use Rattle.arrowflow_report.specs.declared.tool_fault.ToolFault.{ToolFault}
-use Rattle.arrowflow_report.specs.declared.tool_fault.ToolFault.TheVariants.{Input, Output, Stream, Refused, Memory}
+use Rattle.arrowflow_session.specs.declared.connection.Connection.{Connection}
+use Rattle.arrowflow_input.specs.Reads.{IsReadWhile}
+use Rattle.arrowflow_input.specs.Endings.{EndsBadly, EndsWell, IsOpenAt}
+use Rattle.arrowflow_input.specs.declared.tool_fault.ToolFault.{ToolFault}
+use Rattle.arrowflow_input.specs.declared.tool_fault.ToolFault.TheVariants.{Input, Output, Stream, Refused, Memory}
 
 -- ---- a stream
 
 -- These bytes are a stream that ends well, of this schema and these batches.
 pub record IsWhole (limits : LimitNumbers) (bytes : List ℕ) (left : Option (List ℕ)) (schema : Option SchemaShape) (batches : List Table) : Type 0 where
   pub entries : List Entry
-  pub standing : Standing
-  pub front : FrontOf limits bytes entries standing
-  pub ends : EndsWell left standing
-  pub schema_is : schema ≡ standing.state.schema
+  pub snapshot : Snapshot
+  pub front : FrontOf limits bytes entries snapshot
+  pub ends : EndsWell left snapshot
+  pub schema_is : schema ≡ snapshot.state.schema
   pub batches_are : batches ≡ tables_of entries
 
--- They are a stream that is refused, or ends too early, by this fault.
+-- They are a stream that is rejected, or ends too early, with this fault.
 pub record IsRefusedStream (limits : LimitNumbers) (bytes : List ℕ) (left : Option (List ℕ)) (fault : Fault) : Type 0 where
   pub entries : List Entry
-  pub standing : Standing
-  pub front : FrontOf limits bytes entries standing
-  pub ends : EndsBadly left standing fault
+  pub snapshot : Snapshot
+  pub front : FrontOf limits bytes entries snapshot
+  pub ends : EndsBadly left snapshot fault
 
 -- ---- connections
 
--- how streams are read, and what is asked of their connections besides: how they are sent, and how many bytes are delivered
+-- how streams are read, and the further requests for their connections: how they are sent, and how many bytes are
+-- delivered
 pub record Asks : Type 0 where
   pub limits : LimitNumbers
   pub options : Options
@@ -49,7 +50,8 @@ pub record IsConnectionOf (asks : Asks) (bytes : List ℕ) (left : Option (List 
   pub finishes : c.finish ≡ true
   pub delivers : c.deliver ≡ asks.deliver
 
--- What comes of the input of this number. Of faults a failed read is the input's alone, and comes only where it has failed.
+-- The result for the input of this number. The only fault that belongs to the input itself is a failed read, which
+-- occurs only if the input has failed.
 abbrev pub Brings : Asks → ℕ → List ℕ → Option (List ℕ) → Type 0 → Result Asked ToolFault → Type 0
 Brings asks number bytes left failed (Ok c) = IsConnectionOf asks bytes left c
 Brings asks number bytes left failed (Err (Stream fault)) = IsRefusedStream asks.limits bytes left fault
@@ -58,12 +60,12 @@ Brings asks number bytes left failed (Err Memory) = ⊤
 Brings asks number bytes left failed (Err Output) = ⊥
 Brings asks number bytes left failed (Err (Refused what kind)) = ⊥
 
--- the same of one that had these bytes before and has these after it
+-- the same for an input that had these bytes before and has these after it
 abbrev pub IsRead : Asks → ℕ → Option (List ℕ) → Option (List ℕ) → Type 0 → Result Asked ToolFault → Type 0
 IsRead asks number had left failed answer =
     (bytes : List ℕ) × Consumes had left bytes × IsReadWhile (IsOpenAt asks.limits) bytes × Brings asks number bytes left failed answer
 
--- a fault as that of the input of this number
+-- a fault as a fault of the input of this number
 abbrev pub of_input : ℕ → ToolFault → ToolFault
 of_input number (Input n) = Input number
 of_input number Output = Output
@@ -71,13 +73,13 @@ of_input number (Stream fault) = Stream fault
 of_input number (Refused what kind) = Refused what kind
 of_input number Memory = Memory
 
--- what is asked of the connection that came of an input, or its fault
+-- the request for the connection that was made of an input, or its fault
 abbrev pub asked_in : Result Connection ToolFault → Result Asked ToolFault
 asked_in (Ok c) = Ok (asked_of c)
 asked_in (Err fault) = Err fault
 
--- The inputs from this number on, of which each had bytes before and has bytes after it, were read one after another, each as a
--- connection.
+-- The inputs from this number on, each of which had bytes before and has bytes after it, were read one after another,
+-- each as a connection.
 abbrev pub AreRead : {R : Type 0} → (R → Option (List ℕ)) → (R → Type 0) → Asks → ℕ → List R → List R → List Asked → Type 0
 AreRead remaining has_failed asks number [] [] [] = Unit {0}
 AreRead remaining has_failed asks number [] [] (c ∷ cs) = ⊥
@@ -87,7 +89,8 @@ AreRead remaining has_failed asks number (had ∷ hads) (left ∷ lefts) [] = �
 AreRead remaining has_failed asks number (had ∷ hads) (left ∷ lefts) (c ∷ cs) =
     IsRead asks number (remaining had) (remaining left) (has_failed left) (Ok c) × AreRead remaining has_failed asks (number + 1) hads lefts cs
 
--- One of them ended it with this fault: those before it were read as connections, those after it not at all.
+-- One of them ended the reading with this fault: those before it were read as connections, those after it were not
+-- read.
 abbrev pub EndsReading : {R : Type 0} → (R → Option (List ℕ)) → (R → Type 0) → Asks → ℕ → List R → List R → ToolFault → Type 0
 EndsReading remaining has_failed asks number [] lefts fault = ⊥
 EndsReading remaining has_failed asks number (had ∷ hads) [] fault = ⊥
@@ -95,7 +98,7 @@ EndsReading remaining has_failed asks number (had ∷ hads) (left ∷ lefts) fau
     (IsRead asks number (remaining had) (remaining left) (has_failed left) (Err fault) × (lefts ≡ hads))
     ⊎ (((c : Asked) × IsRead asks number (remaining had) (remaining left) (has_failed left) (Ok c)) × EndsReading remaining has_failed asks (number + 1) hads lefts fault)
 
--- What comes of all inputs. Want of memory may end it at any time.
+-- The result for all inputs. A failed allocation may end it at any time.
 abbrev pub ReadsAll : {R : Type 0} → (R → Option (List ℕ)) → (R → Type 0) → Asks → List R → List R → Result (List Asked) ToolFault → Type 0
 ReadsAll remaining has_failed asks hads lefts (Ok cs) = AreRead remaining has_failed asks 0 hads lefts cs
 ReadsAll remaining has_failed asks hads lefts (Err (Stream fault)) = EndsReading remaining has_failed asks 0 hads lefts (Stream fault)
@@ -104,7 +107,7 @@ ReadsAll remaining has_failed asks hads lefts (Err Memory) = ⊤
 ReadsAll remaining has_failed asks hads lefts (Err Output) = ⊥
 ReadsAll remaining has_failed asks hads lefts (Err (Refused what kind)) = ⊥
 
--- what is asked of the connections that came of all inputs, or the fault
+-- the requests for the connections that were made of all inputs, or the fault
 abbrev pub all_asked_in : Result (Vec Connection Global) ToolFault → Result (List Asked) ToolFault
 all_asked_in (Ok cs) = Ok (map asked_of cs.items)
 all_asked_in (Err fault) = Err fault

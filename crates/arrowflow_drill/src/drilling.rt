@@ -1,4 +1,4 @@
-//! Connections rehearsed, and what is told of them.
+//! Connections rehearsed, and the report about them.
 
 ghost use Rattle.std.specs.Prelude.{◌≡◌, ◌^◌, ◌≤◌, IfOk, length, string_bytes};
 ghost use Rattle.arrowflow_session.specs.Report.{Reports};
@@ -7,24 +7,25 @@ ghost use Rattle.arrowflow_drill.specs.Drill.{AskTheSame, Drills};
 ghost use Rattle.arrowflow_drill.specs.Lines.{lines_from};
 
 use crate::lines::{Outcome, push_connection, size_of};
-use crate::reading::{Terms, read_all};
+use crate::reading::{DrillOptions, read_all};
 use arrow_types::Limits;
-use arrowflow_report::{Input, ToolFault};
+use arrowflow_input::{Input, ToolFault};
 use arrowflow_session::session::{Connection, Options, Report, run};
 use std::alloc::{AllocError, Global};
 
-/// Reads each input as one connection, writes its batches again, with an end marker, as the options
-/// say, delivers the first so many bytes of it in pieces of a length, and tells what came of it
-/// (Columnar Format, "IPC Streaming Format"). By a length of 0 they are one piece.
+/// Reads each input as a connection, writes its batches again, with an end marker, according to the
+/// options, delivers the first `bytes` bytes of it in pieces of length `piece`, and returns a text
+/// about the result (Columnar Format, "IPC Streaming Format"). With a length of 0 they are one
+/// piece.
 ///
 /// The inputs are read one after the other, in pieces of 65,536 bytes, each up to an end marker or
-/// to its end. The first that cannot be read or is refused ends it, before anything is sent:
-/// `Input` with its number from 0 where a read failed, an interrupted one included; `Stream` where
-/// the stream is refused, or where it ends without being at the end of a message after its schema.
-/// `Memory` where an allocation failed. What a writer refuses, and how the connections end, is no
-/// fault: the text tells of it, line by line (`specs/Lines.antt`).
+/// to its end. The first that cannot be read or is rejected ends the drill, before anything is
+/// sent: `Input` with its number from 0 if a read failed, including an interrupted one; `Stream` if
+/// the stream is rejected, or if it ends without being at the end of a message after its schema.
+/// `Memory` if an allocation failed. A rejection by a writer, and the way in which the connections
+/// end, are not faults: the text reports them, line by line (`specs/Lines.antt`).
 ///
-/// All batches of all inputs are held, and what is sent of them.
+/// All batches of all inputs are held in memory, and everything that is sent of them.
 pub fn drill<R: Input>(
     alloc: Global,
     inputs: &mut [R],
@@ -39,7 +40,7 @@ pub fn drill<R: Input>(
       deliver = bytes;
     }) piece inputs.old inputs.new result }
 {
-    let terms = Terms {
+    let terms = DrillOptions {
         alloc,
         limits: *limits,
         options,
@@ -50,8 +51,8 @@ pub fn drill<R: Input>(
     Ok(text_of(alloc, &connections, &reports, piece)?)
 }
 
-/// Runs connections in pieces of this length. A first run, in one piece, tells how many there are
-/// of them.
+/// Runs connections in pieces of this length. A first run, in one piece, determines how many pieces
+/// there are.
 fn rehearse(
     alloc: Global,
     limits: &Limits,
@@ -66,8 +67,8 @@ fn rehearse(
     run(alloc, limits, connections)
 }
 
-/// Has each connection delivered in pieces of this length. The reports tell how many bytes there
-/// are of it.
+/// Has each connection delivered in pieces of this length. The reports give the number of its
+/// bytes.
 fn cut_up(
     alloc: Global,
     connections: &mut [Connection],
@@ -84,8 +85,8 @@ fn cut_up(
     Ok(())
 }
 
-/// The lengths of the pieces of so many bytes, but for the last one. Pieces of no bytes would never
-/// give all of them: so by a length of 0 they are one piece.
+/// The lengths of the pieces of `bytes` bytes, except for the last one. Pieces of no bytes would
+/// never deliver all of them: so with a length of 0 they are one piece.
 fn cuts(alloc: Global, bytes: u64, piece: u64) -> Result<Vec<usize>, AllocError> {
     let count = bytes.saturating_sub(1).checked_div(piece).unwrap_or(0);
     Vec::from_elem(alloc, piece as usize, count as usize)

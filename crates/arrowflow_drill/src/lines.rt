@@ -1,10 +1,10 @@
-//! The lines that tell of connections.
+//! The lines that report connections.
 
 ghost use Rattle.std.specs.Prelude.{◌≡◌, ◌++◌, IfOk, OnOk, length, string_bytes};
 ghost use Rattle.std.specs.List.{flat_map};
-ghost use Rattle.arrowflow_report.specs.Faults.{refusal_name};
+ghost use Rattle.arrowflow_input.specs.Faults.{refusal_name};
 ghost use Rattle.arrowflow_session.specs.Asked.{asked_of};
-ghost use Rattle.arrowflow_session.specs.Report.{told_by};
+ghost use Rattle.arrowflow_session.specs.Report.{reported_by};
 ghost use Rattle.arrowflow_drill.specs.Counts.{bytes_in, rows_in};
 ghost use Rattle.arrowflow_drill.specs.Lines.{call_name, connection_lines, dictionaries_line};
 ghost use Rattle.arrowflow_drill.specs.Lines.{ending_line, ending_text, entries_text, entry_text};
@@ -12,12 +12,12 @@ ghost use Rattle.arrowflow_drill.specs.Lines.{handed_line, refusal_line, written
 
 use arrow_data::{Batch, Dictionary};
 use arrow_sink::WriteFault;
-use arrowflow_report::session::Ending;
-use arrowflow_session::session::{Connection, Refusal, Report, What};
+use arrowflow_input::session::Ending;
+use arrowflow_session::session::{Connection, Refusal, RefusedItem, Report};
 use std::alloc::AllocError;
 use std::fmt::Write;
 
-/// A connection that was run, and what came of it.
+/// A connection that was run, and its result.
 #[derive(Clone, Copy)]
 pub(crate) struct Outcome<'a> {
     pub(crate) connection: &'a Connection,
@@ -34,7 +34,7 @@ pub(crate) fn push_connection(
 ) -> Result<(), AllocError>
     ensures { OnOk result (string_bytes text.new ≡ string_bytes text.old
         ++ connection_lines piece number (asked_of outcome.entry.connection.now)
-        (told_by outcome.entry.report.now)) }
+        (reported_by outcome.entry.report.now)) }
 {
     let Outcome { connection, report } = outcome;
     push_written(text, number, report, (connection.deliver, piece))?;
@@ -44,7 +44,7 @@ pub(crate) fn push_connection(
     push_ending(text, number, report.received.ending)
 }
 
-/// Appends how much was written, and how much of it delivered in pieces of which length.
+/// Appends how much was written, how much of it was delivered, and in pieces of which length.
 fn push_written(
     text: &mut String,
     number: usize,
@@ -52,7 +52,7 @@ fn push_written(
     delivery: (u64, u64),
 ) -> Result<(), AllocError>
     ensures { OnOk result (string_bytes text.new ≡ string_bytes text.old
-        ++ written_line number (told_by report.now).parts delivery.0 delivery.1) }
+        ++ written_line number (reported_by report.now).parts delivery.0 delivery.1) }
 {
     let size = size_of(&report.parts)?;
     let parts = report.parts.len();
@@ -65,7 +65,7 @@ fn push_written(
     write!(text, "delivered {delivered} in pieces of {piece}\n")
 }
 
-/// How many bytes there are in all.
+/// The total number of bytes.
 pub(crate) fn size_of(parts: &[Vec<u8>]) -> Result<u64, AllocError>
     ensures { IfOk result (λ size. size ≡ bytes_in parts.now) }
 {
@@ -79,10 +79,10 @@ pub(crate) fn size_of(parts: &[Vec<u8>]) -> Result<u64, AllocError>
     Ok(size)
 }
 
-/// Appends a line for each refusal.
+/// Appends a line for each rejection.
 fn push_refusals(text: &mut String, number: usize, report: &Report) -> Result<(), AllocError>
     ensures { OnOk result (string_bytes text.new ≡ string_bytes text.old
-        ++ flat_map (refusal_line number) (told_by report.now).refused) }
+        ++ flat_map (refusal_line number) (reported_by report.now).refused) }
 {
     for refusal in &report.refused {
         push_refusal(text, number, *refusal)?;
@@ -90,7 +90,7 @@ fn push_refusals(text: &mut String, number: usize, report: &Report) -> Result<()
     Ok(())
 }
 
-/// Appends what the writer refused.
+/// Appends what the writer rejected.
 fn push_refusal(text: &mut String, number: usize, refusal: Refusal) -> Result<(), AllocError>
     ensures { OnOk result (string_bytes text.new ≡ string_bytes text.old
         ++ refusal_line number refusal) }
@@ -100,18 +100,18 @@ fn push_refusal(text: &mut String, number: usize, refusal: Refusal) -> Result<()
     write!(text, " refused: {}\n", refusal_name(refusal.kind))
 }
 
-/// Appends which of the writer's calls was refused.
-fn push_call(text: &mut String, what: What) -> Result<(), AllocError>
+/// Appends which of the writer's calls was rejected.
+fn push_call(text: &mut String, what: RefusedItem) -> Result<(), AllocError>
     ensures { OnOk result (string_bytes text.new ≡ string_bytes text.old ++ call_name what) }
 {
     match what {
-        What::Start => text.push_str("start"),
-        What::Batch(batch) => write!(text, "batch {batch}"),
-        What::Finish => text.push_str("end"),
+        RefusedItem::Start => text.push_str("start"),
+        RefusedItem::Batch(batch) => write!(text, "batch {batch}"),
+        RefusedItem::Finish => text.push_str("end"),
     }
 }
 
-/// The name of a writer's refusal.
+/// The name of a writer's rejection.
 fn refusal_name(kind: WriteFault) -> &'static str
     ensures { result.now ≡ refusal_name kind }
 {
@@ -126,7 +126,7 @@ fn refusal_name(kind: WriteFault) -> &'static str
     }
 }
 
-/// Appends how much the reader handed out of these batches.
+/// Appends how much the reader delivered of these batches.
 fn push_handed(
     text: &mut String,
     number: usize,
@@ -134,7 +134,7 @@ fn push_handed(
     batches: &[Batch],
 ) -> Result<(), AllocError>
     ensures { OnOk result (string_bytes text.new ≡ string_bytes text.old
-        ++ handed_line number (told_by report.now).handed (length batches.now)) }
+        ++ handed_line number (reported_by report.now).handed (length batches.now)) }
 {
     let rows = rows_of(&report.received.handed)?;
     let handed = report.received.handed.len();
@@ -146,7 +146,7 @@ fn push_handed(
     write!(text, "{rows} rows\n")
 }
 
-/// How many rows there are in all.
+/// The total number of rows.
 fn rows_of(batches: &[Batch]) -> Result<u64, AllocError>
     ensures { IfOk result (λ rows. rows ≡ rows_in batches.now) }
 {
@@ -163,8 +163,8 @@ fn rows_of(batches: &[Batch]) -> Result<u64, AllocError>
 /// Appends the dictionaries of both ends.
 fn push_dictionaries(text: &mut String, number: usize, report: &Report) -> Result<(), AllocError>
     ensures { OnOk result (string_bytes text.new ≡ string_bytes text.old
-        ++ dictionaries_line number (told_by report.now).reader_dictionaries
-        (told_by report.now).writer_dictionaries) }
+        ++ dictionaries_line number (reported_by report.now).reader_dictionaries
+        (reported_by report.now).writer_dictionaries) }
 {
     write!(text, "connection {number}: dictionaries reader ")?;
     push_entries(text, &report.received.reader_dictionaries)?;

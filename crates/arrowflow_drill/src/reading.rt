@@ -1,20 +1,20 @@
 //! Inputs read as connections.
 
 ghost use Rattle.std.specs.Prelude.{◌≡◌, MatchResult, None};
-ghost use Rattle.arrowflow_report.specs.declared.tool_fault.ToolFault.TheVariants.{Memory};
+ghost use Rattle.arrowflow_input.specs.declared.tool_fault.ToolFault.TheVariants.{Memory};
 ghost use Rattle.arrowflow_drill.specs.Reading.{IsRead, ReadsAll, all_asked_in, asked_in, of_input};
-ghost use Rattle.arrowflow_drill.specs.Terms.{IsMadeOf, asks_of};
+ghost use Rattle.arrowflow_drill.specs.DrillOptions.{IsMadeOf, asks_of};
 
 use arrow_data::Batch;
 use arrow_stream_reader::StreamReader;
 use arrow_types::Limits;
-use arrowflow_report::{Input, ToolFault, drive};
+use arrowflow_input::{Input, ToolFault, drive};
 use arrowflow_session::session::{Connection, Options};
 use std::alloc::Global;
 
-/// How inputs are read, and what is asked of their connections.
+/// How inputs are read, and the requests for their connections.
 #[derive(Drop)]
-pub(crate) struct Terms {
+pub(crate) struct DrillOptions {
     pub(crate) alloc: Global,
     pub(crate) limits: Limits,
     pub(crate) options: Options,
@@ -23,9 +23,9 @@ pub(crate) struct Terms {
 }
 
 /// Reads the inputs one after the other, each as a connection. The first that cannot be read or is
-/// refused ends it.
+/// rejected ends the reading.
 pub(crate) fn read_all<R: Input>(
-    terms: &Terms,
+    terms: &DrillOptions,
     inputs: &mut [R],
 ) -> Result<Vec<Connection>, ToolFault>
     ensures { ReadsAll R.remaining R.has_failed (asks_of terms.now) inputs.old inputs.new
@@ -40,7 +40,11 @@ pub(crate) fn read_all<R: Input>(
 }
 
 /// Reads the input of this number as a connection with an end marker, delivered in one piece.
-fn read_one<R: Input>(terms: &Terms, number: u64, input: &mut R) -> Result<Connection, ToolFault>
+fn read_one<R: Input>(
+    terms: &DrillOptions,
+    number: u64,
+    input: &mut R,
+) -> Result<Connection, ToolFault>
     ensures { IsRead (asks_of terms.now) number (R.remaining input.old) (R.remaining input.new)
         (R.has_failed input.new) (asked_in result) }
 {
@@ -53,7 +57,7 @@ fn read_one<R: Input>(terms: &Terms, number: u64, input: &mut R) -> Result<Conne
 
 /// The connection of a stream that was read to its end.
 fn connection_of(
-    terms: &Terms,
+    terms: &DrillOptions,
     reader: &StreamReader,
     batches: Vec<Batch>,
 ) -> Result<Connection, ToolFault>
@@ -72,7 +76,7 @@ fn connection_of(
     })
 }
 
-/// A fault as that of the input of this number.
+/// A fault as a fault of the input of this number.
 fn of_input(number: u64, fault: ToolFault) -> ToolFault
     ensures { result ≡ of_input number fault }
 {

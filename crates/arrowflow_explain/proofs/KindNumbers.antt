@@ -1,4 +1,4 @@
--- Kinds of one number are the same.
+-- Two kinds with the same number are equal.
 use Rattle.std.proofs.Common.{◌≡◌, ◌-◌, List, [], ◌∷◌, ℕ, Option, Some, refl, sym, ap, ◌∙◌}
 use Rattle.std.specs.List.{slice_get}
 use Rattle.std.proofs.lemmas.Option.{same_Some}
@@ -30,11 +30,11 @@ all =
     ∷ kinds.Memory
     ∷ []
 
--- the kind of a number
+-- the kind with this number
 kind_at : ℕ → Option Kind
 kind_at n = slice_get all (n - 1)
 
--- each kind is that of its number
+-- each kind is the one at its number
 listed : (k : Kind) → kind_at (number_of k) ≡ Some k
 unfolding kind_at all
 listed kinds.Continuation = refl
@@ -57,6 +57,6 @@ listed kinds.NoSchema = refl
 listed kinds.Truncated = refl
 listed kinds.Memory = refl
 
--- two kinds of one number are the same
+-- two kinds with the same number are equal
 pub same_kind : (a b : Kind) → number_of a ≡ number_of b → a ≡ b
 same_kind a b e = same_Some a b (sym (listed a) ∙ ap kind_at e ∙ listed b)

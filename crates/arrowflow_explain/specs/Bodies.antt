@@ -1,4 +1,5 @@
--- What is found of a body: of a batch's nodes and buffers, and of the body's bytes (Message.fbs, table "RecordBatch").
+-- The findings in a body: in a batch's nodes and buffers, and in the bytes of the body (Message.fbs, table
+-- "RecordBatch").
 use Rattle.std.specs.Prelude.{◌≡◌, ◌≤◌, ◌<◌, ◌+◌, ◌*◌, ◌/◌, ◌⊎◌, ◌==◌, if◌then◌else◌, ℕ, ℤ, pos, List, length, take, drop, slice_get, slice_range, Some, IsUtf8}
 use Rattle.arrow_types.specs.declared.node.Buffer.{Buffer}
 use Rattle.arrow_types.specs.declared.node.FieldNode.{FieldNode}
@@ -15,17 +16,18 @@ use Rattle.arrowflow_explain.specs.declared.finding.Finding.TheVariants.{NodeMis
 use Rattle.arrowflow_explain.specs.declared.finding.Need.{Need}
 use Rattle.arrowflow_explain.specs.declared.finding.Need.TheVariants as needs
 
--- how many bytes so many slots need (Columnar Format, "Buffer Listing for Each Layout")
+-- the number of bytes that this many slots need (Columnar Format, "Buffer Listing for Each Layout")
 abbrev pub needed_bytes : Need → ℕ → ℕ
 needed_bytes needs.Bits slots = (slots + 7) / 8
 needed_bytes (needs.Bytes width) slots = slots * width
 needed_bytes (needs.Offsets width) slots = (slots + 1) * width
 
--- The batch's node of this index has so many slots.
+-- The batch's node with this index has this many slots.
 abbrev pub HasSlots : PlainBatch → ℕ → ℤ → Type 0
 HasSlots batch node slots = (n : FieldNode) × (slice_get batch.nodes node ≡ Some n) × (n.length ≡ slots)
 
--- The batch's buffer of this index lies in the body, from this byte on. Where an empty one is does not matter.
+-- The batch's buffer with this index lies in the body, from this byte on. The offset of an empty buffer does not
+-- matter.
 pub record LiesIn (body : List ℕ) (batch : PlainBatch) (index start count : ℕ) : Type 0 where
   pub buffer : Buffer
   pub is : slice_get batch.buffers index ≡ Some buffer
@@ -33,7 +35,7 @@ pub record LiesIn (body : List ℕ) (batch : PlainBatch) (index start count : �
   pub starts : 0 < count → buffer.offset ≡ pos start
   pub inside : start + count ≤ length body
 
--- The buffer of this index has these numbers for the slot and for the one after it, all of one number of bytes.
+-- The buffer with this index has these numbers for the slot and for the next one, both of the same width in bytes.
 pub record HasPair (body : List ℕ) (batch : PlainBatch) (buffer slot : ℕ) (pair : ℕ × ℕ) : Type 0 where
   pub start : ℕ
   pub count : ℕ
@@ -42,14 +44,15 @@ pub record HasPair (body : List ℕ) (batch : PlainBatch) (buffer slot : ℕ) (p
   pub own : number_at width body (start + slot * width) ≡ Some pair.0
   pub next : number_at width body (start + slot * width + width) ≡ Some pair.1
 
--- the least number of so many bytes that is negative with a sign
+-- the least number of this many bytes that is negative when read as signed
 abbrev pub half_of : ℕ → ℕ
 half_of width =
     if width == 1 then 128 else
     (if width == 2 then 32768 else
     (if width == 4 then 2147483648 else 9223372036854775808))
 
--- The buffer of this index has this number for the slot, which is negative or not below the number of values.
+-- The buffer with this index has this number for the slot, and the number is negative or not below the number of
+-- values.
 pub record HasBadIndex (body : List ℕ) (batch : PlainBatch) (buffer slot index values : ℕ) : Type 0 where
   pub start : ℕ
   pub count : ℕ
@@ -58,17 +61,17 @@ pub record HasBadIndex (body : List ℕ) (batch : PlainBatch) (buffer slot index
   pub is : number_at width body (start + slot * width) ≡ Some index
   pub bad : (values ≤ index) ⊎ (half_of width ≤ index)
 
--- The body has bytes from one place up to another, and they are not UTF-8.
+-- The body has bytes from one offset up to another, and they are not UTF-8.
 pub record IsBadText (body : List ℕ) (start end : ℕ) : Type 0 where
   pub order : start ≤ end
   pub inside : end ≤ length body
   pub not_text : IsUtf8 (slice_range body start end) → ⊥
 
--- The batch's node of this index has a slot of this index.
+-- The batch's node with this index has a slot with this index.
 abbrev pub HasSlot : PlainBatch → ℕ → ℕ → Type 0
 HasSlot batch node slot = (slots : ℕ) × HasSlots batch node (pos slots) × (slot < slots)
 
--- The finding holds of the node of this index, in a batch whose body has these bytes.
+-- The finding holds for the node with this index, in a batch whose body has these bytes.
 abbrev pub FindingHolds : Finding → ℕ → PlainBatch → List ℕ → Type 0
 FindingHolds (NodeMissing nodes) node batch body = (length batch.nodes ≡ nodes) × (nodes ≤ node)
 FindingHolds (BufferMissing buffers) node batch body = length batch.buffers ≡ buffers
@@ -84,7 +87,7 @@ FindingHolds (Text buffer slot start end) node batch body =
     HasSlot batch node slot × IsBadText body start end
 FindingHolds (Index buffer slot index values) node batch body = HasSlot batch node slot × HasBadIndex body batch buffer slot index values
 
--- The metadata of the message mean this batch, and these are the bytes of its body.
+-- The metadata of the message decode to this batch, and these are the bytes of its body.
 pub record HasBody (s : Situation) (batch : PlainBatch) (body : List ℕ) : Type 0 where
   pub header : PlainHeader
   pub announced : Announces s header
@@ -92,7 +95,7 @@ pub record HasBody (s : Situation) (batch : PlainBatch) (body : List ℕ) : Type
   pub size : body_length s.bytes ≡ Some (length body)
   pub bytes : body ≡ take (length body) (drop (8 + size_at s.bytes 4) s.bytes)
 
--- What is said of a place in the body of a message holds.
+-- The statement of a body spot about the body of a message holds.
 pub record SpotHolds (spot : BodySpot) (s : Situation) : Type 0 where
   pub batch : PlainBatch
   pub body : List ℕ

@@ -1,15 +1,15 @@
--- How a call ends that counts all messages of a stream.
+-- How a call that counts all messages of a stream ends.
 use Rattle.std.specs.Prelude.{◌≡◌, ℕ, List, Option, Result, Ok, Err}
 use Rattle.arrow_stream_reader.specs.Front.{Entry}
-use Rattle.arrow_stream_reader.specs.Stream.{ReaderView, ReaderStands}
-use Rattle.arrowflow_report.specs.Reports.{EndsWell}
-use Rattle.arrowflow_report.specs.declared.tool_fault.ToolFault.{ToolFault}
-use Rattle.arrowflow_report.specs.declared.tool_fault.ToolFault.TheVariants.{Memory}
+use Rattle.arrow_stream_reader.specs.Stream.{ReaderView, IsReaderAt}
+use Rattle.arrowflow_input.specs.Endings.{EndsWell}
+use Rattle.arrowflow_input.specs.declared.tool_fault.ToolFault.{ToolFault}
+use Rattle.arrowflow_input.specs.declared.tool_fault.ToolFault.TheVariants.{Memory}
 
--- The reader is at these bytes, and their stream ended well.
+-- The reader has read these bytes, and their stream ended well.
 pub record HasEndedWell (r : ReaderView) (bytes : List ℕ) (left : Option (List ℕ)) : Type 0 where
   pub entries : List Entry
-  pub stands : ReaderStands r bytes entries
+  pub position : IsReaderAt r bytes entries
   pub well : EndsWell left r.at
 
 -- a stream that ended well, or an allocation that failed

@@ -1,43 +1,43 @@
--- What is answered when an input is explained.
+-- The result of explaining an input.
 use Rattle.std.specs.Prelude.{◌≡◌, ℕ, List, ◌++◌, Option, Result, Ok, Err, ⊤, IfSome}
 use Rattle.std.specs.Io.KnownBytes.{Consumes}
 use Rattle.arrow_types.specs.Limits.{LimitNumbers}
 use Rattle.arrow_stream_reader.specs.declared.fault.Fault.{Fault}
 use Rattle.arrow_stream_reader.specs.declared.reader.Verdict.TheVariants.{Open, Done}
-use Rattle.arrow_stream_reader.specs.Front.{Entry, Standing}
-use Rattle.arrow_stream_reader.specs.Stream.{ReaderView, ReaderStands}
-use Rattle.arrowflow_report.specs.Quiet.{Checks, LeavesStream}
-use Rattle.arrowflow_report.specs.Reads.{IsReadWhile}
-use Rattle.arrowflow_report.specs.Reports.{EndsBadly, IsBadBy, IsOpenAt}
-use Rattle.arrowflow_report.specs.declared.driver.Progress.{Progress}
-use Rattle.arrowflow_report.specs.declared.driver.Progress.TheVariants.{GoesOn, Marker, Stopped}
-use Rattle.arrowflow_report.specs.declared.tool_fault.ToolFault.{ToolFault}
-use Rattle.arrowflow_report.specs.declared.tool_fault.ToolFault.TheVariants.{Input, Output, Stream, Refused, Memory}
+use Rattle.arrow_stream_reader.specs.Front.{Entry, Snapshot}
+use Rattle.arrow_stream_reader.specs.Stream.{ReaderView, IsReaderAt}
+use Rattle.arrowflow_input.specs.Quiet.{Checks, LeavesStream}
+use Rattle.arrowflow_input.specs.Reads.{IsReadWhile}
+use Rattle.arrowflow_input.specs.Endings.{EndsBadly, IsBadBy, IsOpenAt}
+use Rattle.arrowflow_input.specs.declared.driver.Progress.{Progress}
+use Rattle.arrowflow_input.specs.declared.driver.Progress.TheVariants.{GoesOn, Marker, Stopped}
+use Rattle.arrowflow_input.specs.declared.tool_fault.ToolFault.{ToolFault}
+use Rattle.arrowflow_input.specs.declared.tool_fault.ToolFault.TheVariants.{Input, Output, Stream, Refused, Memory}
 use Rattle.arrowflow_explain.specs.Bodies.{SpotHolds}
 use Rattle.arrowflow_explain.specs.Counting.{HasEndedWell}
 use Rattle.arrowflow_explain.specs.Holds.{Holds, kind_of}
 use Rattle.arrowflow_explain.specs.Rejection.{Situation}
 use Rattle.arrowflow_explain.specs.declared.explanation.Explanation.{Explanation}
 use Rattle.arrowflow_explain.specs.declared.explanation.Explanation.TheVariants.{Sound, Rejected}
-use Rattle.arrowflow_explain.specs.declared.explanation.Refusal.{Refusal}
+use Rattle.arrowflow_explain.specs.declared.explanation.RejectedMessage.{RejectedMessage}
 
--- where a stream has come to, with the limits of its reader
-abbrev pub situation_at : LimitNumbers → Standing → Situation
+-- the state of a stream after its complete messages, with the limits of its reader
+abbrev pub situation_at : LimitNumbers → Snapshot → Situation
 situation_at limits e = record { limits = limits; state = e.state; place = e.place; bytes = e.rest }
 
--- The stream of these bytes ends badly, with this fault. The bytes that were kept are those of the message in work; the
--- diagnosis is of the fault's kind, and holds of them; so does what is said of a place in its body.
-pub record IsRefusalOf (refusal : Refusal) (limits : LimitNumbers) (bytes : List ℕ) (left : Option (List ℕ)) : Type 0 where
-  pub standing : Standing
-  pub leaves : LeavesStream limits bytes standing
-  pub badly : EndsBadly left standing refusal.fault
-  pub message : refusal.message.items ≡ standing.rest
+-- The stream of these bytes ends badly, with this fault. The bytes that were kept are those of the current message.
+-- The diagnosis has the fault's kind and holds for these bytes; so does the body spot, if there is one.
+pub record IsRefusalOf (refusal : RejectedMessage) (limits : LimitNumbers) (bytes : List ℕ) (left : Option (List ℕ)) : Type 0 where
+  pub snapshot : Snapshot
+  pub leaves : LeavesStream limits bytes snapshot
+  pub badly : EndsBadly left snapshot refusal.fault
+  pub message : refusal.message.items ≡ snapshot.rest
   pub kind : kind_of refusal.diagnosis ≡ refusal.fault.kind
-  pub holds : Holds refusal.diagnosis (situation_at limits standing)
-  pub spot : IfSome refusal.spot (λ spot. SpotHolds spot (situation_at limits standing))
+  pub holds : Holds refusal.diagnosis (situation_at limits snapshot)
+  pub spot : IfSome refusal.spot (λ spot. SpotHolds spot (situation_at limits snapshot))
 
--- What is answered when these bytes were read of an input of which this is left: as a check answers, and with a fault of
--- the stream why it has it.
+-- The result after these bytes were read of an input of which this is left: the same as a check's, and for a fault of
+-- the stream the reason for it.
 abbrev pub Explains : LimitNumbers → List ℕ → Option (List ℕ) → Result Explanation ToolFault → Type 0
 Explains limits bytes left (Ok (Sound summary)) = Checks limits bytes left (Ok tt)
 Explains limits bytes left (Ok (Rejected refusal)) = IsRefusalOf refusal limits bytes left
@@ -47,25 +47,25 @@ Explains limits bytes left (Err Memory) = Checks limits bytes left (Err Memory)
 Explains limits bytes left (Err Output) = ⊥
 Explains limits bytes left (Err (Refused what kind)) = ⊥
 
--- the same of an input that had these bytes before the call and has these after it
+-- the same for an input that had these bytes before the call and has these after it
 abbrev pub ExplainsInput : LimitNumbers → Option (List ℕ) → Option (List ℕ) → Result Explanation ToolFault → Type 0
 ExplainsInput limits had left answer = (bytes : List ℕ) × Consumes had left bytes × IsReadWhile (IsOpenAt limits) bytes × Explains limits bytes left answer
 
--- Why a reader that is here, of a message with these bytes, says that its stream ends with this fault.
-pub record IsMadeOf (fault : Fault) (limits : LimitNumbers) (at : Standing) (kept : List ℕ) (refusal : Refusal) : Type 0 where
+-- The reason why a reader in this state, at a message with these bytes, reports that its stream ends with this fault.
+pub record IsMadeOf (fault : Fault) (limits : LimitNumbers) (at : Snapshot) (kept : List ℕ) (refusal : RejectedMessage) : Type 0 where
   pub same : refusal.fault ≡ fault
   pub message : refusal.message.items ≡ kept
   pub kind : kind_of refusal.diagnosis ≡ fault.kind
   pub holds : Holds refusal.diagnosis (record { limits = limits; state = at.state; place = at.place; bytes = kept })
   pub spot : IfSome refusal.spot (λ spot. SpotHolds spot (record { limits = limits; state = at.state; place = at.place; bytes = kept }))
 
--- A reader is at these bytes of a stream, and those of its message in work are kept.
+-- A reader has read these bytes of a stream, and those of its current message are kept.
 pub record IsKept (bytes : List ℕ) (r : ReaderView) (kept : List ℕ) : Type 0 where
   pub entries : List Entry
-  pub stands : ReaderStands r bytes entries
-  pub same : kept ≡ stands.rest
+  pub position : IsReaderAt r bytes entries
+  pub same : kept ≡ position.rest
 
--- What came of these bytes, the last of which a reader was given as a piece.
+-- The result after these bytes, the last of which the reader was given as a piece.
 abbrev pub KeepsPiece : List ℕ → Result Progress ToolFault → ReaderView → List ℕ → Type 0
 KeepsPiece bytes (Ok GoesOn) r kept = IsKept bytes r kept × (r.at.verdict ≡ Open)
 KeepsPiece bytes (Ok Marker) r kept = IsKept bytes r kept × (r.at.verdict ≡ Done)
@@ -76,7 +76,7 @@ KeepsPiece bytes (Err (Input number)) r kept = ⊥
 KeepsPiece bytes (Err Output) r kept = ⊥
 KeepsPiece bytes (Err (Refused what kind)) r kept = ⊥
 
--- the same of all bytes at which an open reader was before
+-- the same for all bytes that an open reader may have read before
 abbrev pub KeepsOn : ReaderView → List ℕ → List ℕ → Result Progress ToolFault → ReaderView → List ℕ → Type 0
 KeepsOn old kept piece answer new kept' =
     (bytes : List ℕ) → IsKept bytes old kept → old.at.verdict ≡ Open → KeepsPiece (bytes ++ piece) answer new kept'

@@ -13,13 +13,13 @@ use Rattle.arrow_stream_reader.specs.declared.kind.Kind.TheVariants as kinds
 use Rattle.arrowflow_explain.specs.Message.{header_table}
 use Rattle.arrowflow_explain.specs.Places.{element, element_count, field_at, field_number, field_table}
 use Rattle.arrowflow_explain.specs.Rejection.{Situation}
-use Rattle.arrowflow_explain.specs.declared.field_fault.FieldFault.{FieldFault}
-use Rattle.arrowflow_explain.specs.declared.field_fault.FieldFault.TheVariants.{TypeNotRead, DictionaryKind, Children, BitWidth, Precision, Unit, Size, TimeWidth, Decimal, Entries, TypeTable}
-use Rattle.arrowflow_explain.specs.declared.schema_fault.SchemaFault.{SchemaFault}
-use Rattle.arrowflow_explain.specs.declared.schema_fault.SchemaFault.TheVariants.{Endianness, Field, Nested}
+use Rattle.arrowflow_explain.specs.declared.field_fault.FieldCondition.{FieldCondition}
+use Rattle.arrowflow_explain.specs.declared.field_fault.FieldCondition.TheVariants.{TypeNotRead, DictionaryKind, Children, BitWidth, Precision, Unit, Size, TimeWidth, Decimal, Entries, TypeTable}
+use Rattle.arrowflow_explain.specs.declared.schema_fault.SchemaCondition.{SchemaCondition}
+use Rattle.arrowflow_explain.specs.declared.schema_fault.SchemaCondition.TheVariants.{Endianness, Field, Nested}
 
--- the kind of a fault of a field
-abbrev pub field_kind : FieldFault → Kind
+-- the kind of a field's fault
+abbrev pub field_kind : FieldCondition → Kind
 field_kind (TypeNotRead code) = kinds.Unsupported
 field_kind (DictionaryKind number) = kinds.Unsupported
 field_kind (Children code count) = kinds.Schema
@@ -32,8 +32,8 @@ field_kind (Decimal bits precision scale) = kinds.Schema
 field_kind Entries = kinds.Schema
 field_kind (TypeTable code) = kinds.Metadata
 
--- the kind of a fault of a schema
-abbrev pub schema_kind : SchemaFault → Kind
+-- the kind of a schema's fault
+abbrev pub schema_kind : SchemaCondition → Kind
 schema_kind (Endianness number) = kinds.Unsupported
 schema_kind (Field path fault) = field_kind fault
 schema_kind (Nested path above) = kinds.Unsupported
@@ -42,35 +42,36 @@ schema_kind (Nested path above) = kinds.Unsupported
 abbrev pub code_in : TableAt → Option ℕ
 code_in field = field_number 1 0 field slots.field_type_type
 
--- The field's dictionary is of this kind (Schema.fbs, enum "DictionaryKind").
+-- The field's dictionary has this kind (Schema.fbs, enum "DictionaryKind").
 abbrev pub HasKind : TableAt → ℕ → Type 0
 HasKind field number =
     (d : TableAt) × (field_table field slots.field_dictionary ≡ Some d) × (field_number 2 0 d slots.dictionary_encoding_dictionary_kind ≡ Some number)
 
--- the number of this index in a field's type, of so many bytes, with this default
+-- the number in this field of a field's type table, this many bytes wide and with this default
 abbrev pub type_number : TableAt → ℕ → ℕ → ℕ → Option ℕ
 type_number field i width default = do
   type_table ← field_table field slots.field_type
   field_number width default type_table i
 
--- the first of them
+-- the first of these numbers
 abbrev pub first_number : TableAt → ℕ → ℕ → Option ℕ
 first_number field width default = type_number field 0 width default
 
--- the unit of a Date (code 8), a Time (9), a Timestamp (10), an Interval (11) and a Duration (18), with its default
+-- the unit of a Date (code 8), a Time (9), a Timestamp (10), an Interval (11) or a Duration (18), with its default
 abbrev pub unit_in : TableAt → ℕ → Option ℕ
 unit_in field code = if (code == 10) || (code == 11) then first_number field 2 0 else first_number field 2 1
 
--- whether a type of this code has this unit
+-- whether a type with this code has this unit
 abbrev pub has_unit : ℕ → ℕ → Bool
 has_unit code number =
     if code == 8 then is_some (date_unit number) else (if code == 11 then is_some (interval_unit number) else is_some (time_unit number))
 
--- the code is that of a type with a unit
+-- whether the code is that of a type with a unit
 abbrev pub has_units : ℕ → Bool
 has_units code = (code == 8) || (code == 9) || (code == 10) || (code == 11) || (code == 18)
 
--- whether a field with this code of a type is a struct (code 13) of two fields without a dictionary (Schema.fbs, table "Map")
+-- whether a field whose type has this code is a struct (code 13) of two fields without a dictionary (Schema.fbs,
+-- table "Map")
 abbrev pub can_be_entries : TableAt → ℕ → Bool
 can_be_entries field code =
     (code == 13) && (unwrap_or (element_count field slots.field_children) 0 == 2) && is_none (field_place field slots.field_dictionary)
@@ -83,14 +84,14 @@ pub record LacksEntries (field : TableAt) : Type 0 where
   pub of_type : code_in child ≡ Some code
   pub not_entries : can_be_entries child code ≡ false
 
--- whether a type of this code has a table that is read
+-- whether a type with this code has a table that is read
 abbrev pub has_table : ℕ → Bool
 has_table code =
     (code == 2) || (code == 3) || (code == 7) || (code == 8) || (code == 9) || (code == 10) || (code == 11) || (code == 15) || (code == 16) || (code == 17)
     || (code == 18)
 
--- The fault holds of the field, where these types are read.
-abbrev pub FieldFails : FieldFault → TypeSet → TableAt → Type 0
+-- The fault holds for the field, if these types are read.
+abbrev pub FieldFails : FieldCondition → TypeSet → TableAt → Type 0
 FieldFails (TypeNotRead code) types field = (code_in field ≡ Some code) × (taken types (type_code code) ≡ None)
 FieldFails (DictionaryKind number) types field = HasKind field number × (number ≡ 0 → ⊥)
 FieldFails (Children code count) types field =
@@ -124,7 +125,8 @@ HasEndianness number s = (schema : TableAt) × (header_table s.bytes ≡ Some sc
 abbrev pub LeadsToEncoded : TableAt → List ℕ → Type 0
 LeadsToEncoded schema path = (field : TableAt) × (field_at schema path ≡ Some field) × (is_some (field_place field slots.field_dictionary) ≡ true)
 
--- Two fields of the header's schema are dictionary-encoded: that at a path, and that at the first steps of it, so many.
+-- Two fields of the header's schema are dictionary-encoded: the one at a path, and the one at the first `above` steps
+-- of that path.
 pub record IsNested (path : List ℕ) (above : ℕ) (s : Situation) : Type 0 where
   pub schema : TableAt
   pub is : header_table s.bytes ≡ Some schema
@@ -132,8 +134,8 @@ pub record IsNested (path : List ℕ) (above : ℕ) (s : Situation) : Type 0 whe
   pub outer : LeadsToEncoded schema (take above path)
   pub inside : above < length path
 
--- The fault holds of the schema.
-abbrev pub SchemaFails : SchemaFault → Situation → Type 0
+-- The fault holds for the schema.
+abbrev pub SchemaFails : SchemaCondition → Situation → Type 0
 SchemaFails (Endianness number) s = HasEndianness number s × (number ≡ 0 → ⊥)
 SchemaFails (Field path fault) s = (field : TableAt) × HasField path.items s field × FieldFails fault s.limits.types field
 SchemaFails (Nested path above) s = IsNested path.items above s

@@ -1,4 +1,4 @@
--- What a diagnosis says of a message that was rejected or cut off.
+-- The meaning of a diagnosis of a message that was rejected or cut off.
 use Rattle.std.specs.Prelude.{⊤}
 use Rattle.arrow_stream_reader.specs.declared.kind.Kind.{Kind}
 use Rattle.arrowflow_explain.specs.Rejection.{Situation}

@@ -1,4 +1,4 @@
--- What is said of a stream that is rejected.
+-- The statements about a rejected stream.
 pub mod Prefix
 pub mod Cut
 pub mod Places

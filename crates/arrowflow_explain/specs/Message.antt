@@ -1,4 +1,4 @@
--- Why the numbers of a message's own tables are rejected (Message.fbs, tables "Message" and "RecordBatch").
+-- Why the numbers in the tables of a message itself are rejected (Message.fbs, tables "Message" and "RecordBatch").
 use Rattle.std.specs.Prelude.{◌≡◌, ◌≤◌, ◌<◌, ◌+◌, length, ◌^◌, ◌⊎◌, ◌==◌, ℕ, List, true, false, is_some, Option, None, Some, if◌then◌else◌}
 use Rattle.arrow_flatbuf.specs.Place.{◌>>=◌}
 use Rattle.arrow_flatbuf.specs.Table.{TableAt, field_place}
@@ -13,7 +13,7 @@ use Rattle.arrowflow_explain.specs.Rejection.{Situation}
 use Rattle.arrowflow_explain.specs.declared.message_fault.MessageFault.{MessageFault}
 use Rattle.arrowflow_explain.specs.declared.message_fault.MessageFault.TheVariants.{Version, HeaderMissing, Header, BodyLength, BodyEnd, SecondSchema, BatchFirst, Compressed, MessageTable, HeaderTable, DataTable}
 
--- the kind of a fault of a message's own tables
+-- the kind of a fault in the tables of a message itself
 abbrev pub message_kind : MessageFault → Kind
 message_kind (Version number) = kinds.Version
 message_kind HeaderMissing = kinds.Header
@@ -27,7 +27,7 @@ message_kind MessageTable = kinds.Metadata
 message_kind (HeaderTable code) = kinds.Metadata
 message_kind DataTable = kinds.Metadata
 
--- the number of this many bytes in field i of a message's table, 0 where the field is absent
+-- the number of this many bytes in field i of a message's table, 0 if the field is absent
 abbrev pub message_number : ℕ → ℕ → List ℕ → Option ℕ
 message_number width i message = do
   table ← message_table message
@@ -44,7 +44,7 @@ abbrev pub batch_in : ℕ → TableAt → Option TableAt
 batch_in code header =
     if code == batch_code then Some header else (if code == dictionary_code then field_table header slots.dictionary_batch_data else None)
 
--- the same of a message
+-- the same for a message
 abbrev pub batch_table : List ℕ → Option TableAt
 batch_table message = do
   code ← message_number 1 slots.message_header_type message
@@ -57,7 +57,7 @@ codec_in batch = do
   compression ← field_table batch slots.record_batch_compression
   field_number 1 0 compression 0
 
--- The table of the batch names a compression, by this codec.
+-- The table of the batch has a compression, with this codec.
 pub record IsCompressed (codec : Option ℕ) (message : List ℕ) : Type 0 where
   pub table : TableAt
   pub is : batch_table message ≡ Some table
@@ -80,7 +80,7 @@ LacksData message =
     (header : TableAt) × (header_table message ≡ Some header) × (message_number 1 slots.message_header_type message ≡ Some dictionary_code)
     × (field_table header slots.dictionary_batch_data ≡ None)
 
--- The fault holds of the message's own numbers.
+-- The fault holds for the numbers of the message itself.
 abbrev pub MessageFails : MessageFault → Situation → Type 0
 MessageFails (Version number) s = (message_number 2 slots.message_version s.bytes ≡ Some number) × (metadata_version number ≡ None)
 MessageFails HeaderMissing s = LacksHeader s.bytes

@@ -14,8 +14,8 @@ prefix_kind (MetadataSize size) = kinds.MetadataSize
 prefix_kind (MetadataEnd size) = kinds.MetadataSize
 prefix_kind MarkerFirst = kinds.NoSchema
 
--- The fault holds of the prefix: other bytes than the continuation; a size of the metadata that is over the limit, as a number
--- without sign, or with which they would end past byte 2^62; the end marker before a schema.
+-- The fault holds for the prefix: bytes other than the continuation; a metadata size that is over the limit as an
+-- unsigned number, or with which the metadata would end past byte 2^62; the end marker before a schema.
 abbrev pub PrefixFails : PrefixFault → Situation → Type 0
 PrefixFails (Continuation found) s = (8 ≤ length s.bytes) × (number_at s.bytes 0 ≡ found) × (has_continuation s.bytes ≡ false)
 PrefixFails (MetadataSize size) s = (8 ≤ length s.bytes) × (number_at s.bytes 4 ≡ size) × (s.limits.max_metadata < size)

@@ -4,14 +4,15 @@ use Rattle.arrow_types.specs.Limits.{LimitNumbers}
 use Rattle.arrow_stream_reader.specs.State.{StreamState}
 use Rattle.arrowflow_explain.specs.declared.rejected.Rejected.{Rejected}
 
--- the reader's limits, what the messages before left, where the message begins, and its bytes as far as they were read
+-- the reader's limits, the state after the messages before, the offset at which the message begins, and its bytes as
+-- far as they were read
 pub record Situation : Type 0 where
   pub limits : LimitNumbers
   pub state : StreamState
   pub place : ℕ
   pub bytes : List ℕ
 
--- what a value of the program says of one
+-- the situation that a `Rejected` of the program describes
 abbrev pub situation_of : Rejected → Situation
 situation_of r = record {
   limits = r.limits.now;

@@ -1,6 +1,6 @@
-//! Where a body is at fault. It is found by checking one field after another with
-//! `arrow_body_reader`. What is said of the node, its buffers and the body's bytes holds; which field
-//! has that node is tested, and not proved.
+//! Where a body is at fault. `arrow_body_reader` checks one field after another to find it. The
+//! statements about the node, its buffers and the body's bytes are proved; which field has that
+//! node is tested and not proved.
 
 ghost use Rattle.std.specs.Prelude.{◌≡◌, IfSome, Some, slice_get};
 ghost use Rattle.arrow_meta_reader.specs.Means.{batch_view};
@@ -29,7 +29,7 @@ const LEVELS: u32 = 32;
 
 /// A field with its index among the fields of its level.
 #[derive(Clone, Copy)]
-struct Found<'f> {
+struct Located<'f> {
     index: usize,
     field: &'f Field,
     cursor: Cursor,
@@ -40,7 +40,7 @@ struct Found<'f> {
 pub struct BodySpot {
     /// The field: the index of its column, and then of a child on each level below, with the names.
     pub field: String,
-    /// The index of its node.
+    /// The index of the field's node.
     pub node: usize,
     /// What was found.
     pub finding: Finding,
@@ -48,23 +48,24 @@ pub struct BodySpot {
 
 /// A batch whose body is at fault.
 #[derive(Clone, Copy)]
-struct Batch<'a> {
+struct LoadedBatch<'a> {
     alloc: Global,
     content: Content<'a>,
-    /// The id of the dictionary whose values the batch is, if it is one of a dictionary batch.
+    /// The id of the dictionary whose values the batch holds, if it is the batch of a dictionary
+    /// batch.
     id: Option<i64>,
     dictionaries: &'a [(i64, Dictionary)],
     fault: BodyFault,
 }
 
-/// Where the body of a message is at fault, if the kind is one of a body and this is found. `None`
-/// too where an allocation failed.
+/// Where the body of a message is at fault, if the kind is one of a body and the fault is found.
+/// `None` also if an allocation failed.
 pub(crate) fn body_spot(alloc: Global, kind: Kind, rejected: &Rejected) -> Option<BodySpot>
     ensures { IfSome result (λ spot. SpotHolds spot (situation_of rejected.now)) }
 {
     let body = body_of(rejected.message)?;
     let header = header_of(alloc, rejected)?;
-    let batch = Batch {
+    let batch = LoadedBatch {
         alloc,
         content: Content {
             batch: batch_of(&header)?,
@@ -93,7 +94,7 @@ fn id_of(header: &Header) -> Option<i64> {
     }
 }
 
-/// The fault of a body of a kind, if it is one.
+/// The body fault of a kind, if it is one.
 fn fault_of(kind: Kind) -> Option<BodyFault> {
     match kind {
         Kind::Layout => Some(BodyFault::Layout),
@@ -103,7 +104,7 @@ fn fault_of(kind: Kind) -> Option<BodyFault> {
     }
 }
 
-impl<'a> Batch<'a> {
+impl<'a> LoadedBatch<'a> {
     /// Where the body is at fault, by the fields of the batch.
     fn spot(&self, fields: &[Field]) -> Option<BodySpot>
         ensures { IfSome result (λ spot. FindingHolds spot.finding spot.node
@@ -129,12 +130,12 @@ impl<'a> Batch<'a> {
         })
     }
 
-    /// The first of the fields that has the fault by itself.
-    fn first_bad<'f>(&self, fields: &'f [Field], start: Cursor) -> Option<Found<'f>> {
+    /// The first of the fields that itself has the fault.
+    fn first_bad<'f>(&self, fields: &'f [Field], start: Cursor) -> Option<Located<'f>> {
         let mut cursor = start;
         for (index, field) in fields.iter().enumerate() {
             if self.has_fault(field, cursor) {
-                return Some(Found {
+                return Some(Located {
                     index,
                     field,
                     cursor,
@@ -145,7 +146,7 @@ impl<'a> Batch<'a> {
         None
     }
 
-    /// Whether a field has the fault by itself.
+    /// Whether a field itself has the fault.
     fn has_fault(&self, field: &Field, cursor: Cursor) -> bool {
         let batch = self.content.batch;
         let checked = check(
@@ -161,7 +162,7 @@ impl<'a> Batch<'a> {
         }
     }
 
-    /// The first column that has another number of slots than the batch has rows.
+    /// The first column whose number of slots differs from the batch's number of rows.
     fn other_length(&self, mut text: String, fields: &[Field]) -> Option<BodySpot>
         ensures { IfSome result (λ spot. FindingHolds spot.finding spot.node
             (batch_view self.now.content.batch.now) self.now.content.body.now) }
@@ -171,7 +172,7 @@ impl<'a> Batch<'a> {
         for (index, field) in fields.iter().enumerate() {
             let slots = self.node(cursor.node)?.length;
             if slots != rows {
-                let found = Found {
+                let found = Located {
                     index,
                     field,
                     cursor,
@@ -188,15 +189,15 @@ impl<'a> Batch<'a> {
         None
     }
 
-    /// Appends which column it is, or of which dictionary the values.
-    fn push_column(&self, text: &mut String, found: Found) -> Result<(), AllocError> {
+    /// Appends which column it is, or the dictionary whose values they are.
+    fn push_column(&self, text: &mut String, found: Located) -> Result<(), AllocError> {
         match self.id {
             Some(id) => write!(text, "values of dictionary {}", id),
             None => push_field(text, "column ", found),
         }
     }
 
-    /// The node of this index.
+    /// The node with this index.
     fn node(&self, index: usize) -> Option<FieldNode>
         ensures { IfSome result (λ node. slice_get self.now.content.batch.now.nodes.items index
             ≡ Some node) }
@@ -204,8 +205,8 @@ impl<'a> Batch<'a> {
         Some(*self.content.batch.nodes.get(index)?)
     }
 
-    /// What is at fault in a field that has the fault, and none below it.
-    fn finding(&self, found: Found) -> Option<Finding>
+    /// The fault in a field that has the fault while no field below it does.
+    fn finding(&self, found: Located) -> Option<Finding>
         ensures { IfSome result (λ finding. FindingHolds finding found.entry.cursor.node
             (batch_view self.now.content.batch.now) self.now.content.body.now) }
     {
@@ -218,7 +219,7 @@ impl<'a> Batch<'a> {
         }
     }
 
-    /// What is at fault in the texts of a field.
+    /// The fault in the texts of a field.
     fn text_finding(&self, field: &Field, cursor: Cursor) -> Option<Finding>
         ensures { IfSome result (λ finding. FindingHolds finding cursor.node
             (batch_view self.now.content.batch.now) self.now.content.body.now) }
@@ -233,7 +234,7 @@ impl<'a> Batch<'a> {
         }
     }
 
-    /// What is at fault in the indices of a field.
+    /// The fault in the indices of a field.
     fn index_finding(&self, field: &Field, cursor: Cursor) -> Option<Finding>
         ensures { IfSome result (λ finding. FindingHolds finding cursor.node
             (batch_view self.now.content.batch.now) self.now.content.body.now) }
@@ -248,7 +249,7 @@ impl<'a> Batch<'a> {
         })
     }
 
-    /// How many values the dictionary of an id has.
+    /// The number of values of the dictionary with this id.
     fn values_of(&self, id: i64) -> usize {
         for (other, dictionary) in self.dictionaries {
             if *other == id {
@@ -258,7 +259,7 @@ impl<'a> Batch<'a> {
         0
     }
 
-    /// What is at fault in the layout of a field.
+    /// The fault in the layout of a field.
     fn layout_finding(&self, field: &Field, cursor: Cursor) -> Option<Finding>
         ensures { IfSome result (λ finding. FindingHolds finding cursor.node
             (batch_view self.now.content.batch.now) self.now.content.body.now) }
@@ -282,7 +283,7 @@ impl<'a> Batch<'a> {
         }
     }
 
-    /// What is at fault in the buffers of a node of this form.
+    /// The fault in the buffers of a node of this layout.
     fn buffer_finding(&self, form: Form, cursor: Cursor) -> Option<Finding>
         ensures { IfSome result (λ finding. FindingHolds finding cursor.node
             (batch_view self.now.content.batch.now) self.now.content.body.now) }
@@ -300,7 +301,7 @@ impl<'a> Batch<'a> {
         }
     }
 
-    /// The offsets of a node of this form, if it has some.
+    /// The offsets of a node of this layout, if it has offsets.
     fn offsets_of(&self, form: Form, cursor: Cursor) -> Option<OffsetNode>
         ensures { IfSome result (λ offsets. offsets.node ≡ cursor.node) }
     {
@@ -327,7 +328,7 @@ impl<'a> Batch<'a> {
     }
 }
 
-/// What the second buffer of a node of this form has for its slots, if there is one.
+/// What the second buffer of a node of this layout holds for its slots, if there is one.
 fn need_of(form: Form) -> Option<Need> {
     match form {
         Form::Bits => Some(Need::Bits),
@@ -339,7 +340,7 @@ fn need_of(form: Form) -> Option<Need> {
     }
 }
 
-/// What a buffer of offsets of this width has.
+/// What a buffer of offsets of this width holds.
 fn offsets_need(width: OffsetWidth) -> Need {
     match width {
         OffsetWidth::Small => Need::Offsets(4),
@@ -348,7 +349,7 @@ fn offsets_need(width: OffsetWidth) -> Need {
 }
 
 /// Appends the index of a field among those of its level, and its name.
-fn push_field(text: &mut String, word: &str, found: Found) -> Result<(), AllocError> {
+fn push_field(text: &mut String, word: &str, found: Located) -> Result<(), AllocError> {
     text.push_str(word)?;
     write!(text, "{}", found.index)?;
     push_quoted(text, &found.field.name)

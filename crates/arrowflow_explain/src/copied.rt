@@ -1,28 +1,28 @@
-//! How long the stream is that a copy of a stream is.
+//! The length of the stream that a copy of a stream would be.
 
 use arrow_data::Batch;
 use arrow_sink::{Sink, SinkFault, WriteFault};
 use arrow_stream_writer::{Options, StreamWriter};
 use arrow_types::{Limits, Schema};
-use arrowflow_report::What;
+use arrowflow_input::RefusedItem;
 use std::alloc::{AllocError, Global};
 
-/// What `copy` with default options writes of a sound stream.
+/// What `copy` with default options writes for a valid stream.
 #[derive(Clone, Copy, Debug, PartialEq, Eq)]
 pub enum Copied {
-    /// So many bytes.
+    /// This many bytes.
     Bytes(u64),
-    /// No whole stream: the schema, a batch or the end marker is refused.
-    Refused(What, WriteFault),
+    /// No complete stream: the writer rejects the schema, a batch or the end marker.
+    Refused(RefusedItem, WriteFault),
 }
 
 /// A sink that counts the bytes that it is given, and keeps none of them.
 #[derive(Drop)]
-pub(crate) struct Tally {
+pub(crate) struct ByteTotals {
     bytes: u64,
 }
 
-impl Sink for Tally {
+impl Sink for ByteTotals {
     ghost failed = { λ _. 0 };
 
     fn put(&mut self, piece: &[u8]) -> Result<usize, SinkFault> {
@@ -39,56 +39,56 @@ impl Sink for Tally {
     }
 }
 
-/// A copy of a stream, of which only the length is known.
+/// A copy of a stream of which only the length is kept.
 #[derive(Drop)]
-pub(crate) enum Copying {
-    /// The schema was not read.
+pub(crate) enum CopyEstimate {
+    /// The schema has not been read yet.
     Waiting,
-    /// The writer, which goes on.
-    Writing(StreamWriter<Tally>),
-    /// What it refused.
-    Refused(What, WriteFault),
+    /// The writer, which is still open.
+    Writing(StreamWriter<ByteTotals>),
+    /// What it rejected.
+    Refused(RefusedItem, WriteFault),
 }
 
-impl Copying {
+impl CopyEstimate {
     /// Starts the copy with a schema.
     pub(crate) fn start(
         alloc: Global,
         schema: &Schema,
         limits: Limits,
-    ) -> Result<Copying, AllocError> {
-        let sink = Tally { bytes: 0 };
+    ) -> Result<CopyEstimate, AllocError> {
+        let sink = ByteTotals { bytes: 0 };
         match StreamWriter::start(alloc, sink, schema, Options::default(), limits) {
-            Ok(writer) => Ok(Copying::Writing(writer)),
+            Ok(writer) => Ok(CopyEstimate::Writing(writer)),
             Err((WriteFault::Memory, _)) => Err(AllocError),
-            Err((kind, _)) => Ok(Copying::Refused(What::Start, kind)),
+            Err((kind, _)) => Ok(CopyEstimate::Refused(RefusedItem::Start, kind)),
         }
     }
 
-    /// Writes the batch of this number.
+    /// Writes the batch with this number.
     pub(crate) fn add(&mut self, number: usize, batch: &Batch) -> Result<(), AllocError> {
         let answer = match self {
-            Copying::Writing(writer) => writer.write(batch),
-            Copying::Waiting | Copying::Refused(_, _) => Ok(()),
+            CopyEstimate::Writing(writer) => writer.write(batch),
+            CopyEstimate::Waiting | CopyEstimate::Refused(_, _) => Ok(()),
         };
         match answer {
             Ok(()) => Ok(()),
             Err(WriteFault::Memory) => Err(AllocError),
             Err(kind) => {
-                *self = Copying::Refused(What::Batch(number), kind);
+                *self = CopyEstimate::Refused(RefusedItem::Batch(number), kind);
                 Ok(())
             }
         }
     }
 
-    /// Writes the end marker; what was written then, if the schema was read.
+    /// Writes the end marker; returns what was written in all, if the schema was read.
     pub(crate) fn finish(self) -> Option<Copied> {
         match self {
-            Copying::Waiting => None,
-            Copying::Refused(what, kind) => Some(Copied::Refused(what, kind)),
-            Copying::Writing(mut writer) => match writer.finish() {
+            CopyEstimate::Waiting => None,
+            CopyEstimate::Refused(what, kind) => Some(Copied::Refused(what, kind)),
+            CopyEstimate::Writing(mut writer) => match writer.finish() {
                 Ok(()) => Some(Copied::Bytes(writer.sink().bytes)),
-                Err(kind) => Some(Copied::Refused(What::Finish, kind)),
+                Err(kind) => Some(Copied::Refused(RefusedItem::Finish, kind)),
             },
         }
     }

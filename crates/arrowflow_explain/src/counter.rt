@@ -1,6 +1,6 @@
-//! A stream counted as it is read.
+//! Counts of a stream, made as it is read.
 
-use crate::copied::Copying;
+use crate::copied::CopyEstimate;
 use crate::message::{body_length, metadata_of};
 use crate::sizes::{bytes_of, padding_of};
 use crate::summary::{DictionaryCount, Summary, buffers_of};
@@ -9,40 +9,40 @@ use arrow_dict::ValueFields;
 use arrow_meta_reader::{Header, decode};
 use arrow_stream_reader::{Item, StreamReader};
 use arrow_types::{Buffer, Limits};
-use arrowflow_report::{Consumer, ToolFault, Wants};
+use arrowflow_input::{Consumer, ToolFault, Wants};
 use std::alloc::{AllocError, Global};
 
-/// What is counted of a stream.
+/// The counts of a stream.
 #[derive(Drop)]
-pub(crate) struct Counter {
+pub(crate) struct MessageCounter {
     alloc: Global,
     limits: Limits,
     summary: Summary,
-    /// The fields of the dictionaries' values, once the schema was read.
+    /// The fields of the dictionaries' values, once the schema has been read.
     values: Option<ValueFields>,
-    copying: Copying,
+    copying: CopyEstimate,
 }
 
-impl Counter {
-    /// Of no message. It takes no memory.
-    pub(crate) fn new(alloc: Global, limits: Limits) -> Counter {
-        Counter {
+impl MessageCounter {
+    /// A counter of no messages. Allocates nothing.
+    pub(crate) fn new(alloc: Global, limits: Limits) -> MessageCounter {
+        MessageCounter {
             alloc,
             limits,
             summary: Summary::new(alloc),
             values: None,
-            copying: Copying::Waiting,
+            copying: CopyEstimate::Waiting,
         }
     }
 
-    /// What the messages so far have.
+    /// The counts of the messages so far.
     pub(crate) fn so_far(self) -> Summary {
         self.summary
     }
 
-    /// What the stream has, which ended well.
+    /// The counts of the stream, which ended well.
     pub(crate) fn ended(self) -> Summary {
-        let Counter {
+        let MessageCounter {
             alloc: _,
             limits: _,
             mut summary,
@@ -53,7 +53,7 @@ impl Counter {
         summary
     }
 
-    /// Counts a message that was just read, or the end marker, which has these bytes.
+    /// Counts a message that was just read, or the end marker; it has these bytes.
     fn count(
         &mut self,
         reader: &StreamReader,
@@ -76,7 +76,7 @@ impl Counter {
         Ok(())
     }
 
-    /// Counts what a message is, and answers those of its buffers that a field has.
+    /// Counts the contents of a message, and returns those of its buffers that belong to a field.
     fn count_item(
         &mut self,
         reader: &StreamReader,
@@ -100,7 +100,7 @@ impl Counter {
         };
         self.summary.add_columns(self.alloc, schema.fields())?;
         self.values = Some(ValueFields::of(self.alloc, schema)?);
-        self.copying = Copying::start(self.alloc, schema, self.limits)?;
+        self.copying = CopyEstimate::start(self.alloc, schema, self.limits)?;
         Ok(())
     }
 
@@ -126,7 +126,7 @@ impl Counter {
         Ok(used)
     }
 
-    /// How many buffers a batch of the dictionary of this id has.
+    /// The number of buffers of a batch of the dictionary with this id.
     fn dictionary_buffers(&self, id: i64) -> Result<usize, AllocError> {
         let Some(values) = &self.values else {
             return Ok(0);
@@ -151,12 +151,12 @@ impl Counter {
         Ok(used)
     }
 
-    /// The buffers of a batch by its metadata, those that no field has among them.
+    /// The buffers of a batch according to its metadata, including those that belong to no field.
     fn buffers_in(&self, message: &[u8]) -> Result<Vec<Buffer>, AllocError> {
         let Some(metadata) = metadata_of(message) else {
             return Ok(Vec::new(self.alloc));
         };
-        // the reader has read them before, so that only an allocation can fail
+        // the reader has decoded them before, so only an allocation can fail
         let Ok(message) = decode(self.alloc, metadata, &self.limits) else {
             return Err(AllocError);
         };
@@ -167,7 +167,7 @@ impl Counter {
     }
 }
 
-/// How many values the dictionary of this id has.
+/// The number of values of the dictionary with this id.
 fn values_of(reader: &StreamReader, id: i64) -> u64 {
     match reader.dictionaries().get(id) {
         Some(dictionary) => dictionary.len() as u64,
@@ -175,16 +175,16 @@ fn values_of(reader: &StreamReader, id: i64) -> u64 {
     }
 }
 
-/// A counter of a stream beside bytes of the stream, from this place on.
+/// A counter of a stream, together with bytes of the stream from this offset on.
 #[derive(Drop)]
-pub(crate) struct Counting<'a> {
-    pub(crate) counter: Counter,
+pub(crate) struct CountedMessages<'a> {
+    pub(crate) counter: MessageCounter,
     pub(crate) bytes: &'a [u8],
     pub(crate) place: u64,
 }
 
-impl<'a> Counting<'a> {
-    /// The bytes of the stream from one place up to another.
+impl<'a> CountedMessages<'a> {
+    /// The bytes of the stream from one offset up to another.
     fn between(&self, start: u64, end: u64) -> &'a [u8] {
         let start = start.saturating_sub(self.place) as usize;
         let end = end.saturating_sub(self.place) as usize;
@@ -192,8 +192,8 @@ impl<'a> Counting<'a> {
     }
 }
 
-/// It counts all messages of its stream, and fails with `Memory` alone.
-impl<'a> Consumer for Counting<'a> {
+/// It counts all messages of its stream, and fails only with `Memory`.
+impl<'a> Consumer for CountedMessages<'a> {
     ghost use Rattle.std.specs.Prelude.{⊤};
     ghost use Rattle.arrowflow_explain.specs.Counting.{HasCounted};
 

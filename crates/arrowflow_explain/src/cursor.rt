@@ -1,4 +1,4 @@
-//! Which nodes and buffers of a batch are those of a field: in pre-order, depth first (Columnar
+//! Which nodes and buffers of a batch belong to a field: in pre-order, depth first (Columnar
 //! Format, "RecordBatch message").
 
 use arrow_data::form::node_form;
@@ -6,10 +6,10 @@ use arrow_types::Field;
 use std::alloc::Global;
 use std::slice;
 
-/// More than the most fields of a schema.
+/// More than the greatest number of fields of a schema.
 const FIELDS: u32 = 65_537;
 
-/// Where those of the first field begin.
+/// Where the nodes and the buffers of the first field begin.
 pub(crate) const START: Cursor = Cursor { node: 0, buffer: 0 };
 
 /// Where the nodes and the buffers of a field begin.
@@ -19,7 +19,8 @@ pub(crate) struct Cursor {
     pub(crate) buffer: usize,
 }
 
-/// The fields below one whose nodes come with its own: none of a dictionary-encoded field.
+/// The fields below a field whose nodes follow the field's own: none for a dictionary-encoded
+/// field.
 pub(crate) fn children_of(field: &Field) -> &[Field] {
     match field.dictionary {
         Some(_) => &[],
@@ -36,7 +37,7 @@ pub(crate) fn inside(field: &Field, cursor: Cursor) -> Cursor {
     }
 }
 
-/// Where the nodes and buffers after those of a field begin; `None` where an allocation failed.
+/// Where the nodes and buffers after those of a field begin; `None` if an allocation failed.
 pub(crate) fn after(alloc: Global, field: &Field, start: Cursor) -> Option<Cursor> {
     let mut waiting = Vec::new(alloc);
     waiting.push(slice::from_ref(field)).ok()?;
@@ -50,7 +51,8 @@ pub(crate) fn after(alloc: Global, field: &Field, start: Cursor) -> Option<Curso
     None
 }
 
-/// Goes over the own nodes and buffers of fields, and notes the fields below them.
+/// Advances past the fields' own nodes and buffers, and pushes the fields below them onto
+/// `waiting`.
 fn over_level<'f>(
     fields: &'f [Field],
     start: Cursor,

@@ -1,4 +1,4 @@
-//! Inputs that end inside of a message.
+//! Inputs that end inside a message.
 
 ghost use Rattle.std.specs.Prelude.{◌≡◌, IfSome};
 ghost use Rattle.arrowflow_explain.specs.Cut.{IsCut, IsWanted, cut_kind};
@@ -11,7 +11,7 @@ use arrow_stream_reader::Kind;
 
 /// A part of a message (Columnar Format, "Encapsulated message format").
 #[derive(Clone, Copy, Debug, PartialEq, Eq)]
-pub enum Part {
+pub enum CutPart {
     /// Its first eight bytes.
     Prefix,
     /// The metadata.
@@ -20,16 +20,16 @@ pub enum Part {
     Body,
 }
 
-/// That an input ends inside of a message.
+/// An input that ends inside a message.
 #[derive(Clone, Copy, Debug, PartialEq, Eq)]
 pub struct Cut {
     /// The part of the message in which the input ends.
-    pub part: Part,
-    /// How many bytes of the message the input has.
+    pub part: CutPart,
+    /// The number of bytes of the message that the input has.
     pub held: u64,
-    /// How many bytes the message has up to the end of that part.
+    /// The number of bytes that the message has up to the end of that part.
     pub wanted: u64,
-    /// Whether no schema came before.
+    /// Whether no schema was read before.
     pub before_schema: bool,
 }
 
@@ -46,7 +46,7 @@ impl Cut {
     }
 }
 
-/// How the input ends inside of the message, if it does.
+/// How the input ends inside the message, if it does.
 pub(crate) fn cut_of(rejected: &Rejected) -> Option<Cut>
     ensures { IfSome result (λ cut. IsCut cut (situation_of rejected.now)) }
 {
@@ -63,18 +63,18 @@ pub(crate) fn cut_of(rejected: &Rejected) -> Option<Cut>
     })
 }
 
-/// The part of the message in which its bytes end, and how many bytes it has up to the end of that
-/// part.
-fn wanted_of(message: &[u8]) -> Option<(Part, u64)>
+/// The part of the message in which its bytes end, and the number of bytes that the message has up
+/// to the end of that part.
+fn wanted_of(message: &[u8]) -> Option<(CutPart, u64)>
     ensures { IfSome result (λ w. IsWanted w.0 message.now w.1) }
 {
     if message.len() < 8 {
-        return Some((Part::Prefix, 8));
+        return Some((CutPart::Prefix, 8));
     }
     let metadata_end = 8 + u64::from(number_at(message, 4));
     if (message.len() as u64) < metadata_end {
-        return Some((Part::Metadata, metadata_end));
+        return Some((CutPart::Metadata, metadata_end));
     }
     let wanted = metadata_end.checked_add(body_length(message)?)?;
-    Some((Part::Body, wanted))
+    Some((CutPart::Body, wanted))
 }

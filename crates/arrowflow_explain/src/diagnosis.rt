@@ -12,7 +12,7 @@ use crate::message_fault::{
 use crate::prefix::{PrefixFault, prefix_fault};
 use crate::rejected::Rejected;
 use crate::rows_fault::{RowsFault, no_base, too_many, unknown_id};
-use crate::schema_fault::{SchemaFault, misfit, unreadable, unsupported};
+use crate::schema_fault::{SchemaCondition, misfit, unreadable, unsupported};
 use arrow_stream_reader::Kind;
 use std::alloc::Global;
 
@@ -25,11 +25,11 @@ pub enum Diagnosis {
     Ends(Cut),
     /// The numbers of its own tables are at fault.
     Message(MessageFault),
-    /// It is a batch that does not go with what was read before it.
+    /// It is a batch that does not fit the messages read before it.
     Rows(RowsFault),
     /// It is a schema with something that is not supported, or that contradicts itself.
-    Schema(SchemaFault),
-    /// Of this kind no more is known.
+    Schema(SchemaCondition),
+    /// Only the kind is known.
     Other(Kind),
 }
 
@@ -50,8 +50,8 @@ impl Diagnosis {
 }
 
 /// Why a reader rejects a message with a fault of this kind: the condition of the format that does
-/// not hold, with what was found; or the kind alone, where no more is known of it or an allocation
-/// failed. What is said holds of the bytes, whatever the kind is, and is of this kind.
+/// not hold, with what was found; or only the kind, if no more is known or an allocation failed.
+/// Whatever the kind is, the diagnosis holds for the bytes and has this kind.
 pub fn diagnose(alloc: Global, kind: Kind, rejected: &Rejected) -> Diagnosis
     ensures kind { kind_of result ≡ kind }
     ensures holds { Holds result (situation_of rejected.now) }
@@ -62,7 +62,7 @@ pub fn diagnose(alloc: Global, kind: Kind, rejected: &Rejected) -> Diagnosis
     }
 }
 
-/// What is found of a message at which a fault of this kind is to be explained.
+/// The finding for a message, when a fault of this kind is to be explained.
 fn found(alloc: Global, kind: Kind, rejected: &Rejected) -> Option<Diagnosis>
     ensures { IfSome result (λ diagnosis. Holds diagnosis (situation_of rejected.now)) }
 {
@@ -85,7 +85,7 @@ fn found(alloc: Global, kind: Kind, rejected: &Rejected) -> Option<Diagnosis>
     })
 }
 
-/// What is found of metadata that are not readable: a table of the message, or one of a type.
+/// The finding for metadata that are not readable: a table of the message, or a table of a type.
 fn not_readable(alloc: Global, rejected: &Rejected) -> Option<Diagnosis>
     ensures { IfSome result (λ diagnosis. Holds diagnosis (situation_of rejected.now)) }
 {
@@ -95,7 +95,7 @@ fn not_readable(alloc: Global, rejected: &Rejected) -> Option<Diagnosis>
     }
 }
 
-/// What is found of a stream without a schema: its end marker comes first, or its input ends.
+/// The finding for a stream without a schema: its end marker comes first, or its input ends.
 fn no_schema(rejected: &Rejected) -> Option<Diagnosis>
     ensures { IfSome result (λ diagnosis. Holds diagnosis (situation_of rejected.now)) }
 {

@@ -1,34 +1,34 @@
-//! Dumps of bytes in hexadecimal, with some of them marked.
+//! Hexadecimal dumps of bytes, with some of the bytes marked.
 
 use std::alloc::AllocError;
 use std::fmt::Write;
 use std::ops::Range;
 
-/// How many bytes a line of a dump shows.
+/// The number of bytes on a line of a dump.
 const ROW: usize = 16;
 
-/// How many lines of bytes a dump has at most.
+/// The greatest number of lines of bytes in a dump.
 const ROWS: usize = 4;
 
-/// Bytes of a message: from which on, and how many.
+/// A run of bytes of a message: its start and its length.
 #[derive(Clone, Copy, Debug, PartialEq, Eq)]
 pub struct Mark {
-    /// The index of the first.
+    /// The index of the first byte.
     pub start: usize,
-    /// How many there are.
+    /// The number of bytes.
     pub count: usize,
 }
 
 impl Mark {
-    /// Whether the byte of this index is marked.
+    /// Whether the byte with this index is marked.
     fn has(self, index: usize) -> bool {
         self.start <= index && index - self.start < self.count
     }
 }
 
-/// Appends up to 64 bytes around those that are marked, in lines of 16: the place of the first byte
-/// of the line in the stream, in hexadecimal, and the bytes. Below a line carets mark its bytes.
-/// `place` is that of the first byte of the message in the stream.
+/// Appends up to 64 bytes around those that are marked, in lines of 16: the offset of the line's
+/// first byte in the stream, in hexadecimal, and the bytes. Carets below a line mark its bytes.
+/// `place` is the offset of the message's first byte in the stream.
 pub(crate) fn push_dump(
     text: &mut String,
     message: &[u8],
@@ -48,7 +48,7 @@ pub(crate) fn push_dump(
     Ok(())
 }
 
-/// Appends a line of bytes, the first at this place of the stream.
+/// Appends a line of bytes, the first at this offset of the stream.
 fn push_row(text: &mut String, bytes: &[u8], place: u64) -> Result<(), AllocError> {
     write!(text, "  {:08x} ", place)?;
     for byte in bytes {
@@ -57,13 +57,13 @@ fn push_row(text: &mut String, bytes: &[u8], place: u64) -> Result<(), AllocErro
     text.push_str("\n")
 }
 
-/// How many digits a place has in a dump: eight, or more if it needs them.
+/// The number of digits of an offset in a dump: eight, or more if it needs them.
 fn digits_of(place: u64) -> u32 {
     (67u32.saturating_sub(place.leading_zeros()) / 4).max(8)
 }
 
-/// Appends the line that marks bytes of the line before, if there are any. That line begins with a
-/// place of so many digits, and has the bytes of these indices.
+/// Appends the line that marks bytes of the line before it, if any are marked. That line begins
+/// with an offset of this many digits, and shows the bytes with these indices.
 fn push_carets(
     text: &mut String,
     digits: u32,

@@ -1,34 +1,34 @@
-//! An input read to its end, or up to a fault, which is explained.
+//! Reads an input to its end or up to a fault, and explains the fault.
 
 ghost use Rattle.std.specs.Prelude.{◌≡◌, ◌≤◌, [], IfErr, OnOk, drop, length};
-ghost use Rattle.arrow_stream_reader.specs.Stream.{ReaderStands};
+ghost use Rattle.arrow_stream_reader.specs.Stream.{IsReaderAt};
 ghost use Rattle.arrow_stream_reader.specs.declared.reader.Verdict.TheVariants.{Open};
-ghost use Rattle.arrowflow_report.specs.Blame.{BlamesOnly};
+ghost use Rattle.arrowflow_input.specs.Blame.{BlamesOnly};
 ghost use Rattle.arrowflow_explain.specs.Explains.{ExplainsInput, IsKept, IsMadeOf, KeepsOn};
 
 use crate::body_spot::body_spot;
-use crate::counter::{Counter, Counting};
+use crate::counter::{CountedMessages, MessageCounter};
 use crate::diagnosis::diagnose;
-use crate::explanation::{Explanation, Refusal};
+use crate::explanation::{Explanation, RejectedMessage};
 use crate::rejected::Rejected;
 use crate::summary::Summary;
 use arrow_stream_reader::{Fault, StreamReader};
 use arrow_types::Limits;
-use arrowflow_report::{Input, Progress, ToolFault, take_piece};
+use arrowflow_input::{Input, Progress, ToolFault, take_piece};
 use std::alloc::{AllocError, Global};
 
-/// How many bytes one read asks for.
+/// The number of bytes that one read asks for.
 const PIECE: usize = 65_536;
 
-/// Reads a stream, and says why it is rejected, or what it has.
+/// Reads a stream, and reports why it is rejected, or what it contains.
 ///
-/// The input is read as by a check that writes nothing, in pieces of 65,536 bytes, up to an end
-/// marker, to its end or to the piece in which the stream is rejected. Of the bytes those of the
-/// message in work are kept, and each batch is laid out as a copy would write it: so memory is
+/// The input is read as by a check that writes nothing: in pieces of 65,536 bytes, up to an end
+/// marker, to its end or to the piece in which the stream is rejected. Only the bytes of the
+/// current message are kept, and each batch is laid out as a copy would write it: so memory is
 /// bounded by a message, the dictionaries, and a count for each column and dictionary.
 ///
-/// `Rejected` where a check answers `Stream`, with the same fault; `Sound` where it answers `Ok`.
-/// `Input(0)` where a read failed, an interrupted one included; `Memory` where an allocation failed.
+/// `Rejected` if a check returns `Stream`, with the same fault; `Sound` if it returns `Ok`.
+/// `Input(0)` if a read failed, including an interrupted one; `Memory` if an allocation failed.
 pub fn explain<R: Input>(
     alloc: Global,
     input: &mut R,
@@ -47,18 +47,18 @@ pub fn explain<R: Input>(
         kept: Vec::new(alloc),
         limits: *limits,
     };
-    explain_pieces(input, work, Counter::new(alloc, *limits), &mut room)
+    explain_pieces(input, work, MessageCounter::new(alloc, *limits), &mut room)
 }
 
-/// Reads the pieces of an input, one by one. No stream is longer than the last place allows, so that
-/// this ends.
+/// Reads the pieces of an input, one by one. No stream is longer than the last offset allows, so
+/// this terminates.
 fn explain_pieces<R: Input>(
     input: &mut R,
     mut work: Work,
-    mut counter: Counter,
+    mut counter: MessageCounter,
     room: &mut [u8],
 ) -> Result<Explanation, ToolFault>
-    requires start { ReaderStands work.reader [] [] }
+    requires start { IsReaderAt work.reader [] [] }
     requires limits { work.reader.limits ≡ work.limits }
     requires open { work.reader.at.verdict ≡ Open }
     requires kept { IsKept [] work.reader work.kept.items }
@@ -86,7 +86,7 @@ fn explain_pieces<R: Input>(
             Err(ToolFault::Stream(fault)) => {
                 return Ok(Explanation::Rejected(work.refusal(fault, next.so_far())));
             }
-            // `take` fails with no other fault than these
+            // `take` fails with no faults other than these
             Err(ToolFault::Memory | ToolFault::Input(_) | ToolFault::Output) => {
                 return Err(ToolFault::Memory);
             }
@@ -95,7 +95,7 @@ fn explain_pieces<R: Input>(
     }
 }
 
-/// A reader, and the bytes of its message in work.
+/// A reader, and the bytes of its current message.
 #[derive(Drop)]
 struct Work {
     alloc: Global,
@@ -105,8 +105,12 @@ struct Work {
 }
 
 impl Work {
-    /// Gives the reader a piece, and counts the messages that are whole with it.
-    fn take(&mut self, counter: Counter, piece: &[u8]) -> (Counter, Result<Progress, ToolFault>)
+    /// Gives the reader a piece, and counts the messages that the piece completes.
+    fn take(
+        &mut self,
+        counter: MessageCounter,
+        piece: &[u8],
+    ) -> (MessageCounter, Result<Progress, ToolFault>)
         ensures keeps { KeepsOn self.old.reader self.old.kept.items piece.now result.1
             self.new.reader self.new.kept.items }
         ensures limits { self.new.reader.limits ≡ self.old.reader.limits }
@@ -116,7 +120,7 @@ impl Work {
         let Ok(()) = self.kept.extend_from_slice(piece) else {
             return (counter, Err(ToolFault::Memory));
         };
-        let counting = Counting {
+        let counting = CountedMessages {
             counter,
             bytes: &self.kept,
             place: before,
@@ -130,8 +134,8 @@ impl Work {
         }
     }
 
-    /// Why the reader says this fault.
-    fn refusal(self, fault: Fault, before: Summary) -> Refusal
+    /// Why the reader reports this fault.
+    fn refusal(self, fault: Fault, before: Summary) -> RejectedMessage
         requires { self.reader.limits ≡ self.limits }
         ensures { IsMadeOf fault self.limits self.reader.at self.kept.items result }
     {
@@ -148,7 +152,7 @@ impl Work {
         };
         let diagnosis = diagnose(alloc, fault.kind, &rejected);
         let spot = body_spot(alloc, fault.kind, &rejected);
-        Refusal {
+        RejectedMessage {
             fault,
             diagnosis,
             spot,
@@ -159,7 +163,7 @@ impl Work {
     }
 }
 
-/// Lets go the first bytes, so many of them.
+/// Removes the first `count` bytes.
 fn forget(alloc: Global, kept: &mut Vec<u8>, count: usize) -> Result<(), AllocError>
     ensures { OnOk result (kept.new.items ≡ drop count kept.old.items) }
 {

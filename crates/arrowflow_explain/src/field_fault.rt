@@ -16,45 +16,47 @@ use arrow_types::{DecimalWidth, TypeSet};
 
 /// Why a field of a schema is rejected, by its own tables (`Schema.fbs`, table `Field`).
 #[derive(Clone, Copy, Debug, PartialEq, Eq)]
-pub enum FieldFault {
-    /// Its type has this code, which is not read, or not among the types of the limits.
+pub enum FieldCondition {
+    /// Its type has this code, which is not one that is read, or not one of the types of the
+    /// limits.
     TypeNotRead {
         code: u64,
     },
-    /// Its dictionary is of the kind of this number, and not a dense array.
+    /// Its dictionary's kind has this number, and is not a dense array.
     DictionaryKind {
         number: u64,
     },
-    /// It has so many children, which its type, of this code, has not.
+    /// It has this many children, a number that its type, which has this code, does not allow.
     Children {
         code: u64,
         count: usize,
     },
-    /// It is an Int of so many bits.
+    /// It is an Int of this many bits.
     BitWidth {
         bits: u64,
     },
-    /// It is a FloatingPoint of the precision of this number.
+    /// It is a FloatingPoint whose precision has this number.
     Precision {
         number: u64,
     },
-    /// Its type, of this code, has the unit of this number.
+    /// Its type, which has this code, has the unit with this number.
     Unit {
         code: u64,
         number: u64,
     },
-    /// Its type, of this code, has this size, a negative number that is given without its sign.
+    /// Its type, which has this code, has this size, a negative number that is given as an unsigned
+    /// one.
     Size {
         code: u64,
         number: u64,
     },
-    /// It is a Time of the unit of this number, which does not have so many bits.
+    /// It is a Time in the unit with this number, which does not have this many bits.
     TimeWidth {
         unit: u64,
         bits: u64,
     },
-    /// It is a Decimal of so many bits, which no Decimal has, or which do not allow this precision
-    /// and this scale. The scale is given without its sign.
+    /// It is a Decimal of this many bits, which no Decimal has, or which do not allow this
+    /// precision and this scale. The scale is given as an unsigned number.
     Decimal {
         bits: u64,
         precision: u64,
@@ -68,51 +70,52 @@ pub enum FieldFault {
     },
 }
 
-impl FieldFault {
+impl FieldCondition {
     /// The kind of the reader's fault.
     pub fn kind(self) -> Kind
         ensures { result ≡ field_kind self }
     {
         match self {
-            FieldFault::TypeNotRead { .. } | FieldFault::DictionaryKind { .. } => Kind::Unsupported,
-            FieldFault::Children { .. } | FieldFault::BitWidth { .. } => Kind::Schema,
-            FieldFault::Precision { .. } => Kind::Schema,
-            FieldFault::Unit { .. } | FieldFault::Size { .. } => Kind::Schema,
-            FieldFault::TimeWidth { .. } | FieldFault::Decimal { .. } => Kind::Schema,
-            FieldFault::Entries => Kind::Schema,
-            FieldFault::TypeTable { .. } => Kind::Metadata,
+            FieldCondition::TypeNotRead { .. } | FieldCondition::DictionaryKind { .. } =>
+                Kind::Unsupported,
+            FieldCondition::Children { .. } | FieldCondition::BitWidth { .. } => Kind::Schema,
+            FieldCondition::Precision { .. } => Kind::Schema,
+            FieldCondition::Unit { .. } | FieldCondition::Size { .. } => Kind::Schema,
+            FieldCondition::TimeWidth { .. } | FieldCondition::Decimal { .. } => Kind::Schema,
+            FieldCondition::Entries => Kind::Schema,
+            FieldCondition::TypeTable { .. } => Kind::Metadata,
         }
     }
 }
 
-/// What a field has that is not supported, if it has such.
-pub(crate) fn unsupported_in(types: TypeSet, field: &Spot) -> Option<FieldFault>
+/// What a field has that is not supported, if anything.
+pub(crate) fn unsupported_in(types: TypeSet, field: &Spot) -> Option<FieldCondition>
     ensures { IfSome result (λ fault. FieldFails fault types field.now) }
 {
     let code = code_in(field)?;
     if !is_read(types, code) {
-        return Some(FieldFault::TypeNotRead { code });
+        return Some(FieldCondition::TypeNotRead { code });
     }
     let dictionary = field.table(slots::field::DICTIONARY)?;
     let number = dictionary.number(slots::dictionary_encoding::DICTIONARY_KIND, 2, 0)?;
     if number == 0 {
         return None;
     }
-    Some(FieldFault::DictionaryKind { number })
+    Some(FieldCondition::DictionaryKind { number })
 }
 
-/// That the table of a field's type is not readable, if it is required and is not.
-pub(crate) fn unreadable_in(types: TypeSet, field: &Spot) -> Option<FieldFault>
+/// The fault that the table of a field's type is required and not readable, if it is so.
+pub(crate) fn unreadable_in(types: TypeSet, field: &Spot) -> Option<FieldCondition>
     ensures { IfSome result (λ fault. FieldFails fault types field.now) }
 {
     let code = code_in(field)?;
     if !is_read(types, code) || !has_table(code) || field.table(slots::field::TYPE).is_some() {
         return None;
     }
-    Some(FieldFault::TypeTable { code })
+    Some(FieldCondition::TypeTable { code })
 }
 
-/// Whether a type of this code has a table that is read.
+/// Whether a type with this code has a table that is read.
 fn has_table(code: u64) -> bool
     ensures { result ≡ has_table code }
 {
@@ -131,14 +134,14 @@ fn has_table(code: u64) -> bool
     )
 }
 
-/// What a field has that its type cannot have, if it has such.
-pub(crate) fn misfit_in(types: TypeSet, field: &Spot) -> Option<FieldFault>
+/// What a field has that its type cannot have, if anything.
+pub(crate) fn misfit_in(types: TypeSet, field: &Spot) -> Option<FieldCondition>
     ensures { IfSome result (λ fault. FieldFails fault types field.now) }
 {
     let code = code_in(field)?;
     let count = field.count(slots::field::CHILDREN).unwrap_or(0);
     if !has_children(code, count) {
-        return Some(FieldFault::Children { code, count });
+        return Some(FieldCondition::Children { code, count });
     }
     match code {
         INT => bits_in(field),
@@ -148,7 +151,7 @@ pub(crate) fn misfit_in(types: TypeSet, field: &Spot) -> Option<FieldFault>
         DECIMAL => bad_decimal_in(field),
         MAP => bad_entries_in(field),
         FIXED_SIZE_BINARY | FIXED_SIZE_LIST => bad_size_in(field, code),
-        // a type without a number of its own
+        // a type without numbers of its own
         _ => None,
     }
 }
@@ -160,7 +163,7 @@ pub(crate) fn code_in(field: &Spot) -> Option<u64>
     field.number(slots::field::TYPE_TYPE, 1, 0)
 }
 
-/// Whether a type of this code is read among these types.
+/// Whether a type with this code is read among these types.
 fn is_read(types: TypeSet, code: u64) -> bool
     ensures { result ≡ is_some (taken types (type_code code)) }
 {
@@ -169,12 +172,12 @@ fn is_read(types: TypeSet, code: u64) -> bool
         FIXED_SIZE_BINARY | DURATION | 19 | 20 | 21 => true,
         FLOATING_POINT | DECIMAL | INTERVAL => matches!(types, TypeSet::All),
         FIXED_SIZE_LIST | MAP => matches!(types, TypeSet::All),
-        // a number that is no type's of the profile
+        // a number that is not the code of a type of the profile
         _ => false,
     }
 }
 
-/// Whether a type of this code may have so many children.
+/// Whether a type with this code may have this many children.
 fn has_children(code: u64, count: usize) -> bool
     ensures { result ≡ children_fit (type_code code) count }
 {
@@ -186,20 +189,20 @@ fn has_children(code: u64, count: usize) -> bool
     }
 }
 
-/// The width of an Int, if it is none that an Int has.
-fn bits_in(field: &Spot) -> Option<FieldFault>
+/// The width of an Int, if no Int has it.
+fn bits_in(field: &Spot) -> Option<FieldCondition>
     requires { code_in field.now ≡ Some 2 }
     ensures { IfSome result (λ fault. (types : Types) → FieldFails fault types field.now) }
 {
     let bits = first_number(field, 4, 0)?;
     match bits {
         8 | 16 | 32 | 64 => None,
-        _ => Some(FieldFault::BitWidth { bits }),
+        _ => Some(FieldCondition::BitWidth { bits }),
     }
 }
 
-/// The precision of a FloatingPoint, if it is none.
-fn precision_in(field: &Spot) -> Option<FieldFault>
+/// The precision of a FloatingPoint, if it is not a valid one.
+fn precision_in(field: &Spot) -> Option<FieldCondition>
     requires { code_in field.now ≡ Some 3 }
     ensures { IfSome result (λ fault. (types : Types) → FieldFails fault types field.now) }
 {
@@ -207,11 +210,11 @@ fn precision_in(field: &Spot) -> Option<FieldFault>
     if number < 3 {
         return None;
     }
-    Some(FieldFault::Precision { number })
+    Some(FieldCondition::Precision { number })
 }
 
-/// The unit of a type of this code, if the type has none of this number.
-fn bad_unit_in(field: &Spot, code: u64) -> Option<FieldFault>
+/// The unit of a type with this code, if the type has no unit with this number.
+fn bad_unit_in(field: &Spot, code: u64) -> Option<FieldCondition>
     requires code { code_in field.now ≡ Some code }
     requires units { has_units code ≡ true }
     ensures { IfSome result (λ fault. (types : Types) → FieldFails fault types field.now) }
@@ -220,11 +223,11 @@ fn bad_unit_in(field: &Spot, code: u64) -> Option<FieldFault>
     if has_unit(code, number) {
         return None;
     }
-    Some(FieldFault::Unit { code, number })
+    Some(FieldCondition::Unit { code, number })
 }
 
 /// The size of a FixedSizeBinary or a FixedSizeList, if it is negative.
-fn bad_size_in(field: &Spot, code: u64) -> Option<FieldFault>
+fn bad_size_in(field: &Spot, code: u64) -> Option<FieldCondition>
     requires code { code_in field.now ≡ Some code }
     requires sized { (code ≡ 15) ⊎ (code ≡ 16) }
     ensures { IfSome result (λ fault. (types : Types) → FieldFails fault types field.now) }
@@ -233,17 +236,17 @@ fn bad_size_in(field: &Spot, code: u64) -> Option<FieldFault>
     if number <= 2_147_483_647 {
         return None;
     }
-    Some(FieldFault::Size { code, number })
+    Some(FieldCondition::Size { code, number })
 }
 
-/// The unit or the width of a Time, if it has none of this unit, or none of this width.
-fn bad_time_in(field: &Spot) -> Option<FieldFault>
+/// The unit or the width of a Time, if there is no such unit, or the unit does not have this width.
+fn bad_time_in(field: &Spot) -> Option<FieldCondition>
     requires { code_in field.now ≡ Some 9 }
     ensures { IfSome result (λ fault. (types : Types) → FieldFails fault types field.now) }
 {
     let unit = unit_in(field, TIME)?;
     if !has_unit(TIME, unit) {
-        return Some(FieldFault::Unit {
+        return Some(FieldCondition::Unit {
             code: TIME,
             number: unit,
         });
@@ -252,23 +255,23 @@ fn bad_time_in(field: &Spot) -> Option<FieldFault>
     if is_time(unit, bits) {
         return None;
     }
-    Some(FieldFault::TimeWidth { unit, bits })
+    Some(FieldCondition::TimeWidth { unit, bits })
 }
 
-/// Whether a Time of the unit of this number has so many bits.
+/// Whether a Time in the unit with this number has this many bits.
 fn is_time(unit: u64, bits: u64) -> bool
     ensures { result ≡ is_time (time_unit unit) bits }
 {
     match unit {
         0 | 1 => bits == 32,
         2 | 3 => bits == 64,
-        // a number that is no unit's
+        // a number that is not a unit's
         _ => false,
     }
 }
 
 /// The numbers of a Decimal, if no Decimal has them.
-fn bad_decimal_in(field: &Spot) -> Option<FieldFault>
+fn bad_decimal_in(field: &Spot) -> Option<FieldCondition>
     requires { code_in field.now ≡ Some 7 }
     ensures { IfSome result (λ fault. (types : Types) → FieldFails fault types field.now) }
 {
@@ -278,14 +281,14 @@ fn bad_decimal_in(field: &Spot) -> Option<FieldFault>
     if is_decimal(bits, precision, scale) {
         return None;
     }
-    Some(FieldFault::Decimal {
+    Some(FieldCondition::Decimal {
         bits,
         precision,
         scale,
     })
 }
 
-/// Whether a Decimal of so many bits may have this precision and this scale.
+/// Whether a Decimal of this many bits may have this precision and this scale.
 fn is_decimal(bits: u64, precision: u64, scale: u64) -> bool
     ensures { result
         ≡ is_some (decimal_by (decimal_width bits) precision (decimal_scale scale)) }
@@ -303,7 +306,7 @@ fn allows(width: DecimalWidth, precision: u64, scale: i32) -> bool
     1 <= precision && precision <= u64::from(width.digits()) && -76 <= scale && scale <= 76
 }
 
-/// The width of a Decimal of so many bits.
+/// The width of a Decimal of this many bits.
 fn decimal_width(bits: u64) -> Option<DecimalWidth>
     ensures { result ≡ decimal_width bits }
 {
@@ -312,20 +315,20 @@ fn decimal_width(bits: u64) -> Option<DecimalWidth>
         64 => Some(DecimalWidth::SixtyFour),
         128 => Some(DecimalWidth::OneHundredTwentyEight),
         256 => Some(DecimalWidth::TwoHundredFiftySix),
-        // a number that is no Decimal's width
+        // a number that is not the width of a Decimal
         _ => None,
     }
 }
 
-/// The signed number that four bytes are.
+/// The signed number that has the same four bytes.
 pub(crate) fn signed(number: u64) -> i32
     ensures { result ≡ decimal_scale number }
 {
     ((number % 4_294_967_296) as u32).cast_signed()
 }
 
-/// That the child of a Map cannot be its entries, if it cannot.
-fn bad_entries_in(field: &Spot) -> Option<FieldFault>
+/// The fault that the child of a Map cannot be its entries, if it cannot.
+fn bad_entries_in(field: &Spot) -> Option<FieldCondition>
     requires { code_in field.now ≡ Some 17 }
     ensures { IfSome result (λ fault. (types : Types) → FieldFails fault types field.now) }
 {
@@ -334,10 +337,10 @@ fn bad_entries_in(field: &Spot) -> Option<FieldFault>
     if can_be_entries(&child, code) {
         return None;
     }
-    Some(FieldFault::Entries)
+    Some(FieldCondition::Entries)
 }
 
-/// Whether a field of this code is a struct of two fields without a dictionary.
+/// Whether a field with this code is a struct of two fields without a dictionary.
 fn can_be_entries(field: &Spot, code: u64) -> bool
     ensures { result ≡ can_be_entries field.now code }
 {
@@ -345,7 +348,7 @@ fn can_be_entries(field: &Spot, code: u64) -> bool
     code == STRUCT && count == 2 && field.field(slots::field::DICTIONARY).is_none()
 }
 
-/// The first number of a field's type, of `width` bytes and with this default.
+/// The first number of a field's type, `width` bytes wide and with this default.
 fn first_number(field: &Spot, width: usize, default: u64) -> Option<u64>
     requires low { 1 ≤ width }
     requires high { width ≤ 8 }
@@ -354,7 +357,7 @@ fn first_number(field: &Spot, width: usize, default: u64) -> Option<u64>
     type_number(field, 0, width, default)
 }
 
-/// The number of this index in a field's type, of `width` bytes and with this default.
+/// The number with this index in a field's type, `width` bytes wide and with this default.
 fn type_number(field: &Spot, index: u16, width: usize, default: u64) -> Option<u64>
     requires low { 1 ≤ width }
     requires high { width ≤ 8 }
@@ -365,7 +368,7 @@ fn type_number(field: &Spot, index: u16, width: usize, default: u64) -> Option<u
         .number(index, width, default)
 }
 
-/// The unit of a type of this code.
+/// The unit of a type with this code.
 fn unit_in(field: &Spot, code: u64) -> Option<u64>
     ensures { result ≡ unit_in field.now code }
 {
@@ -377,7 +380,7 @@ fn unit_in(field: &Spot, code: u64) -> Option<u64>
     first_number(field, 2, default)
 }
 
-/// Whether a type of this code has a unit of this number.
+/// Whether a type with this code has a unit with this number.
 fn has_unit(code: u64, number: u64) -> bool
     ensures { result ≡ has_unit code number }
 {

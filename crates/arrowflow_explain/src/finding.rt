@@ -1,4 +1,4 @@
-//! What is found of a batch's nodes and buffers, each with what holds of them.
+//! Findings in a batch's nodes and buffers, each with what holds for them.
 
 ghost use Rattle.std.specs.Prelude.{◌≡◌, ◌≤◌, ℕ, pos, IfSome, false, true};
 ghost use Rattle.arrow_body_reader.specs.Held.{IsHeld};
@@ -12,19 +12,20 @@ use arrow_meta_reader::RecordBatch;
 use arrow_types::Buffer;
 use std::str;
 
-/// How many bytes a buffer has for its slots (Columnar Format, "Buffer Listing for Each Layout").
+/// The number of bytes that a buffer needs for its slots (Columnar Format, "Buffer Listing for Each
+/// Layout").
 #[derive(Clone, Copy, Debug, PartialEq, Eq)]
 pub enum Need {
     /// A bit for each slot.
     Bits,
-    /// So many bytes for each slot.
+    /// This many bytes for each slot.
     Bytes(u32),
-    /// An offset of so many bytes for each slot, and one more.
+    /// An offset of this many bytes for each slot, and one more.
     Offsets(u32),
 }
 
 impl Need {
-    /// How many bytes so many slots need.
+    /// The number of bytes that this many slots need.
     pub fn bytes(self, slots: u32) -> u64
         ensures { result ≡ needed_bytes self slots }
     {
@@ -37,37 +38,38 @@ impl Need {
     }
 }
 
-/// What is found of a node and its buffers.
+/// A finding in a node and its buffers.
 #[derive(Clone, Copy, Debug, PartialEq, Eq)]
 pub enum Finding {
-    /// The batch has so many nodes, and the field's is not among them.
+    /// The batch has this many nodes, and the field's is not among them.
     NodeMissing {
         nodes: usize,
     },
-    /// The batch has so many buffers, and not all of the field are among them.
+    /// The batch has this many buffers, and not all of the field's are among them.
     BufferMissing {
         buffers: usize,
     },
-    /// The buffer of this index, which is here, does not lie inside the body of so many bytes.
+    /// The buffer with this index, which is given, does not lie inside the body, which has this
+    /// many bytes.
     BufferOutside {
         buffer: usize,
         place: Buffer,
         body: usize,
     },
-    /// The column has so many slots, and the batch so many rows.
+    /// The column has this many slots, and the batch this many rows.
     RowCount {
         slots: i64,
         rows: i64,
     },
-    /// The buffer of this index has so many bytes, and so many slots need more.
+    /// The buffer with this index has this many bytes, and this many slots need more.
     TooFew {
         buffer: usize,
         bytes: u64,
         slots: u32,
         need: Need,
     },
-    /// In the buffer of this index, of offsets, that of the slot is above the next one, or that one
-    /// is above the number of bytes or items. They are given without their signs.
+    /// In the offsets buffer with this index, the slot's offset is above the next one, or the next
+    /// one is above the number of bytes or items. Both are given as unsigned numbers.
     Offsets {
         buffer: usize,
         slot: u32,
@@ -75,19 +77,19 @@ pub enum Finding {
         end: u64,
         top: u64,
     },
-    /// The node has so many slots, and its number of nulls or its children contradict them.
+    /// The node has this many slots, and its number of nulls or its children contradict them.
     Unfit {
         slots: i64,
     },
-    /// The bytes of the slot, which are those of the body from one place to another, are not UTF-8.
+    /// The bytes of the slot, which lie in the body from one offset up to another, are not UTF-8.
     Text {
         buffer: usize,
         slot: u32,
         start: usize,
         end: usize,
     },
-    /// The index of the slot, in the buffer of this index, is negative or not below the number of the
-    /// dictionary's values. It is given without its sign.
+    /// The index of the slot, in the buffer with this index, is negative or not below the number of
+    /// the dictionary's values. It is given as an unsigned number.
     Index {
         buffer: usize,
         slot: u32,
@@ -103,14 +105,15 @@ pub(crate) struct Content<'a> {
     pub(crate) body: &'a [u8],
 }
 
-/// Where a buffer lies in its body: its first byte, and how many it has.
+/// Where a buffer lies in its body: its first byte, and its number of bytes.
 #[derive(Clone, Copy)]
 pub(crate) struct Run {
     start: usize,
     count: usize,
 }
 
-/// A node with offsets: its index, that of its buffer of offsets, and of what they are.
+/// A node with offsets: its index, the index of its buffer of offsets, their width, and the
+/// greatest value that they may have.
 #[derive(Clone, Copy)]
 pub(crate) struct OffsetNode {
     pub(crate) node: usize,
@@ -119,7 +122,7 @@ pub(crate) struct OffsetNode {
     pub(crate) top: u64,
 }
 
-/// A node with texts: its index, that of its first buffer, and the width of its offsets.
+/// A node with texts: its index, the index of its first buffer, and the width of its offsets.
 #[derive(Clone, Copy)]
 pub(crate) struct TextNode {
     pub(crate) node: usize,
@@ -127,8 +130,8 @@ pub(crate) struct TextNode {
     pub(crate) width: OffsetWidth,
 }
 
-/// A node with indices: its index, that of its first buffer, how many bytes an index takes and
-/// whether it has a sign, and how many values there are.
+/// A node with indices: its index, the index of its first buffer, the number of bytes of an index
+/// and whether it is signed, and the number of values.
 #[derive(Clone, Copy)]
 pub(crate) struct IndexNode {
     pub(crate) node: usize,
@@ -139,14 +142,15 @@ pub(crate) struct IndexNode {
 }
 
 impl Content<'_> {
-    /// How many slots the node of this index has, if it is there and the number is one.
+    /// The number of slots of the node with this index, if the node is there and the number is
+    /// valid.
     pub(crate) fn slots(self, node: usize) -> Option<u32>
         ensures { IfSome result (λ n. HasSlots (batch_view self.entry.batch.now) node (pos n)) }
     {
         u32::try_from(self.batch.nodes.get(node)?.length).ok()
     }
 
-    /// That the batch has no node of this index, if it has none.
+    /// The finding that the batch has no node with this index, if it has none.
     pub(crate) fn node_missing(self, node: usize) -> Option<Finding>
         ensures { IfSome result (λ finding.
             FindingHolds finding node (batch_view self.entry.batch.now) self.entry.body.now) }
@@ -158,7 +162,7 @@ impl Content<'_> {
         Some(Finding::NodeMissing { nodes })
     }
 
-    /// Where the buffer of this index lies, if it lies inside the body.
+    /// Where the buffer with this index lies, if it lies inside the body.
     pub(crate) fn run(self, index: usize) -> Option<Run>
         ensures { IfSome result (λ run. LiesIn self.entry.body.now (batch_view self.entry.batch.now)
             index run.start run.count) }
@@ -175,7 +179,7 @@ impl Content<'_> {
         Some(Run { start, count })
     }
 
-    /// How many bytes the buffer of this index has, 0 where it does not lie inside the body.
+    /// The number of bytes of the buffer with this index, 0 if it does not lie inside the body.
     pub(crate) fn count(self, index: usize) -> usize {
         match self.run(index) {
             Some(run) => run.count,
@@ -183,7 +187,7 @@ impl Content<'_> {
         }
     }
 
-    /// That the buffer of this index does not lie inside the body, if it does not.
+    /// The finding that the buffer with this index does not lie inside the body, if it does not.
     pub(crate) fn outside(self, index: usize) -> Option<Finding>
         ensures { IfSome result (λ finding. (node : ℕ)
             → FindingHolds finding node (batch_view self.entry.batch.now) self.entry.body.now) }
@@ -199,7 +203,8 @@ impl Content<'_> {
         })
     }
 
-    /// That the buffer of this index has too few bytes for the slots of a node, if it has.
+    /// The finding that the buffer with this index has too few bytes for the slots of a node, if it
+    /// has.
     pub(crate) fn too_few(self, node: usize, index: usize, need: Need) -> Option<Finding>
         ensures { IfSome result (λ finding.
             FindingHolds finding node (batch_view self.entry.batch.now) self.entry.body.now) }
@@ -217,8 +222,8 @@ impl Content<'_> {
         })
     }
 
-    /// The first offset of a node that is above the next one, or has that above the top, if there is
-    /// one.
+    /// The first offset of a node that is above the next one, or whose next one is above the top,
+    /// if there is one.
     pub(crate) fn bad_offset(self, at: OffsetNode) -> Option<Finding>
         ensures { IfSome result (λ finding.
             FindingHolds finding at.node (batch_view self.entry.batch.now) self.entry.body.now) }
@@ -238,7 +243,7 @@ impl Content<'_> {
         None
     }
 
-    /// The offset of a slot and the next one, in the buffer of this index.
+    /// The offset of a slot and the next offset, in the buffer with this index.
     fn pair(self, buffer: usize, width: OffsetWidth, slot: u32) -> Option<(u64, u64)>
         ensures { IfSome result (λ pair. HasPair self.entry.body.now (batch_view self.entry.batch.now)
             buffer slot pair) }
@@ -269,7 +274,7 @@ impl Content<'_> {
         None
     }
 
-    /// From which byte of the body up to which the text of a slot is.
+    /// The bytes of the body in which the text of a slot lies: from which on, and up to which.
     fn text_range(self, at: TextNode, slot: u32) -> Option<(usize, usize)> {
         let first = self.run(at.buffer.checked_add(2)?)?.start;
         let (start, end) = self.pair(at.buffer.checked_add(1)?, at.width, slot)?;
@@ -278,7 +283,7 @@ impl Content<'_> {
         Some((start, end))
     }
 
-    /// The first valid slot of a node of indices that has no value, if there is one.
+    /// The first valid slot of a node of indices whose index refers to no value, if there is one.
     pub(crate) fn bad_index(self, at: IndexNode) -> Option<Finding>
         requires low { 1 ≤ at.width }
         requires high { at.width ≤ 8 }
@@ -302,7 +307,8 @@ impl Content<'_> {
         None
     }
 
-    /// Whether a slot is valid, by the bitmap in the buffer of this index, which may be empty.
+    /// Whether a slot is valid according to the bitmap in the buffer with this index, which may be
+    /// empty.
     fn is_valid(self, buffer: usize, slot: u32) -> bool {
         match self.run(buffer) {
             None | Some(Run { count: 0, .. }) => true,
@@ -314,7 +320,7 @@ impl Content<'_> {
     }
 }
 
-/// Whether a body has bytes from one place up to another, and they are not UTF-8.
+/// Whether a body has bytes from one offset up to another, and they are not UTF-8.
 fn is_bad_text(body: &[u8], start: usize, end: usize) -> bool
     ensures { result ≡ true → IsBadText body.now start end }
 {
@@ -324,7 +330,7 @@ fn is_bad_text(body: &[u8], start: usize, end: usize) -> bool
     }
 }
 
-/// Whether a buffer lies inside a body. Where an empty one is does not matter.
+/// Whether a buffer lies inside a body. The offset of an empty buffer does not matter.
 fn is_held(body: &[u8], place: Buffer) -> bool
     ensures { result ≡ false → IsHeld body.now place → ⊥ }
 {
@@ -340,7 +346,7 @@ fn is_held(body: &[u8], place: Buffer) -> bool
     }
 }
 
-/// Whether a number of so many bytes, given without its sign, is negative.
+/// Whether a number of this many bytes, given as an unsigned number, is negative.
 fn is_negative(number: u64, width: usize) -> bool
     ensures { result ≡ true → half_of width ≤ number }
 {

@@ -1,6 +1,6 @@
-//! What an input is that is no stream, by its first bytes.
+//! The format of an input that is not a stream, by its first bytes.
 
-/// A format that an input may have in place of that of streams, or around it.
+/// A format that an input may have instead of a stream's, or around it.
 #[derive(Clone, Copy, Debug, PartialEq, Eq)]
 pub enum Format {
     /// An Arrow file (Columnar Format, "IPC File Format").
@@ -21,13 +21,13 @@ pub enum Format {
     Zip,
     /// The head of an HTTP response.
     Http,
-    /// A page of HTML or a text of XML.
+    /// An HTML page or an XML text.
     Markup,
-    /// A text of JSON.
+    /// A JSON text.
     Json,
 }
 
-/// The formats that have a signature, each with it.
+/// The formats that have a signature, each with its signature.
 const SIGNATURES: [(&[u8], Format); 12] = [
     (b"ARROW1", Format::ArrowFile),
     (b"FEA1", Format::Feather),
@@ -44,7 +44,7 @@ const SIGNATURES: [(&[u8], Format); 12] = [
 ];
 
 impl Format {
-    /// The format with whose signature the bytes begin, if one has it.
+    /// The format with whose signature the bytes begin, if there is one.
     pub fn of(bytes: &[u8]) -> Option<Format> {
         for (signature, format) in SIGNATURES {
             if bytes.starts_with(signature) {
@@ -54,7 +54,7 @@ impl Format {
         None
     }
 
-    /// What the input is, and what can be done.
+    /// The format of the input, and what can be done.
     pub fn advice(self) -> &'static str {
         match self {
             Format::ArrowFile => {

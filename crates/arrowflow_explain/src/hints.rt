@@ -1,19 +1,19 @@
 //! What can be done about a fault.
 
-use crate::cut::Part;
+use crate::cut::CutPart;
 use crate::diagnosis::Diagnosis;
-use crate::explanation::Refusal;
-use crate::field_fault::FieldFault;
+use crate::explanation::RejectedMessage;
+use crate::field_fault::FieldCondition;
 use crate::format::Format;
 use crate::message_fault::MessageFault;
 use crate::prefix::PrefixFault;
 use crate::rows_fault::RowsFault;
-use crate::schema_fault::SchemaFault;
+use crate::schema_fault::SchemaCondition;
 use arrow_stream_reader::Kind;
 use arrow_types::Limits;
 
 /// What can be done about a fault, in a sentence or two, each below 80 characters.
-pub(crate) fn hint_of(refusal: &Refusal) -> &'static str {
+pub(crate) fn hint_of(refusal: &RejectedMessage) -> &'static str {
     match &refusal.diagnosis {
         Diagnosis::Prefix(fault) => prefix_hint(*fault, refusal),
         Diagnosis::Ends(cut) => cut_hint(cut.part, refusal),
@@ -25,7 +25,7 @@ pub(crate) fn hint_of(refusal: &Refusal) -> &'static str {
 }
 
 /// What can be done about a prefix.
-fn prefix_hint(fault: PrefixFault, refusal: &Refusal) -> &'static str {
+fn prefix_hint(fault: PrefixFault, refusal: &RejectedMessage) -> &'static str {
     match fault {
         PrefixFault::Continuation { .. } if refusal.fault.place == 0 => {
             match Format::of(&refusal.message) {
@@ -45,23 +45,24 @@ fn prefix_hint(fault: PrefixFault, refusal: &Refusal) -> &'static str {
     }
 }
 
-/// What can be done about an input that ends too early.
-fn cut_hint(part: Part, refusal: &Refusal) -> &'static str {
+/// What can be done about an input that ends too soon.
+fn cut_hint(part: CutPart, refusal: &RejectedMessage) -> &'static str {
     match part {
-        Part::Prefix if refusal.message.is_empty() => "The input is empty, or a part of a stream.",
-        Part::Prefix if !may_be_stream(refusal) => "This is no Arrow stream.",
-        Part::Prefix | Part::Metadata | Part::Body => {
+        CutPart::Prefix if refusal.message.is_empty() =>
+            "The input is empty, or a part of a stream.",
+        CutPart::Prefix if !may_be_stream(refusal) => "This is no Arrow stream.",
+        CutPart::Prefix | CutPart::Metadata | CutPart::Body => {
             "The input ends inside a message: it was cut off. Send or copy it again."
         }
     }
 }
 
-/// Whether the few bytes of an input may begin a stream, or a message of one.
-fn may_be_stream(refusal: &Refusal) -> bool {
+/// Whether the few bytes of an input may be the beginning of a stream, or of a message of one.
+fn may_be_stream(refusal: &RejectedMessage) -> bool {
     refusal.fault.place != 0 || refusal.message.first() == Some(&0xFF)
 }
 
-/// What can be done about a message's own numbers.
+/// What can be done about the numbers of a message itself.
 fn message_hint(fault: MessageFault) -> &'static str {
     match fault {
         MessageFault::BodyLength { length } if length.cast_signed() < 0 => CHANGED,
@@ -96,43 +97,43 @@ fn rows_hint(fault: RowsFault) -> &'static str {
     }
 }
 
-/// What is said of metadata that are not readable.
+/// The hint for metadata that are not readable.
 const LOST: &str = "Bytes were changed or lost, or the writer wrote no FlatBuffer.";
 
-/// What is said of a negative number.
+/// The hint for a negative number.
 const CHANGED: &str = "A negative number is written by no writer: bytes were changed or lost.";
 
-/// What is said of a number that no option allows.
+/// The hint for a number that no option allows.
 const OVER_ALL: &str = "No limit may be so high: bytes were changed or lost.";
 
-/// What is said of all else that a writer should not have written.
+/// The hint for everything else that a writer should not have written.
 const AGAIN: &str = "Bytes were changed, or the writer is at fault: send or write it again.";
 
 /// What can be done about a number of rows over the limit.
 const ROWS: &str = "The limit may be too low: --limit-rows N";
 
 /// What can be done about a schema.
-fn schema_hint(fault: &SchemaFault) -> &'static str {
+fn schema_hint(fault: &SchemaCondition) -> &'static str {
     match fault {
-        SchemaFault::Field {
-            fault: FieldFault::TypeNotRead {
+        SchemaCondition::Field {
+            fault: FieldCondition::TypeNotRead {
                 code: 3 | 7 | 11 | 16 | 17,
             },
             ..
         } => "This type is read with --types all.",
-        SchemaFault::Field {
-            fault: FieldFault::TypeNotRead { .. },
+        SchemaCondition::Field {
+            fault: FieldCondition::TypeNotRead { .. },
             ..
         } => "No option reads this type: write the stream without it.",
-        SchemaFault::Field { .. } => AGAIN,
-        SchemaFault::Endianness { .. } => "Write the stream with little-endian numbers.",
-        SchemaFault::Nested { .. } => {
+        SchemaCondition::Field { .. } => AGAIN,
+        SchemaCondition::Endianness { .. } => "Write the stream with little-endian numbers.",
+        SchemaCondition::Nested { .. } => {
             "Write fields below a dictionary without dictionaries of their own."
         }
     }
 }
 
-/// What can be done about a fault of which no more is known than its kind.
+/// What can be done about a fault of which only the kind is known.
 fn kind_hint(kind: Kind) -> &'static str {
     match kind {
         Kind::Memory => "More memory is needed.",

@@ -1,4 +1,4 @@
-//! Why the numbers of a message's own tables are rejected.
+//! Why the numbers in the tables of a message itself are rejected.
 
 ghost use Rattle.std.specs.Prelude.{◌≡◌, ◌≤◌, IfSome, Some};
 ghost use Rattle.arrowflow_explain.specs.Message.{MessageFails, batch_table, codec_in, header_table};
@@ -13,25 +13,26 @@ use crate::slots;
 use arrow_stream_reader::Kind;
 use arrow_types::Limits;
 
-/// Why the numbers of a message's own tables are rejected (`Message.fbs`, tables `Message` and
-/// `RecordBatch`).
+/// Why the numbers in the tables of a message itself are rejected (`Message.fbs`, tables `Message`
+/// and `RecordBatch`).
 #[derive(Clone, Copy, Debug, PartialEq, Eq)]
 pub enum MessageFault {
-    /// The version of the metadata has this number, which is neither that of V4 nor that of V5.
+    /// The version of the metadata has this number, which is neither V4's nor V5's.
     Version { number: u64 },
     /// The message has no header.
     HeaderMissing,
-    /// The header has this code, which is none of a schema, a dictionary batch and a record batch.
+    /// The header has this code, which is not that of a schema, a dictionary batch or a record
+    /// batch.
     Header { code: u64 },
-    /// The length of the body is negative or over the limit. It is given without its sign.
+    /// The length of the body is negative or over the limit. It is given as an unsigned number.
     BodyLength { length: u64 },
     /// With a body of this length the message would end past byte 2^62 of the stream.
     BodyEnd { length: u64 },
-    /// The message is a schema, and one came before.
+    /// The message is a schema, and one was read before.
     SecondSchema,
-    /// The message has this code of a batch, and no schema came before.
+    /// The message has this code, which is that of a batch, and no schema was read before.
     BatchFirst { code: u64 },
-    /// The body is compressed by the codec of this number, if the number is readable.
+    /// The body is compressed by the codec with this number, if the number is readable.
     Compressed { codec: Option<u64> },
     /// The table of the message does not lie inside its metadata.
     MessageTable,
@@ -58,7 +59,7 @@ impl MessageFault {
     }
 }
 
-/// The number of `width` bytes in a field of the message's table, 0 where the field is absent.
+/// The number of `width` bytes in a field of the message's table, 0 if the field is absent.
 pub(crate) fn message_number(message: &[u8], field: u16, width: usize) -> Option<u64>
     requires low { 1 ≤ width }
     requires high { width ≤ 8 }
@@ -114,7 +115,7 @@ pub(crate) fn length_fault(rejected: &Rejected) -> Option<MessageFault>
     None
 }
 
-/// That the message may not be here, if it may not.
+/// The fault that the message may not come here, if it may not.
 pub(crate) fn order_fault(rejected: &Rejected) -> Option<MessageFault>
     ensures { IfSome result (λ fault. MessageFails fault (situation_of rejected.now)) }
 {
@@ -129,7 +130,7 @@ pub(crate) fn order_fault(rejected: &Rejected) -> Option<MessageFault>
     None
 }
 
-/// That the body is compressed, if it is.
+/// The fault that the body is compressed, if it is.
 pub(crate) fn compression_fault(rejected: &Rejected) -> Option<MessageFault>
     ensures { IfSome result (λ fault. MessageFails fault (situation_of rejected.now)) }
 {
@@ -178,7 +179,7 @@ pub(crate) fn batch_table(message: &[u8]) -> Option<Spot<'_>>
     }
 }
 
-/// The number of the codec of a record batch, 0 where none is named.
+/// The number of the codec of a record batch, 0 if none is named.
 fn codec_in(batch: &Spot) -> Option<u64>
     ensures { result ≡ codec_in batch.now }
 {

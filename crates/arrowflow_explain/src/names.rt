@@ -1,8 +1,8 @@
-//! Names of fields in a text.
+//! Names of fields, as text.
 
 use std::alloc::AllocError;
 
-/// How many characters of a name are shown.
+/// The number of characters of a name that are shown.
 const NAME: usize = 30;
 
 /// Appends a name in quotes: its first characters, and a dot for each that cannot be shown.

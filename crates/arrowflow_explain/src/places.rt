@@ -1,9 +1,9 @@
-//! At which bytes the numbers of a metadata are. `arrow_flatbuf` gives the number of a field, and not
-//! its offset, which a dump marks.
+//! The offsets of the numbers of a message's metadata. `arrow_flatbuf` gives the number in a field,
+//! and not its offset, which a dump marks.
 
 ghost use Rattle.std.specs.Prelude.{◌≡◌, ◌≤◌, ◌<◌, ◌+◌, ◌*◌, ◌^◌, ◌-ℤ◌, pos, drop, length, option_map};
 ghost use Rattle.std.specs.Prelude.{IfNone, IfSome, Some};
-ghost use Rattle.arrow_flatbuf.specs.Place.{behind, number_at, target_at};
+ghost use Rattle.arrow_flatbuf.specs.Place.{past, number_at, target_at};
 ghost use Rattle.arrow_flatbuf.specs.Table.{TableAt, field_place, table_at};
 ghost use Rattle.arrow_flatbuf.specs.Vector.{vector_at};
 ghost use Rattle.arrow_flatbuf.specs.Vtable.{entry, natural, vtable_at};
@@ -12,16 +12,17 @@ ghost use Rattle.arrowflow_explain.specs.Places.{element, element_count, field_n
 use byteorder::{ByteOrder, LittleEndian};
 use std::marker::Model;
 
-/// A table of a metadata by where it lies: the metadata's bytes, and the place of the table in them.
+/// A table of a message's metadata and where it lies: the metadata's bytes, and the table's offset
+/// in them.
 #[derive(Drop)]
 pub(crate) struct Spot<'a> {
     bytes: &'a [u8],
     place: usize,
 }
 
-/// A vtable by where it lies, and how many bytes it has.
+/// Where a vtable lies, and its number of bytes.
 #[derive(Clone, Copy)]
-struct Vtable {
+struct VtableSpot {
     place: usize,
     size: usize,
 }
@@ -35,17 +36,17 @@ impl<'a> Model for Spot<'a> {
 }
 
 impl<'a> Spot<'a> {
-    /// The table that the offset at a place names.
-    #[tactic(auto, unfolding(arrow_flatbuf::specs::Place::behind, arrow_flatbuf::specs::Table::table_at))]
+    /// The table to which the offset stored at `place` refers.
+    #[tactic(auto, unfolding(arrow_flatbuf::specs::Place::past, arrow_flatbuf::specs::Table::table_at))]
     pub(crate) fn at_target(bytes: &'a [u8], place: usize) -> Option<Spot<'a>>
-        ensures { result ≡ behind table_at bytes.now place }
+        ensures { result ≡ past table_at bytes.now place }
     {
         let place = target_at(bytes, place)?;
         vtable_of(bytes, place)?;
         Some(Spot { bytes, place })
     }
 
-    /// The place of a field, if it is not absent.
+    /// The offset of a field, if the field is not absent.
     #[tactic(auto, unfolding(arrow_flatbuf::specs::Table::field_place))]
     pub(crate) fn field(&self, field: u16) -> Option<usize>
         ensures { result ≡ field_place self.now field }
@@ -59,7 +60,7 @@ impl<'a> Spot<'a> {
         }
     }
 
-    /// The number of `width` bytes in a field, the default where the field is absent.
+    /// The number of `width` bytes in a field, the default if the field is absent.
     pub(crate) fn number(&self, field: u16, width: usize, default: u64) -> Option<u64>
         requires low { 1 ≤ width }
         requires high { width ≤ 8 }
@@ -71,14 +72,14 @@ impl<'a> Spot<'a> {
         }
     }
 
-    /// The table that a field names.
+    /// The table that a field refers to.
     pub(crate) fn table(&self, field: u16) -> Option<Spot<'a>>
         ensures { result ≡ field_table self.now field }
     {
         Spot::at_target(self.bytes, self.field(field)?)
     }
 
-    /// The table that the element of this index names, in the vector of offsets in a field.
+    /// The table that the element with this index refers to, in the vector of offsets in a field.
     pub(crate) fn element(&self, field: u16, index: u32) -> Option<Spot<'a>>
         ensures { result ≡ element self.now field index }
     {
@@ -89,14 +90,14 @@ impl<'a> Spot<'a> {
         Spot::at_target(self.bytes, elements.place + index as usize * 4)
     }
 
-    /// How many elements the vector of offsets in a field has.
+    /// The number of elements of the vector of offsets in a field.
     pub(crate) fn count(&self, field: u16) -> Option<usize>
         ensures { result ≡ element_count self.now field }
     {
         Some(elements_at_target(self.bytes, self.field(field)?)?.count)
     }
 
-    /// The bytes of the string that a field names.
+    /// The bytes of the string that a field refers to.
     pub(crate) fn text(&self, field: u16) -> Option<&'a [u8]> {
         let place = target_at(self.bytes, self.field(field)?)?;
         let count = u32_at(self.bytes, place)? as usize;
@@ -104,19 +105,19 @@ impl<'a> Spot<'a> {
     }
 }
 
-/// The elements of a vector by where they lie: the place of the first, and how many there are.
+/// Where the elements of a vector lie: the offset of the first, and their number.
 #[derive(Clone, Copy)]
 struct Elements {
     place: usize,
     count: usize,
 }
 
-/// The vector of offsets that the offset at a place names.
-#[tactic(auto, unfolding(arrow_flatbuf::specs::Place::behind, arrow_flatbuf::specs::Vector::vector_at))]
+/// The vector of offsets to which the offset stored at `place` refers.
+#[tactic(auto, unfolding(arrow_flatbuf::specs::Place::past, arrow_flatbuf::specs::Vector::vector_at))]
 fn elements_at_target(bytes: &[u8], place: usize) -> Option<Elements>
     ensures value { option_map
         (λ e. record { bytes = bytes.now; place = e.place; count = e.count; size = 4 }) result
-        ≡ behind (vector_at 4) bytes.now place }
+        ≡ past (vector_at 4) bytes.now place }
     ensures inside { IfSome result (λ e. e.place + e.count * 4 ≤ length bytes.now) }
 {
     let place = target_at(bytes, place)?;
@@ -131,7 +132,7 @@ fn elements_at_target(bytes: &[u8], place: usize) -> Option<Elements>
     })
 }
 
-/// The number of `width` bytes at a place.
+/// The number of `width` bytes at an offset.
 #[tactic(auto, unfolding(arrow_flatbuf::specs::Place::number_at))]
 pub(crate) fn number_at(bytes: &[u8], width: usize, place: usize) -> Option<u64>
     requires low { 1 ≤ width }
@@ -142,7 +143,7 @@ pub(crate) fn number_at(bytes: &[u8], width: usize, place: usize) -> Option<u64>
     Some(LittleEndian::read_uint(rest_at(bytes, place, width)?, width))
 }
 
-/// The number of two bytes at a place.
+/// The number of two bytes at an offset.
 #[tactic(auto, unfolding(arrow_flatbuf::specs::Place::number_at))]
 fn u16_at(bytes: &[u8], place: usize) -> Option<u16>
     ensures value { result ≡ number_at 2 bytes.now place }
@@ -151,7 +152,7 @@ fn u16_at(bytes: &[u8], place: usize) -> Option<u16>
     Some(LittleEndian::read_u16(rest_at(bytes, place, 2)?))
 }
 
-/// The number of four bytes at a place.
+/// The number of four bytes at an offset.
 #[tactic(auto, unfolding(arrow_flatbuf::specs::Place::number_at))]
 fn u32_at(bytes: &[u8], place: usize) -> Option<u32>
     ensures value { result ≡ number_at 4 bytes.now place }
@@ -160,7 +161,7 @@ fn u32_at(bytes: &[u8], place: usize) -> Option<u32>
     Some(LittleEndian::read_u32(rest_at(bytes, place, 4)?))
 }
 
-/// The place that the offset at a place names. An offset of 0 names none.
+/// The position to which the offset stored at `place` refers. A stored offset of 0 refers to none.
 #[tactic(auto, unfolding(arrow_flatbuf::specs::Place::target_at))]
 fn target_at(bytes: &[u8], place: usize) -> Option<usize>
     ensures target { result ≡ target_at bytes.now place }
@@ -173,7 +174,7 @@ fn target_at(bytes: &[u8], place: usize) -> Option<usize>
     }
 }
 
-/// The bytes from a place on, if they are `count` or more.
+/// The bytes from an offset on, if there are `count` or more.
 fn rest_at(bytes: &[u8], place: usize, count: usize) -> Option<&[u8]>
     ensures rest { IfSome result (λ rest. rest.now ≡ drop place bytes.now) }
     ensures inside { IfSome result (λ _. place + count ≤ length bytes.now) }
@@ -183,9 +184,9 @@ fn rest_at(bytes: &[u8], place: usize, count: usize) -> Option<&[u8]>
     if rest.len() < count { None } else { Some(rest) }
 }
 
-/// The vtable of the table at a place.
+/// The vtable of the table at an offset.
 #[tactic(auto, unfolding(arrow_flatbuf::specs::Vtable::vtable_at))]
-fn vtable_of(bytes: &[u8], place: usize) -> Option<Vtable>
+fn vtable_of(bytes: &[u8], place: usize) -> Option<VtableSpot>
     ensures value { option_map (λ v. record { place = v.place; size = v.size }) result
         ≡ vtable_at bytes.now place }
     ensures table { IfSome result (λ _. place + 4 ≤ length bytes.now) }
@@ -197,12 +198,12 @@ fn vtable_of(bytes: &[u8], place: usize) -> Option<Vtable>
     if size < 4 || bytes.len() - start < size {
         return None;
     }
-    Some(Vtable { place: start, size })
+    Some(VtableSpot { place: start, size })
 }
 
-/// The vtable's entry for a field, if it lies inside of the vtable.
+/// The vtable's entry for a field, if it lies inside the vtable.
 #[tactic(auto, unfolding(arrow_flatbuf::specs::Vtable::entry))]
-fn entry_of(bytes: &[u8], vtable: Vtable, field: u16) -> Option<u16>
+fn entry_of(bytes: &[u8], vtable: VtableSpot, field: u16) -> Option<u16>
     requires { vtable.place + vtable.size ≤ length bytes.now }
     ensures entry { result
         ≡ entry bytes.now (record { place = vtable.place; size = vtable.size }) field }
@@ -214,7 +215,7 @@ fn entry_of(bytes: &[u8], vtable: Vtable, field: u16) -> Option<u16>
     u16_at(bytes, vtable.place + at)
 }
 
-/// The place that lies `distance` bytes before `place`, after it if the distance is negative.
+/// The offset `distance` bytes before `place`, after it if the distance is negative.
 #[tactic(auto, unfolding(arrow_flatbuf::specs::Vtable::natural))]
 fn place_before(place: usize, distance: i32) -> Option<usize>
     requires { place < 2 ^ 63 }

@@ -15,7 +15,7 @@ use arrow_types::Limits;
 pub enum PrefixFault {
     /// The message begins with this number of four bytes, and not with the continuation.
     Continuation { found: u32 },
-    /// The size of the metadata is negative, or over the limit. It is given without its sign.
+    /// The size of the metadata is negative, or over the limit. It is given as an unsigned number.
     MetadataSize { size: u32 },
     /// With this size the metadata would end past byte 2^62 of the stream.
     MetadataEnd { size: u32 },
@@ -37,7 +37,7 @@ impl PrefixFault {
     }
 }
 
-/// The number of four bytes that begins at a place.
+/// The number in the four bytes that begin at an offset.
 pub(crate) fn number_at(bytes: &[u8], place: usize) -> u32
     requires { place + 4 ≤ length bytes.now }
     ensures { result ≡ number_at bytes.now place }
@@ -50,7 +50,7 @@ pub(crate) fn number_at(bytes: &[u8], place: usize) -> u32
     ])
 }
 
-/// The first fault of the prefix that holds, if it is there and one does.
+/// The first fault that holds for the prefix, if the prefix is complete and a fault holds.
 pub(crate) fn prefix_fault(rejected: &Rejected) -> Option<PrefixFault>
     ensures { IfSome result (λ fault. PrefixFails fault (situation_of rejected.now)) }
 {

@@ -6,11 +6,12 @@ use arrow_types::Limits;
 /// A message that a reader rejected, or that its input cut off.
 #[derive(Clone, Copy)]
 pub struct Rejected<'a> {
-    /// What the reader keeps to.
+    /// The limits of the reader.
     pub limits: &'a Limits,
-    /// The reader after the fault. Its place is that of the message's first byte, and its schema and
-    /// dictionaries are those that the messages before left.
+    /// The reader after the fault. Its offset is that of the message's first byte, and its schema
+    /// and dictionaries are those after the messages before it.
     pub reader: &'a StreamReader,
-    /// The bytes of the message, from its first on, as far as they were read; others may follow.
+    /// The bytes of the message, from the first one, as far as they were read; other bytes may
+    /// follow.
     pub message: &'a [u8],
 }

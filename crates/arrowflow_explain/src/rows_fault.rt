@@ -1,4 +1,4 @@
-//! Why a dictionary batch or a record batch is rejected by what was read before it.
+//! Why a dictionary batch or a record batch is rejected because of the messages before it.
 
 ghost use Rattle.std.specs.Prelude.{◌≡◌, IfSome, Some, option_map, true};
 ghost use Rattle.arrow_meta_reader.specs.Means.{batch_view, header_view};
@@ -14,19 +14,20 @@ use arrow_meta_reader::{Header, RecordBatch, decode};
 use arrow_stream_reader::Kind;
 use std::alloc::Global;
 
-/// Why a dictionary batch or a record batch is rejected by what was read before it (`Message.fbs`,
-/// tables `DictionaryBatch` and `RecordBatch`).
+/// Why a dictionary batch or a record batch is rejected because of the messages before it
+/// (`Message.fbs`, tables `DictionaryBatch` and `RecordBatch`).
 #[derive(Clone, Copy, Debug, PartialEq, Eq)]
 pub enum RowsFault {
-    /// No field of the schema gives the id of the dictionary.
+    /// No field of the schema has the id of the dictionary.
     UnknownId { id: i64 },
     /// A delta for an id that has no dictionary.
     NoBase { id: i64 },
     /// The number of rows is negative or over the limit.
     BatchRows { rows: i64 },
-    /// The node of this index has a number of slots that is negative or over the limit.
+    /// The node with this index has a number of slots that is negative or over the limit.
     NodeRows { node: usize, slots: i64 },
-    /// With a delta of so many values the dictionary, which has so many, would pass the limit.
+    /// A delta of `more` values would take the dictionary, which has `found` values, over the
+    /// limit.
     ValueCount { id: i64, found: usize, more: u64 },
 }
 
@@ -45,7 +46,7 @@ impl RowsFault {
     }
 }
 
-/// The header that the metadata of a message mean, if they mean a message.
+/// The header to which the metadata of a message decode, if they decode to a message.
 pub(crate) fn header_of(alloc: Global, rejected: &Rejected) -> Option<Header>
     ensures { IfSome result (λ header. Announces (situation_of rejected.now) (header_view header)) }
 {
@@ -56,7 +57,7 @@ pub(crate) fn header_of(alloc: Global, rejected: &Rejected) -> Option<Header>
     }
 }
 
-/// That no field of the schema gives the id of the dictionary batch, if none does.
+/// The fault that no field of the schema has the id of the dictionary batch, if none has.
 pub(crate) fn unknown_id(alloc: Global, rejected: &Rejected) -> Option<RowsFault>
     ensures { IfSome result (λ fault. RowsFail fault (situation_of rejected.now)) }
 {
@@ -64,7 +65,7 @@ pub(crate) fn unknown_id(alloc: Global, rejected: &Rejected) -> Option<RowsFault
     unknown_in(alloc, rejected, &header)
 }
 
-/// The same of a header.
+/// The same for a header.
 fn unknown_in(alloc: Global, rejected: &Rejected, header: &Header) -> Option<RowsFault>
     ensures { IfSome result
         (λ fault. HeaderFails fault (situation_of rejected.now) (header_view header.now)) }
@@ -81,8 +82,8 @@ fn unknown_in(alloc: Global, rejected: &Rejected, header: &Header) -> Option<Row
     }
 }
 
-/// Whether no field of the schema gives the id of a dictionary; `None` where an allocation failed,
-/// or there is no schema.
+/// Whether no field of the schema has the id of a dictionary; `None` if an allocation failed, or
+/// there is no schema.
 fn lacks_field(alloc: Global, rejected: &Rejected, id: i64) -> Option<bool>
     ensures { result ≡ Some true → LacksField id (situation_of rejected.now) }
 {
@@ -93,7 +94,7 @@ fn lacks_field(alloc: Global, rejected: &Rejected, id: i64) -> Option<bool>
     }
 }
 
-/// That a delta finds no dictionary, if it finds none.
+/// The fault that a delta has no dictionary to extend, if it has none.
 pub(crate) fn no_base(alloc: Global, rejected: &Rejected) -> Option<RowsFault>
     ensures { IfSome result (λ fault. RowsFail fault (situation_of rejected.now)) }
 {
@@ -101,7 +102,7 @@ pub(crate) fn no_base(alloc: Global, rejected: &Rejected) -> Option<RowsFault>
     no_base_in(rejected, &header)
 }
 
-/// The same of a header.
+/// The same for a header.
 fn no_base_in(rejected: &Rejected, header: &Header) -> Option<RowsFault>
     ensures { IfSome result
         (λ fault. HeaderFails fault (situation_of rejected.now) (header_view header.now)) }
@@ -118,7 +119,7 @@ fn no_base_in(rejected: &Rejected, header: &Header) -> Option<RowsFault>
     }
 }
 
-/// That a batch has too many rows, slots or values, if it has.
+/// The fault that a batch has too many rows, slots or values, if it has.
 pub(crate) fn too_many(alloc: Global, rejected: &Rejected) -> Option<RowsFault>
     ensures { IfSome result (λ fault. RowsFail fault (situation_of rejected.now)) }
 {
@@ -132,7 +133,7 @@ pub(crate) fn too_many(alloc: Global, rejected: &Rejected) -> Option<RowsFault>
     too_many_values(rejected, &header)
 }
 
-/// The record batch of a header, that of the data of a dictionary batch too.
+/// The record batch of a header, also that of the data of a dictionary batch.
 pub(crate) fn batch_of(header: &Header) -> Option<&RecordBatch>
     ensures { option_map (λ b. batch_view b.now) result ≡ batch_in (header_view header.now) }
 {
@@ -177,7 +178,7 @@ fn is_bad_length(max_rows: u64, length: i64) -> bool
     length < 0 || max_rows < length as u64
 }
 
-/// That a delta would make its dictionary too long, if it would.
+/// The fault that a delta would make its dictionary too long, if it would.
 fn too_many_values(rejected: &Rejected, header: &Header) -> Option<RowsFault>
     ensures { IfSome result
         (λ fault. HeaderFails fault (situation_of rejected.now) (header_view header.now)) }

@@ -9,7 +9,7 @@ ghost use Rattle.arrowflow_explain.specs.Message.{header_table};
 ghost use Rattle.arrowflow_explain.specs.Places.{below, field_at};
 ghost use Rattle.arrowflow_explain.specs.Rejection.{situation_of};
 
-use crate::field_fault::{FieldFault, misfit_in, unreadable_in, unsupported_in};
+use crate::field_fault::{FieldCondition, misfit_in, unreadable_in, unsupported_in};
 use crate::message_fault::{SCHEMA, header_table, message_number};
 use crate::places::Spot;
 use crate::rejected::Rejected;
@@ -18,45 +18,53 @@ use arrow_stream_reader::Kind;
 use arrow_types::TypeSet;
 use std::alloc::Global;
 
-/// The most steps of a walk over fields: two for each of the 65,536 fields that a reader takes, and
-/// one more for each level.
+/// The greatest number of steps of a walk over fields: two for each of the 65,536 fields that a
+/// reader accepts, and one more for each level.
 const STEPS: u32 = 140_000;
 
 /// Why a schema is rejected (`Schema.fbs`, table `Schema`). A path is the index of a column, and
 /// then of a child on each level below it, from 0.
 #[derive(Debug, Drop)]
-pub enum SchemaFault {
+pub enum SchemaCondition {
     /// The byte order has this number, and is not little-endian.
-    Endianness { number: u64 },
-    /// The field at this path has a fault of its own.
-    Field { path: Vec<u32>, fault: FieldFault },
-    /// The field at this path is dictionary-encoded, and so is the field above it to which the first
-    /// steps of the path lead, so many of them.
-    Nested { path: Vec<u32>, above: usize },
+    Endianness {
+        number: u64,
+    },
+    /// The field at this path itself has a fault.
+    Field {
+        path: Vec<u32>,
+        fault: FieldCondition,
+    },
+    /// The field at this path is dictionary-encoded, and so is the field above it to which the
+    /// first `above` steps of the path lead.
+    Nested {
+        path: Vec<u32>,
+        above: usize,
+    },
 }
 
-impl SchemaFault {
+impl SchemaCondition {
     /// The kind of the reader's fault.
     pub fn kind(&self) -> Kind
         ensures { result ≡ schema_kind self.now }
     {
         match self {
-            SchemaFault::Endianness { .. } => Kind::Unsupported,
-            SchemaFault::Field { fault, .. } => fault.kind(),
-            SchemaFault::Nested { .. } => Kind::Unsupported,
+            SchemaCondition::Endianness { .. } => Kind::Unsupported,
+            SchemaCondition::Field { fault, .. } => fault.kind(),
+            SchemaCondition::Nested { .. } => Kind::Unsupported,
         }
     }
 }
 
 /// The first thing that is not supported in the schema of a message, in the order of the fields: its
 /// byte order, a type or a kind of dictionary; else a dictionary below a dictionary.
-pub(crate) fn unsupported(alloc: Global, rejected: &Rejected) -> Option<SchemaFault>
+pub(crate) fn unsupported(alloc: Global, rejected: &Rejected) -> Option<SchemaCondition>
     ensures { IfSome result (λ fault. SchemaFails fault (situation_of rejected.now)) }
 {
     let schema = header_table(rejected.message)?;
     let number = schema.number(slots::schema::ENDIANNESS, 2, 0)?;
     if number != 0 {
-        return Some(SchemaFault::Endianness { number });
+        return Some(SchemaCondition::Endianness { number });
     }
     match field_fault(alloc, Search::Unsupported, rejected) {
         Some(fault) => Some(fault),
@@ -64,15 +72,15 @@ pub(crate) fn unsupported(alloc: Global, rejected: &Rejected) -> Option<SchemaFa
     }
 }
 
-/// The first field of the schema of a message that its type cannot have.
-pub(crate) fn misfit(alloc: Global, rejected: &Rejected) -> Option<SchemaFault>
+/// The first field of the schema of a message that has something its type cannot have.
+pub(crate) fn misfit(alloc: Global, rejected: &Rejected) -> Option<SchemaCondition>
     ensures { IfSome result (λ fault. SchemaFails fault (situation_of rejected.now)) }
 {
     field_fault(alloc, Search::Misfit, rejected)
 }
 
 /// The first field of the schema of a message whose type has no readable table.
-pub(crate) fn unreadable(alloc: Global, rejected: &Rejected) -> Option<SchemaFault>
+pub(crate) fn unreadable(alloc: Global, rejected: &Rejected) -> Option<SchemaCondition>
     ensures { IfSome result (λ fault. SchemaFails fault (situation_of rejected.now)) }
 {
     if message_number(rejected.message, slots::message::HEADER_TYPE, 1)? != SCHEMA {
@@ -81,20 +89,20 @@ pub(crate) fn unreadable(alloc: Global, rejected: &Rejected) -> Option<SchemaFau
     field_fault(alloc, Search::Unreadable, rejected)
 }
 
-/// What is looked for in fields.
+/// What fields are searched for.
 #[derive(Clone, Copy)]
 enum Search {
-    /// What is not supported.
+    /// Something that is not supported.
     Unsupported,
-    /// What the type of the field cannot have.
+    /// Something that the type of the field cannot have.
     Misfit,
     /// A table that is not readable.
     Unreadable,
 }
 
 impl Search {
-    /// The fault of this sort that a field has by itself.
-    fn fault_in(self, types: TypeSet, field: &Spot) -> Option<FieldFault>
+    /// The fault of this sort that a field itself has.
+    fn fault_in(self, types: TypeSet, field: &Spot) -> Option<FieldCondition>
         ensures { IfSome result (λ fault. FieldFails fault types field.now) }
     {
         match self {
@@ -106,7 +114,7 @@ impl Search {
 }
 
 /// The first field, in pre-order, with a fault of this sort.
-fn field_fault(alloc: Global, search: Search, rejected: &Rejected) -> Option<SchemaFault>
+fn field_fault(alloc: Global, search: Search, rejected: &Rejected) -> Option<SchemaCondition>
     ensures { IfSome result (λ fault. SchemaFails fault (situation_of rejected.now)) }
 {
     let schema = header_table(rejected.message)?;
@@ -117,7 +125,7 @@ fn field_fault(alloc: Global, search: Search, rejected: &Rejected) -> Option<Sch
         if let Some(field) = &field
             && let Some(fault) = search.fault_in(types, field)
         {
-            return Some(SchemaFault::Field { path, fault });
+            return Some(SchemaCondition::Field { path, fault });
         }
         step(&mut path, field.is_some())?;
     }
@@ -125,7 +133,7 @@ fn field_fault(alloc: Global, search: Search, rejected: &Rejected) -> Option<Sch
 }
 
 /// The first dictionary-encoded field, in pre-order, that is below another one.
-fn nested(alloc: Global, rejected: &Rejected) -> Option<SchemaFault>
+fn nested(alloc: Global, rejected: &Rejected) -> Option<SchemaCondition>
     ensures { IfSome result (λ fault. SchemaFails fault (situation_of rejected.now)) }
 {
     let schema = header_table(rejected.message)?;
@@ -136,14 +144,14 @@ fn nested(alloc: Global, rejected: &Rejected) -> Option<SchemaFault>
             && is_encoded(field)
             && let Some(above) = encoded_above(&schema, &path)
         {
-            return Some(SchemaFault::Nested { path, above });
+            return Some(SchemaCondition::Nested { path, above });
         }
         step(&mut path, field.is_some())?;
     }
     None
 }
 
-/// How many steps of a path lead to the first dictionary-encoded field above its end.
+/// The number of steps of a path that lead to the first dictionary-encoded field above its end.
 fn encoded_above(schema: &Spot, path: &[u32]) -> Option<usize>
     ensures inside { IfSome result (λ above. above < length path.now) }
     ensures encoded { IfSome result (λ above. LeadsToEncoded schema.now (take above path.now)) }
@@ -172,8 +180,8 @@ fn first_path(alloc: Global) -> Option<Vec<u32>> {
     Some(path)
 }
 
-/// Moves a path on in pre-order: from a field to its first child, and from where there is no field
-/// to the field after the one above. `None` after the last column, or where an allocation failed.
+/// Moves a path on in pre-order: from a field to its first child, and from a path without a field
+/// to the field after the one above. `None` after the last column, or if an allocation failed.
 fn step(path: &mut Vec<u32>, is_field: bool) -> Option<()> {
     if is_field {
         return path.push(0).ok();
@@ -192,7 +200,7 @@ pub(crate) fn field_at<'a>(schema: &Spot<'a>, path: &[u32]) -> Option<Spot<'a>>
     below(schema.element(slots::schema::FIELDS, *column)?, children)
 }
 
-/// The field below another one to which the indices of children lead.
+/// The descendant of a field to which the child indices lead.
 fn below<'a>(field: Spot<'a>, path: &[u32]) -> Option<Spot<'a>>
     ensures { result ≡ below field.entry path.now }
 {

@@ -1,36 +1,36 @@
-//! What is said of a schema that is rejected.
+//! The text about a schema that is rejected.
 
 use crate::dump::Mark;
-use crate::field_fault::{FieldFault, signed};
+use crate::field_fault::{FieldCondition, signed};
 use crate::message_fault::header_table;
 use crate::names::push_quoted;
 use crate::places::Spot;
-use crate::schema_fault::{SchemaFault, field_at};
+use crate::schema_fault::{SchemaCondition, field_at};
 use crate::slots;
 use std::alloc::AllocError;
 use std::fmt::Write;
 use std::str;
 
-/// Appends what was found of a schema, with the path to the field.
+/// Appends the finding in a schema, with the path to the field.
 pub(crate) fn push_schema(
     text: &mut String,
     message: &[u8],
-    fault: &SchemaFault,
+    fault: &SchemaCondition,
 ) -> Result<(), AllocError> {
     match fault {
-        SchemaFault::Endianness { number } => {
+        SchemaCondition::Endianness { number } => {
             write!(text, "endianness {}: only Little (0) is read\n", *number)
         }
-        SchemaFault::Field { path, fault } => {
+        SchemaCondition::Field { path, fault } => {
             push_path(text, message, path)?;
             text.push_str("\n")?;
             push_field(text, *fault)
         }
-        SchemaFault::Nested { path, above } => push_nested(text, message, path, *above),
+        SchemaCondition::Nested { path, above } => push_nested(text, message, path, *above),
     }
 }
 
-/// Appends which dictionary-encoded field is below which other one.
+/// Appends which dictionary-encoded field is below which other dictionary-encoded field.
 fn push_nested(
     text: &mut String,
     message: &[u8],
@@ -67,55 +67,55 @@ fn push_name(text: &mut String, field: &Spot) -> Result<(), AllocError> {
     }
 }
 
-/// Appends what was found of a field.
-fn push_field(text: &mut String, fault: FieldFault) -> Result<(), AllocError> {
+/// Appends the finding in a field.
+fn push_field(text: &mut String, fault: FieldCondition) -> Result<(), AllocError> {
     match fault {
-        FieldFault::TypeNotRead { code } => {
+        FieldCondition::TypeNotRead { code } => {
             push_type(text, code)?;
             text.push_str(" is not among the types that are read\n")
         }
-        FieldFault::DictionaryKind { number } => {
+        FieldCondition::DictionaryKind { number } => {
             write!(
                 text,
                 "dictionaryKind {number}: only DenseArray (0) is read\n"
             )
         }
-        FieldFault::Children { code, count } => push_children(text, code, count),
-        FieldFault::BitWidth { bits } => {
+        FieldCondition::Children { code, count } => push_children(text, code, count),
+        FieldCondition::BitWidth { bits } => {
             write!(text, "Int of bitWidth {bits}: must be 8, 16, 32 or 64\n")
         }
-        FieldFault::Precision { number } => {
+        FieldCondition::Precision { number } => {
             write!(
                 text,
                 "FloatingPoint of precision {number}: must be 0 to 2\n"
             )
         }
-        FieldFault::Unit { code, number } => push_unit(text, code, number),
-        FieldFault::Size { code, number } => {
+        FieldCondition::Unit { code, number } => push_unit(text, code, number),
+        FieldCondition::Size { code, number } => {
             push_type(text, code)?;
             write!(text, " of size {}: must be 0 or more\n", signed(number))
         }
-        FieldFault::TimeWidth { unit, bits } => push_time(text, unit, bits),
-        FieldFault::Decimal {
+        FieldCondition::TimeWidth { unit, bits } => push_time(text, unit, bits),
+        FieldCondition::Decimal {
             bits,
             precision,
             scale,
         } => push_decimal(text, bits, precision, signed(scale)),
-        FieldFault::TypeTable { code } => push_table(text, code),
-        FieldFault::Entries => {
+        FieldCondition::TypeTable { code } => push_table(text, code),
+        FieldCondition::Entries => {
             text.push_str("Map: its child must be a struct of two fields without a dictionary\n")
         }
     }
 }
 
-/// Appends how many children a type has.
+/// Appends the number of children that a type has.
 fn push_children(text: &mut String, code: u64, count: usize) -> Result<(), AllocError> {
     push_type(text, code)?;
     write!(text, " with {count} children: it must have ")?;
     text.push_str(children_of(code))
 }
 
-/// Appends which units a type has.
+/// Appends the units that a type has.
 fn push_unit(text: &mut String, code: u64, number: u64) -> Result<(), AllocError> {
     push_type(text, code)?;
     write!(text, " of unit {number}: must be 0 to ")?;
@@ -129,13 +129,13 @@ fn push_table(text: &mut String, code: u64) -> Result<(), AllocError> {
     text.push_str("or does not lie inside the metadata\n")
 }
 
-/// Appends which bits a time of this unit has.
+/// Appends the widths in bits that a time in this unit has.
 fn push_time(text: &mut String, unit: u64, bits: u64) -> Result<(), AllocError> {
     write!(text, "Time of unit {unit}, {bits} bits: ")?;
     text.push_str("must be 32 for units 0 and 1, 64 for 2 and 3\n")
 }
 
-/// Appends which decimal there is none of.
+/// Appends the decimal type that there is not, and which precisions and scales there are.
 fn push_decimal(
     text: &mut String,
     bits: u64,
@@ -151,7 +151,7 @@ fn push_decimal(
     text.push_str("precision: 1 to 9, 18, 38, 76 for 32, 64, 128, 256 bits; scale: -76 to 76\n")
 }
 
-/// How many children a type of this code has.
+/// The number of children of a type with this code.
 fn children_of(code: u64) -> &'static str {
     match code {
         12 | 16 | 17 | 21 => "one\n",
@@ -161,7 +161,7 @@ fn children_of(code: u64) -> &'static str {
     }
 }
 
-/// The number of the last unit of a type of this code.
+/// The number of the last unit of a type with this code.
 fn greatest_unit(code: u64) -> &'static str {
     match code {
         8 => "1\n",
@@ -171,12 +171,12 @@ fn greatest_unit(code: u64) -> &'static str {
     }
 }
 
-/// Appends the type of a code.
+/// Appends the type with this code.
 fn push_type(text: &mut String, code: u64) -> Result<(), AllocError> {
     write!(text, "{} (type {})", type_name(code), code)
 }
 
-/// The name of the type of a code (`Schema.fbs`, union `Type`).
+/// The name of the type with this code (`Schema.fbs`, union `Type`).
 fn type_name(code: u64) -> &'static str {
     match code {
         0 => "no type",
@@ -211,13 +211,13 @@ fn type_name(code: u64) -> &'static str {
     }
 }
 
-/// Which bytes a fault of a schema is in, if they are there.
-pub(crate) fn schema_mark(message: &[u8], fault: &SchemaFault) -> Option<Mark> {
+/// The bytes in which a fault of a schema lies, if they are there.
+pub(crate) fn schema_mark(message: &[u8], fault: &SchemaCondition) -> Option<Mark> {
     let schema = header_table(message)?;
     let (place, count) = match fault {
-        SchemaFault::Endianness { .. } => (schema.field(slots::schema::ENDIANNESS)?, 2),
-        SchemaFault::Field { path, fault } => field_mark(&field_at(&schema, path)?, *fault)?,
-        SchemaFault::Nested { path, .. } => {
+        SchemaCondition::Endianness { .. } => (schema.field(slots::schema::ENDIANNESS)?, 2),
+        SchemaCondition::Field { path, fault } => field_mark(&field_at(&schema, path)?, *fault)?,
+        SchemaCondition::Nested { path, .. } => {
             (field_at(&schema, path)?.field(slots::field::DICTIONARY)?, 4)
         }
     };
@@ -227,27 +227,27 @@ pub(crate) fn schema_mark(message: &[u8], fault: &SchemaFault) -> Option<Mark> {
     })
 }
 
-/// The place in the metadata, and the number, of the bytes that a fault of a field is in.
-fn field_mark(field: &Spot, fault: FieldFault) -> Option<(usize, usize)> {
+/// The offset in the metadata, and the number, of the bytes in which a fault of a field lies.
+fn field_mark(field: &Spot, fault: FieldCondition) -> Option<(usize, usize)> {
     match fault {
-        FieldFault::TypeNotRead { .. } => Some((field.field(slots::field::TYPE_TYPE)?, 1)),
-        FieldFault::DictionaryKind { .. } => {
+        FieldCondition::TypeNotRead { .. } => Some((field.field(slots::field::TYPE_TYPE)?, 1)),
+        FieldCondition::DictionaryKind { .. } => {
             let dictionary = field.table(slots::field::DICTIONARY)?;
             Some((
                 dictionary.field(slots::dictionary_encoding::DICTIONARY_KIND)?,
                 2,
             ))
         }
-        FieldFault::Children { .. } => Some((field.field(slots::field::CHILDREN)?, 4)),
-        FieldFault::BitWidth { .. } | FieldFault::Size { .. } => {
+        FieldCondition::Children { .. } => Some((field.field(slots::field::CHILDREN)?, 4)),
+        FieldCondition::BitWidth { .. } | FieldCondition::Size { .. } => {
             Some((field.table(slots::field::TYPE)?.field(0)?, 4))
         }
-        FieldFault::Precision { .. } | FieldFault::Unit { .. } => {
+        FieldCondition::Precision { .. } | FieldCondition::Unit { .. } => {
             Some((field.table(slots::field::TYPE)?.field(0)?, 2))
         }
-        FieldFault::TimeWidth { .. } => Some((field.table(slots::field::TYPE)?.field(1)?, 4)),
-        FieldFault::Decimal { .. } => Some((field.field(slots::field::TYPE)?, 4)),
-        FieldFault::Entries => Some((field.field(slots::field::CHILDREN)?, 4)),
-        FieldFault::TypeTable { .. } => Some((field.field(slots::field::TYPE)?, 4)),
+        FieldCondition::TimeWidth { .. } => Some((field.table(slots::field::TYPE)?.field(1)?, 4)),
+        FieldCondition::Decimal { .. } => Some((field.field(slots::field::TYPE)?, 4)),
+        FieldCondition::Entries => Some((field.field(slots::field::CHILDREN)?, 4)),
+        FieldCondition::TypeTable { .. } => Some((field.field(slots::field::TYPE)?, 4)),
     }
 }

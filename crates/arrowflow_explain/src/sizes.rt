@@ -1,4 +1,4 @@
-//! How many bytes of a body its buffers have, and how many none of them has.
+//! The number of bytes of a body that lie in its buffers, and the number that lie in none.
 
 ghost use Rattle.std.specs.Prelude.{◌≡◌, ◌-◌, ◌^◌, min};
 ghost use Rattle.arrowflow_explain.specs.Sizes.{buffer_bytes, bytes_in};
@@ -6,7 +6,7 @@ ghost use Rattle.arrowflow_explain.specs.Sizes.{buffer_bytes, bytes_in};
 use arrow_types::Buffer;
 use std::alloc::{AllocError, Global};
 
-/// How many bytes these buffers have together, at most 2^64 - 1. A buffer that two of them have is
+/// The total number of bytes of these buffers, at most 2^64 - 1. Bytes that lie in two of them are
 /// counted twice.
 pub(crate) fn bytes_of(buffers: &[Buffer]) -> u64
     ensures { result ≡ min (buffer_bytes buffers.now) (2 ^ 64 - 1) }
@@ -18,7 +18,7 @@ pub(crate) fn bytes_of(buffers: &[Buffer]) -> u64
     bytes
 }
 
-/// How many bytes of a body of this length none of these buffers has.
+/// The number of bytes of a body of this length that lie in none of these buffers.
 pub(crate) fn padding_of(
     alloc: Global,
     buffers: &[Buffer],
@@ -35,8 +35,8 @@ pub(crate) fn padding_of(
     Ok(padding.saturating_add(length.saturating_sub(end)))
 }
 
-/// How many bytes before the end of the last of these runs are in none, and where it ends. They
-/// rise by their starts.
+/// The number of bytes before the end of the last of these runs that lie in none, and the offset of
+/// that end. The runs are sorted by their starts.
 fn gaps_between(runs: &[(u64, u64)]) -> (u64, u64) {
     let mut bytes = 0u64;
     let mut end = 0u64;
@@ -47,7 +47,7 @@ fn gaps_between(runs: &[(u64, u64)]) -> (u64, u64) {
     (bytes, end)
 }
 
-/// From which byte of the body up to which a buffer is, if it has bytes.
+/// The byte of the body at which a buffer begins and the one at which it ends, if it has bytes.
 fn run_of(buffer: Buffer) -> Option<(u64, u64)> {
     let length = length_of(buffer);
     if length == 0 {
@@ -57,7 +57,7 @@ fn run_of(buffer: Buffer) -> Option<(u64, u64)> {
     Some((start, start.saturating_add(length)))
 }
 
-/// How many bytes a buffer has, 0 where its length is negative.
+/// The number of bytes of a buffer, 0 if its length is negative.
 fn length_of(buffer: Buffer) -> u64
     ensures { result ≡ bytes_in buffer }
 {

@@ -1,4 +1,4 @@
-//! The fields of tables by their numbers, in a module for each table, under their names in
+//! The numbers of the fields of tables, in a module for each table, under their names in
 //! `Message.fbs` and `Schema.fbs`.
 
 /// Table `Message` (`Message.fbs`).

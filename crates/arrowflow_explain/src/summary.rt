@@ -1,4 +1,4 @@
-//! What a stream has, counted as it is read.
+//! The contents of a stream, counted as it is read.
 
 ghost use Rattle.std.specs.Prelude.{◌≡◌, ◌-◌, ◌^◌, min};
 ghost use Rattle.arrowflow_explain.specs.Sizes.{stream_bytes};
@@ -14,10 +14,10 @@ use std::alloc::{AllocError, Global};
 pub struct ColumnCount {
     /// Its name.
     pub name: String,
-    /// The bytes of its buffers and of those below it, in all batches. Of a dictionary-encoded field
-    /// they are those of its indices.
+    /// The bytes of its buffers and of those of the fields below it, in all batches. For a
+    /// dictionary-encoded field they are those of its indices.
     pub bytes: u64,
-    /// How many buffers a batch has of it, those below it among them.
+    /// The number of its buffers in a batch, including those of the fields below it.
     buffers: usize,
 }
 
@@ -26,9 +26,9 @@ pub struct ColumnCount {
 pub struct DictionaryCount {
     /// Its id.
     pub id: i64,
-    /// How many dictionary batches came for it.
+    /// The number of dictionary batches for it.
     pub batches: u64,
-    /// How many values it has after the last of them.
+    /// The number of its values after the last of them.
     pub values: u64,
     /// The bytes of their messages.
     pub bytes: u64,
@@ -36,8 +36,8 @@ pub struct DictionaryCount {
     pub buffer_bytes: u64,
 }
 
-/// How many messages, batches and rows a stream has, or the whole messages before a fault, and how
-/// many bytes its parts have. No count passes 2^64 - 1.
+/// The number of messages, batches and rows of a stream, or of the complete messages before a
+/// fault, and the number of bytes of its parts. No count exceeds 2^64 - 1.
 #[derive(Debug, Drop)]
 pub struct Summary {
     /// All messages, without the end marker.
@@ -52,23 +52,23 @@ pub struct Summary {
     pub dictionary_bytes: u64,
     /// The bytes of all record batches' messages.
     pub batch_bytes: u64,
-    /// The bytes of all messages that are not of their bodies, and of the end marker: prefixes, and
+    /// The bytes of all messages outside of their bodies, and of the end marker: prefixes, and
     /// metadata with their padding.
     pub metadata_bytes: u64,
-    /// The bytes of bodies that no buffer of a column or of a dictionary has.
+    /// The bytes of bodies that lie in no buffer of a column or of a dictionary.
     pub padding: u64,
     /// The columns.
     pub columns: Vec<ColumnCount>,
-    /// The dictionaries, in the order in which their first batches came.
+    /// The dictionaries, in the order of their first batches.
     pub dictionaries: Vec<DictionaryCount>,
     /// Whether the stream ended with its end marker.
     pub marked: bool,
-    /// What a copy of the stream has, if it was read to its end.
+    /// What a copy of the stream would write, if the stream was read to its end.
     pub copied: Option<Copied>,
 }
 
 impl Summary {
-    /// Of no message. It takes no memory.
+    /// The summary of no messages. Allocates nothing.
     pub fn new(alloc: Global) -> Summary {
         Summary {
             messages: 0,
@@ -86,7 +86,7 @@ impl Summary {
         }
     }
 
-    /// The bytes of the stream: of all messages, and of the end marker. It takes no memory.
+    /// The bytes of the stream: of all messages, and of the end marker. Allocates nothing.
     pub fn bytes(&self) -> u64
         ensures { result ≡ min (stream_bytes self.now) (2 ^ 64 - 1) }
     {
@@ -97,7 +97,7 @@ impl Summary {
             .saturating_add(marker)
     }
 
-    /// Begins to count the columns of a schema.
+    /// Starts the counts of the columns of a schema.
     pub(crate) fn add_columns(
         &mut self,
         alloc: Global,
@@ -113,7 +113,8 @@ impl Summary {
         Ok(())
     }
 
-    /// Counts the buffers of a record batch, and answers how many of them its columns have.
+    /// Counts the buffers of a record batch, and returns the number of them that belong to its
+    /// columns.
     pub(crate) fn count_columns(&mut self, buffers: &[Buffer]) -> usize {
         let mut place = 0usize;
         for column in &mut self.columns {
@@ -139,7 +140,7 @@ impl Summary {
 }
 
 impl DictionaryCount {
-    /// Counts what came later for the same dictionary.
+    /// Adds the counts of a later batch of the same dictionary.
     fn add(&mut self, later: DictionaryCount) {
         self.batches = self.batches.saturating_add(later.batches);
         self.values = later.values;
@@ -148,7 +149,7 @@ impl DictionaryCount {
     }
 }
 
-/// How many buffers a field and those below it have.
+/// The number of buffers of a field and the fields below it.
 pub(crate) fn buffers_of(alloc: Global, field: &Field) -> Result<usize, AllocError> {
     match after(alloc, field, START) {
         Some(cursor) => Ok(cursor.buffer),

@@ -2,10 +2,10 @@
 
 use crate::body_spot::BodySpot;
 use crate::copied::Copied;
-use crate::cut::{Cut, Part};
+use crate::cut::{Cut, CutPart};
 use crate::diagnosis::Diagnosis;
 use crate::dump::{Mark, push_dump};
-use crate::explanation::{Explanation, Refusal};
+use crate::explanation::{Explanation, RejectedMessage};
 use crate::finding::{Finding, Need};
 use crate::hints::hint_of;
 use crate::message::{body_length, message_table, metadata_of};
@@ -18,12 +18,12 @@ use crate::slots;
 use crate::summary::Summary;
 use arrow_stream_reader::Kind;
 use arrow_types::Limits;
-use arrowflow_report::What;
+use arrowflow_input::RefusedItem;
 use std::alloc::{AllocError, Global};
 use std::fmt::Write;
 
 impl Explanation {
-    /// The text that the program prints, each line with its line feed, or `AllocError` where an
+    /// The text that the program prints, each line with its line feed, or `AllocError` if an
     /// allocation failed.
     pub fn text(&self, alloc: Global) -> Result<String, AllocError> {
         let mut text = String::new(alloc);
@@ -35,7 +35,7 @@ impl Explanation {
     }
 }
 
-/// How many characters a line has at most, unless a word of it has more.
+/// The greatest number of characters of a line, unless a word of it has more.
 const WIDTH: usize = 80;
 
 /// The same text, with longer lines broken between words.
@@ -52,7 +52,7 @@ fn wrapped(alloc: Global, text: &str) -> Result<String, AllocError> {
     Ok(lines)
 }
 
-/// Appends the words of a line, in lines that begin with two blanks after the first.
+/// Appends the words of a line; the lines after the first begin with two blanks.
 fn push_words(lines: &mut String, line: &str) -> Result<(), AllocError> {
     let mut width = 0usize;
     for word in line.split(' ') {
@@ -71,8 +71,8 @@ fn push_words(lines: &mut String, line: &str) -> Result<(), AllocError> {
     Ok(())
 }
 
-impl Refusal {
-    /// Appends the line of the fault, the message, what was found, its bytes, and what can be done.
+impl RejectedMessage {
+    /// Appends the line of the fault, the message, the finding, its bytes, and what can be done.
     fn push_text(&self, text: &mut String) -> Result<(), AllocError> {
         write!(text, "{}\n", self.fault)?;
         self.push_message(text)?;
@@ -91,7 +91,7 @@ impl Refusal {
         text.push_str("\n")
     }
 
-    /// Appends which message it is, and how large its parts are as far as they are known.
+    /// Appends which message it is, and the sizes of its parts as far as they are known.
     fn push_message(&self, text: &mut String) -> Result<(), AllocError> {
         write!(text, "message {}", self.before.messages)?;
         if self.is_foreign() {
@@ -110,7 +110,7 @@ impl Refusal {
         text.push_str("\n")
     }
 
-    /// Whether the message does not begin as one, so that its bytes may be anything.
+    /// Whether the message does not begin like a message, so that its bytes may be anything.
     fn is_foreign(&self) -> bool {
         matches!(
             self.diagnosis,
@@ -157,7 +157,8 @@ fn header_name(message: &[u8]) -> Option<&'static str> {
     }
 }
 
-/// Which bytes a fault of a message's own numbers is in: those of the number, if it is there.
+/// The bytes in which a fault in the numbers of a message itself lies: those of the number, if it
+/// is there.
 fn own_mark(message: &[u8], fault: MessageFault) -> Option<Mark> {
     let (field, count) = match fault {
         MessageFault::Version { .. } => (slots::message::VERSION, 2),
@@ -179,7 +180,7 @@ fn own_mark(message: &[u8], fault: MessageFault) -> Option<Mark> {
     Some(in_metadata(place, count))
 }
 
-/// So many bytes from a place of the metadata on.
+/// The mark of `count` bytes from this offset in the metadata on.
 fn in_metadata(place: usize, count: usize) -> Mark {
     Mark {
         start: place.saturating_add(8),
@@ -187,7 +188,7 @@ fn in_metadata(place: usize, count: usize) -> Mark {
     }
 }
 
-/// Appends what was found of a prefix.
+/// Appends the finding in a prefix.
 fn push_prefix(text: &mut String, fault: PrefixFault, limits: &Limits) -> Result<(), AllocError> {
     match fault {
         PrefixFault::Continuation { found } => {
@@ -221,9 +222,9 @@ fn push_prefix(text: &mut String, fault: PrefixFault, limits: &Limits) -> Result
 /// Appends where the input ends.
 fn push_cut(text: &mut String, cut: Cut) -> Result<(), AllocError> {
     let part = match cut.part {
-        Part::Prefix => "the prefix",
-        Part::Metadata => "the metadata",
-        Part::Body => "the body",
+        CutPart::Prefix => "the prefix",
+        CutPart::Metadata => "the metadata",
+        CutPart::Body => "the body",
     };
     write!(text, "the input ends inside {part} of the message: ")?;
     write!(text, "{} bytes of {} are there\n", cut.held, cut.wanted)?;
@@ -233,7 +234,7 @@ fn push_cut(text: &mut String, cut: Cut) -> Result<(), AllocError> {
     Ok(())
 }
 
-/// Appends what was found of a message's own numbers.
+/// Appends the finding in the numbers of a message itself.
 fn push_own(text: &mut String, fault: MessageFault, limits: &Limits) -> Result<(), AllocError> {
     match fault {
         MessageFault::Version { number } => push_version(text, number),
@@ -273,7 +274,7 @@ fn push_own(text: &mut String, fault: MessageFault, limits: &Limits) -> Result<(
     }
 }
 
-/// Appends what was found of the version.
+/// Appends the finding in the version.
 fn push_version(text: &mut String, number: u64) -> Result<(), AllocError> {
     if number < 3 {
         write!(text, "version V{}", number + 1)?;
@@ -295,7 +296,7 @@ fn push_codec(text: &mut String, codec: Option<u64>) -> Result<(), AllocError> {
     text.push_str("; only bodies without compression are read\n")
 }
 
-/// Appends what was found of a batch.
+/// Appends the finding in a batch.
 fn push_rows(text: &mut String, fault: RowsFault, limits: &Limits) -> Result<(), AllocError> {
     let max_rows = limits.max_rows();
     match fault {
@@ -442,7 +443,7 @@ fn push_slot(text: &mut String, finding: Finding) -> Result<(), AllocError> {
     }
 }
 
-/// The condition of a kind of which no more is known than that it does not hold.
+/// The condition of a kind of which it is only known that it does not hold.
 fn words_of(kind: Kind) -> &'static str {
     match kind {
         Kind::Continuation => "a message begins with FF FF FF FF\n",
@@ -468,7 +469,7 @@ fn words_of(kind: Kind) -> &'static str {
     }
 }
 
-/// Appends what a sound stream has.
+/// Appends the contents of a valid stream.
 fn push_summary(text: &mut String, summary: &Summary) -> Result<(), AllocError> {
     let marked = if summary.marked {
         " and an end marker"
@@ -497,7 +498,7 @@ fn push_summary(text: &mut String, summary: &Summary) -> Result<(), AllocError> 
     }
 }
 
-/// Appends how many bytes the columns have.
+/// Appends the number of bytes of the columns.
 fn push_columns(text: &mut String, summary: &Summary) -> Result<(), AllocError> {
     for (index, column) in summary.columns.iter().enumerate() {
         write!(text, "column {}", index)?;
@@ -507,7 +508,7 @@ fn push_columns(text: &mut String, summary: &Summary) -> Result<(), AllocError> 
     Ok(())
 }
 
-/// Appends what the dictionaries have.
+/// Appends the counts of the dictionaries.
 fn push_dictionaries(text: &mut String, summary: &Summary) -> Result<(), AllocError> {
     for dictionary in &summary.dictionaries {
         write!(
@@ -522,7 +523,7 @@ fn push_dictionaries(text: &mut String, summary: &Summary) -> Result<(), AllocEr
     Ok(())
 }
 
-/// Appends what a copy of a stream of so many bytes has.
+/// Appends what a copy of a stream of this many bytes would write.
 fn push_copied(text: &mut String, copied: Copied, bytes: u64) -> Result<(), AllocError> {
     match copied {
         Copied::Bytes(copied) => {
@@ -538,9 +539,9 @@ fn push_copied(text: &mut String, copied: Copied, bytes: u64) -> Result<(), Allo
         Copied::Refused(what, kind) => {
             text.push_str("copy: refused ")?;
             match what {
-                What::Start => text.push_str("schema")?,
-                What::Batch(number) => write!(text, "batch {}", number)?,
-                What::Finish => text.push_str("end")?,
+                RefusedItem::Start => text.push_str("schema")?,
+                RefusedItem::Batch(number) => write!(text, "batch {}", number)?,
+                RefusedItem::Finish => text.push_str("end")?,
             }
             write!(text, ": {}\n", kind)
         }

@@ -1,5 +1,4 @@
-//! Tests of `arrowflow_explain`, in a crate of their own so that it is not proved once more with
-//! them.
+//! Tests of `arrowflow_explain`, in a separate crate so that it is not proved once more with them.
 #![tactic(auto)]
 
 #[cfg(test)]

@@ -1,4 +1,4 @@
-//! Sound streams, whose bytes are summed up.
+//! Valid streams, whose bytes are summed up.
 
 /// Lists of structs: the bytes of `examples/nested_values.arrows`.
 pub(crate) const NESTED: &[u8; 736] = b"\xff\xff\xff\xffP\x01\0\0\x10\0\0\0\x0c\0\x18\0\x04\0\x06\
@@ -51,8 +51,8 @@ pub(crate) const BELOW: &[u8; 1008] = b"\xff\xff\xff\xff\xb8\x01\0\0\x10\0\0\0\x
     \x01\0\0\0\0\0\0\0\0\0\0\0\x02\0\0\0\x02\0\0\0\0\0\0\0\x02\0\0\0\0\0\0\0\x01\0\0\0\0\0\0\0\x01\
     \0\0\0\0\0\0\0\xff\xff\xff\xff\0\0\0\0";
 
-/// A batch of 1, a null and 3, with gaps before and after each buffer and a buffer of no field,
-/// without end marker.
+/// A batch of 1, a null and 3, with gaps before and after each buffer and a buffer that belongs to
+/// no field, without end marker.
 pub(crate) const GAPS: &[u8; 1344] = b"\xff\xff\xff\xff\x90\0\0\0\x10\0\0\0\x0c\0\x18\0\x04\0\x06\
     \0\x08\0\x10\0\x0c\0\0\0\x04\0\x01\0\x18\0\0\0\0\0\0\0\0\0\0\0\0\0\0\0\x08\0\x0c\0\x04\0\x08\0\
     \x08\0\0\0\0\0\0\0\x04\0\0\0\x01\0\0\0\x18\0\0\0\x10\0\x14\0\x04\0\x08\0\t\0\x0c\0\0\0\x10\0\0\

@@ -1,4 +1,4 @@
-//! The texts of explanations, whole: worked out from the bytes by hand, and the dumps by Python.
+//! The complete texts of explanations: worked out from the bytes by hand, and the dumps by Python.
 
 use crate::summed;
 use arrow_sink::probe::Trickle;
@@ -10,18 +10,18 @@ use arrow_types::{Limits, TypeSet};
 use arrowflow_explain::explain;
 use std::process::Abort;
 
-// A stream of parts, with other bytes at some places, read with at most so many rows, and the lines
-// of its explanation.
-struct Told {
+/// A stream of pieces, with other bytes at some offsets, read with a limit on rows, and the lines of
+/// its explanation.
+struct Reported {
     parts: &'static [Part],
     edits: &'static [Edit],
     max_rows: u64,
     lines: &'static [&'static str],
 }
 
-static TEXTS: [Told; 14] = [
-    // sound
-    Told {
+static TEXTS: [Reported; 14] = [
+    // a valid stream
+    Reported {
         parts: &[NUMBERS, THREE, END],
         edits: &[],
         max_rows: 100,
@@ -35,8 +35,8 @@ static TEXTS: [Told; 14] = [
             "copy: 520 bytes, 184 more",
         ],
     },
-    // a dictionary that grows and is replaced
-    Told {
+    // a dictionary that is extended and replaced
+    Reported {
         parts: &[(Source::Growing, 0, 1376)],
         edits: &[],
         max_rows: 100,
@@ -52,7 +52,7 @@ static TEXTS: [Told; 14] = [
         ],
     },
     // floats among the core types
-    Told {
+    Reported {
         parts: &[(Source::Bytes(&DOUBLES), 0, 328)],
         edits: &[],
         max_rows: 100,
@@ -70,7 +70,7 @@ static TEXTS: [Told; 14] = [
         ],
     },
     // cut off in the metadata
-    Told {
+    Reported {
         parts: &[(Source::Growing, 0, 600)],
         edits: &[],
         max_rows: 100,
@@ -82,7 +82,7 @@ static TEXTS: [Told; 14] = [
         ],
     },
     // no bytes
-    Told {
+    Reported {
         parts: &[],
         edits: &[],
         max_rows: 100,
@@ -95,7 +95,7 @@ static TEXTS: [Told; 14] = [
         ],
     },
     // a line of text
-    Told {
+    Reported {
         parts: &[(Source::Bytes(b"hello"), 0, 5)],
         edits: &[],
         max_rows: 100,
@@ -108,7 +108,7 @@ static TEXTS: [Told; 14] = [
         ],
     },
     // an Arrow file
-    Told {
+    Reported {
         parts: &[(Source::Bytes(b"ARROW1\x00\x00"), 0, 8), NUMBERS],
         edits: &[],
         max_rows: 100,
@@ -125,7 +125,7 @@ static TEXTS: [Told; 14] = [
         ],
     },
     // a Parquet file
-    Told {
+    Reported {
         parts: &[(Source::Bytes(b"PAR1\x15\x04\x15\x10\x15\x14"), 0, 10)],
         edits: &[],
         max_rows: 100,
@@ -139,7 +139,7 @@ static TEXTS: [Told; 14] = [
         ],
     },
     // gzip
-    Told {
+    Reported {
         parts: &[(
             Source::Bytes(b"\x1f\x8b\x08\x00\x00\x00\x00\x00\x00\x03"),
             0,
@@ -157,7 +157,7 @@ static TEXTS: [Told; 14] = [
         ],
     },
     // HTML
-    Told {
+    Reported {
         parts: &[(
             Source::Bytes(b"<html><body>502 Bad Gateway</body></html>"),
             0,
@@ -177,7 +177,7 @@ static TEXTS: [Told; 14] = [
         ],
     },
     // an end marker first
-    Told {
+    Reported {
         parts: &[END],
         edits: &[],
         max_rows: 100,
@@ -191,7 +191,7 @@ static TEXTS: [Told; 14] = [
         ],
     },
     // version V3
-    Told {
+    Reported {
         parts: &[NUMBERS],
         edits: &[(28, b"\x02")],
         max_rows: 100,
@@ -208,7 +208,7 @@ static TEXTS: [Told; 14] = [
         ],
     },
     // a second schema
-    Told {
+    Reported {
         parts: &[NUMBERS, NUMBERS],
         edits: &[],
         max_rows: 100,
@@ -225,7 +225,7 @@ static TEXTS: [Told; 14] = [
         ],
     },
     // a body compressed by Zstandard
-    Told {
+    Reported {
         parts: &[NUMBERS, THREE],
         edits: &[
             (200, b"\x0c"),
@@ -252,9 +252,9 @@ static TEXTS: [Told; 14] = [
     },
 ];
 
-static LATER_TEXTS: [Told; 14] = [
+static LATER_TEXTS: [Reported; 14] = [
     // an id that no field has
-    Told {
+    Reported {
         parts: &[LETTERS, ABC],
         edits: &[(272, b"\x07")],
         max_rows: 100,
@@ -266,7 +266,7 @@ static LATER_TEXTS: [Told; 14] = [
         ],
     },
     // a delta without a dictionary
-    Told {
+    Reported {
         parts: &[LETTERS, DE],
         edits: &[],
         max_rows: 100,
@@ -278,7 +278,7 @@ static LATER_TEXTS: [Told; 14] = [
         ],
     },
     // rows over the limit
-    Told {
+    Reported {
         parts: &[NUMBERS, THREE],
         edits: &[],
         max_rows: 2,
@@ -290,7 +290,7 @@ static LATER_TEXTS: [Told; 14] = [
         ],
     },
     // rows over all limits
-    Told {
+    Reported {
         parts: &[NUMBERS, THREE],
         edits: &[(224, b"\x00\x00\x00\x80\x00\x00\x00\x00")],
         max_rows: 100,
@@ -302,7 +302,7 @@ static LATER_TEXTS: [Told; 14] = [
         ],
     },
     // a negative number of rows
-    Told {
+    Reported {
         parts: &[NUMBERS, THREE],
         edits: &[(224, b"\xff\xff\xff\xff\xff\xff\xff\xff")],
         max_rows: 100,
@@ -314,7 +314,7 @@ static LATER_TEXTS: [Told; 14] = [
         ],
     },
     // a message without its table
-    Told {
+    Reported {
         parts: &[NUMBERS],
         edits: &[(8, b"\xf0")],
         max_rows: 100,
@@ -331,7 +331,7 @@ static LATER_TEXTS: [Told; 14] = [
         ],
     },
     // a type without its table
-    Told {
+    Reported {
         parts: &[NUMBERS],
         edits: &[(108, b"\x00")],
         max_rows: 100,
@@ -350,7 +350,7 @@ static LATER_TEXTS: [Told; 14] = [
         ],
     },
     // an Int of 24 bits
-    Told {
+    Reported {
         parts: &[NUMBERS],
         edits: &[(140, b"\x18")],
         max_rows: 100,
@@ -367,7 +367,7 @@ static LATER_TEXTS: [Told; 14] = [
         ],
     },
     // an offset past the texts
-    Told {
+    Reported {
         parts: &[LETTERS, ABC],
         edits: &[(404, b"\x05")],
         max_rows: 100,
@@ -381,7 +381,7 @@ static LATER_TEXTS: [Told; 14] = [
         ],
     },
     // a text that is not UTF-8
-    Told {
+    Reported {
         parts: &[LETTERS, ABC],
         edits: &[(417, b"\xff")],
         max_rows: 100,
@@ -395,7 +395,7 @@ static LATER_TEXTS: [Told; 14] = [
         ],
     },
     // an index past the dictionary
-    Told {
+    Reported {
         parts: &[LETTERS, ABC, FIRST],
         edits: &[(584, b"\x03")],
         max_rows: 100,
@@ -409,7 +409,7 @@ static LATER_TEXTS: [Told; 14] = [
         ],
     },
     // a buffer past the body
-    Told {
+    Reported {
         parts: &[NUMBERS, THREE],
         edits: &[(296, b"\x7f")],
         max_rows: 100,
@@ -423,7 +423,7 @@ static LATER_TEXTS: [Told; 14] = [
         ],
     },
     // a buffer that is too short
-    Told {
+    Reported {
         parts: &[NUMBERS, THREE],
         edits: &[(296, b"\x08")],
         max_rows: 100,
@@ -437,7 +437,7 @@ static LATER_TEXTS: [Told; 14] = [
         ],
     },
     // a wrong number of nulls
-    Told {
+    Reported {
         parts: &[NUMBERS, THREE],
         edits: &[(256, b"\x02")],
         max_rows: 100,
@@ -452,8 +452,8 @@ static LATER_TEXTS: [Told; 14] = [
     },
 ];
 
-// A sound stream, with how many bytes of metadata and of a body it may have, and the lines of its
-// summary, which `examples/explained.py` prints too.
+/// A valid stream, with how many bytes of metadata and of a body it may have, and the lines of its
+/// summary, which `examples/explained.py` prints too.
 struct Summed {
     bytes: &'static [u8],
     most: (u64, u64),
@@ -493,7 +493,7 @@ static SUMMARIES: [Summed; 9] = [
             "copy: 1480 bytes, 472 more",
         ],
     },
-    // gaps, and a buffer of no field
+    // gaps, and a buffer that belongs to no field
     Summed {
         bytes: summed::GAPS,
         most: MOST,
@@ -580,7 +580,7 @@ static SUMMARIES: [Summed; 9] = [
             "copy: refused batch 0: past a limit",
         ],
     },
-    // metadata that have none
+    // metadata that have no room for more padding
     Summed {
         bytes: &DOUBLES,
         most: (144, 127),
@@ -596,13 +596,13 @@ static SUMMARIES: [Summed; 9] = [
     },
 ];
 
-fn assert_text(rt: &(impl Abort + AllocGlobal), told: &Told) {
-    let bytes = joined(rt.alloc(), told.parts, told.edits).expect(rt, "the stream");
-    let limits = Limits::new(4096, 65_536, told.max_rows).expect(rt, "the limits");
-    assert_explained(rt, (&bytes, 65_536), &limits, told.lines);
+fn assert_text(rt: &(impl Abort + AllocGlobal), reported: &Reported) {
+    let bytes = joined(rt.alloc(), reported.parts, reported.edits).expect(rt, "the stream");
+    let limits = Limits::new(4096, 65_536, reported.max_rows).expect(rt, "the limits");
+    assert_explained(rt, (&bytes, 65_536), &limits, reported.lines);
 }
 
-// However a stream is cut, its summary is the same.
+/// A stream's summary is the same, however the stream is cut.
 fn assert_summary(rt: &(impl Abort + AllocGlobal), summed: &Summed) {
     let limits = Limits::new(summed.most.0, summed.most.1, 100).expect(rt, "the limits");
     let limits = limits.with_types(TypeSet::All);
@@ -611,7 +611,7 @@ fn assert_summary(rt: &(impl Abort + AllocGlobal), summed: &Summed) {
     }
 }
 
-// The bytes, of which so many come at once, are explained by these lines.
+/// Asserts that the bytes, this many of which come at once, are explained by these lines.
 fn assert_explained(
     rt: &(impl Abort + AllocGlobal),
     given: (&[u8], usize),
@@ -632,9 +632,9 @@ fn assert_explained(
     assert_eq!(rt; text.as_str(), expected.as_str());
 }
 
-fn assert_texts(rt: &(impl Abort + AllocGlobal), texts: &[Told]) {
-    for told in texts {
-        assert_text(rt, told);
+fn assert_texts(rt: &(impl Abort + AllocGlobal), texts: &[Reported]) {
+    for reported in texts {
+        assert_text(rt, reported);
     }
 }
 

@@ -12,7 +12,7 @@ use Rattle.json.specs.Tree as tree
 use Rattle.json.specs.Tree.{items_tokens, json_tokens}
 use Rattle.json.specs.Value.{items_of}
 use Rattle.json.specs.Written.{Written}
-use Rattle.arrow_types.specs.Field.{Head}
+use Rattle.arrow_types.specs.Field.{FieldHeader}
 use Rattle.arrow_types.specs.Notes.{KeyValue}
 use Rattle.arrow_json.specs.Lines.{line_of}
 use Rattle.arrow_json.specs.Values.{members_of}
@@ -20,18 +20,18 @@ use Rattle.arrowflow_json.specs.Fields.{dictionary_json, field_json, field_membe
 use Rattle.arrowflow_json.specs.Messages.{place_json, whole}
 use Rattle.arrowflow_json.specs.Tokens.{Adds, front_tokens, head_tokens, member_tokens, members_tokens, type_tokens}
 
--- some tokens, and then others
+-- appending some tokens, and then others
 pub adds_more : (front back : List Token) (old mid new : Written) → Adds front old mid → Adds back mid new → Adds (front ++ back) old new
 adds_more front back old mid new first second =
     (second.0 ∙ ap (λ ts. ts ++ back) first.0 ∙ append_assoc old.tokens front back, second.1 ∙ first.1)
 
 -- ---- bytes
 
--- those of a text are a string
+-- the JSON of a text is a string
 pub text_is : (bytes : List ℕ) → IsUtf8 bytes → text_json bytes ≡ string bytes
 text_is bytes h = rw (is_utf8-from_IsUtf8 bytes h)
 
--- others are an object
+-- the JSON of other bytes is an object
 pub hex_is : (bytes : List ℕ) → (IsUtf8 bytes → ⊥) → text_json bytes ≡ object (members_of ((codes "hex", string (encode_lower bytes)) ∷ []))
 hex_is bytes h = by (is_utf8 bytes) refl
   where
@@ -51,12 +51,12 @@ pub file_front : (file : Option (List ℕ)) (ms : List (List ℕ × Json)) → j
 file_front None ms = refl
 file_front (Some name) ms = refl
 
--- the tokens of its children, and the end
+-- the tokens of a field's children, and the end
 abbrev pub children_tokens : List Json → List Token
 children_tokens children = key (codes "children") ∷ begin_array ∷ (flat_map json_tokens children ++ end_array ∷ end_object ∷ [])
 
 -- the tokens of a field
-pub field_tokens : (file : Option (List ℕ)) (head : Head) (pairs : List KeyValue) (children : List Json)
+pub field_tokens : (file : Option (List ℕ)) (head : FieldHeader) (pairs : List KeyValue) (children : List Json)
     → begin_object ∷ (members_tokens (in_file file) ++ (head_tokens head pairs ++ children_tokens children)) ≡ json_tokens (field_json file head pairs children)
 field_tokens file head pairs children =
     let dictionary = json_tokens (dictionary_json head.encoding) in
@@ -69,14 +69,14 @@ field_tokens file head pairs children =
     ∙ ap (λ ts. front ++ (dictionary ++ key (codes "metadata") ∷ (metadata ++ key (codes "children") ∷ begin_array ∷ ts))) (sym end) in
     ap (λ ts. begin_object ∷ (members_tokens (in_file file) ++ ts)) own ∙ sym (file_front file (field_members head pairs children))
 
--- ---- the line of a place
+-- ---- a line with an offset
 
 -- the tokens of an object's members, and its end
 members_end : (ms : List (List ℕ × Json)) → tree.members_tokens (members_of ms) ≡ members_tokens ms ++ end_object ∷ []
 members_end [] = refl
 members_end (m ∷ ms) = ap (λ ts. key m.0 ∷ (json_tokens m.1 ++ ts)) (members_end ms) ∙ ap (λ ts. key m.0 ∷ ts) (sym (append_assoc (json_tokens m.1) (members_tokens ms) (end_object ∷ [])))
 
--- those of a line's object
+-- the tokens of a line's object
 place_tokens : (file : Option (List ℕ)) (place : ℕ) (ms : List (List ℕ × Json)) → (front_tokens file place ++ members_tokens ms) ++ end_object ∷ [] ≡ json_tokens (place_json file place ms)
 place_tokens file place ms =
     let first = members_tokens (in_file file) in

@@ -4,19 +4,19 @@ use Rattle.std.proofs.lemmas.Bool.Decides.{nat_tests}
 use Rattle.std.proofs.lemmas.Str.{encode_ascii}
 use lib.Utf8.{encode, next}
 use Rattle.std.specs.Prelude.{encode_utf8}
-use Rattle.arrowflow_report.specs.Escapes.{is_escaped, byte_number, escaped}
+use Rattle.arrowflow_text.specs.Escapes.{is_escaped, byte_number, escaped}
 
 is_escaped_low : (ch : ℕ) → is_escaped ch ≡ true → ch < 128
 is_escaped_low ch e = grind (arith, nat_tests)
 
--- a byte of a character beyond ASCII is shown as it is
+-- a byte of a character beyond ASCII is written unchanged
 high_not_escaped : (b : ℕ) → 128 ≤ b → is_escaped b ≡ false
 high_not_escaped b h = grind (arith, nat_tests)
 
 one_byte : (b : ℕ) (bs : List ℕ) → 128 ≤ b → escaped (b ∷ bs) ≡ b ∷ escaped bs
 one_byte b bs h = rw (high_not_escaped b h)
 
--- a character that is shown by number
+-- a character that is written by number
 pub escaped_low : (ch : ℕ) → is_escaped ch ≡ true → escaped (encode_utf8 ch) ≡ byte_number ch
 escaped_low ch e = rw (encode_ascii ch (is_escaped_low ch e), e)
 
@@ -29,7 +29,7 @@ three_bytes a b c h i j = one_byte a (b ∷ c ∷ []) h ∙ ap (λ bs. a ∷ bs)
 four_bytes : (a b c d : ℕ) → 128 ≤ a → 128 ≤ b → 128 ≤ c → 128 ≤ d → escaped (a ∷ b ∷ c ∷ d ∷ []) ≡ a ∷ b ∷ c ∷ d ∷ []
 four_bytes a b c d h i j k = one_byte a (b ∷ c ∷ d ∷ []) h ∙ ap (λ bs. a ∷ bs) (three_bytes b c d i j k)
 
--- a character beyond ASCII is shown as it is, by its number of bytes
+-- a character beyond ASCII is written unchanged, by its number of bytes
 beyond : (x y : Bool) (ch : ℕ) → let bytes = cond x ((192 + ch / 64) ∷ next ch ∷ []) (cond y ((224 + ch / 4096) ∷ next (ch / 64) ∷ next ch ∷ []) ((240 + ch / 262144) ∷ next (ch / 4096) ∷ next (ch / 64) ∷ next ch ∷ [])) in escaped bytes ≡ bytes
 beyond true y ch = two_bytes _ _ (omega arith) (omega arith)
 beyond false true ch = three_bytes _ _ _ (omega arith) (omega arith) (omega arith)

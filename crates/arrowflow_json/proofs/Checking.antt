@@ -1,4 +1,4 @@
--- A stream that is checked message by message: its lines, one message more, and the line of a fault.
+-- A stream that is checked message by message: its lines, one more message, and the line of a fault.
 use Rattle.std.proofs.Common.{◌≡◌, ℕ, ◌+◌, List, [], ◌∷◌, ◌++◌, length, take, Bool, true, false, Option, Result, Ok, Err, ◌⊎◌, inl, inr, refl, sym, ap, ◌∙◌, subst, arith, append_assoc, append-nil}
 use Rattle.std.specs.Prelude.{IfErr, OnOk}
 use Rattle.std.specs.Io.KnownBytes.{Appends, Consumes}
@@ -11,29 +11,29 @@ use Rattle.arrow_stream_reader.specs.declared.fault.Fault.{Fault}
 use Rattle.arrow_stream_reader.specs.declared.item.Item.{Item}
 use Rattle.arrow_stream_reader.specs.declared.reader.Verdict.{Verdict}
 use Rattle.arrow_stream_reader.specs.declared.reader.Verdict.TheVariants.{Open}
-use Rattle.arrow_stream_reader.specs.Front.{Entry, Standing, FrontOf}
+use Rattle.arrow_stream_reader.specs.Front.{Entry, Snapshot, FrontOf}
 use Rattle.arrow_stream_reader.specs.Stream.{ReaderView}
 use Rattle.arrow_stream_reader.specs.Tables.{table_in, tables_of}
 use Rattle.arrow_stream_reader.specs.Views.{given}
-use Rattle.arrowflow_report.specs.Blame.{BlamesNone, BlamesOnly}
-use Rattle.arrowflow_report.specs.Consumer.{Comes, HasEnded, IsEndedBy, entry_of}
-use Rattle.arrowflow_report.specs.Driver.{CallForMore, Driven}
-use Rattle.arrowflow_report.specs.Reads.{IsReadWhile}
-use Rattle.arrowflow_report.specs.Reports.{SendsSome, SendsText}
-use Rattle.arrowflow_report.specs.declared.tool_fault.ToolFault.{ToolFault}
-use Rattle.arrowflow_report.specs.declared.tool_fault.ToolFault.TheVariants.{Input, Output, Stream, Refused, Memory}
-use Rattle.arrowflow_report.proofs.Driving.{standing_of}
-use Rattle.arrowflow_report.proofs.Growing.{one_table}
-use Rattle.arrowflow_report.proofs.Lined.{end_of, front_end}
-use Rattle.arrowflow_report.proofs.Schemas.{front_begins, front_behind, front_keeps}
-use Rattle.arrowflow_report.proofs.Sent.{begun_behind}
+use Rattle.arrowflow_input.specs.Blame.{BlamesNone, BlamesOnly}
+use Rattle.arrowflow_input.specs.Consumer.{Comes, HasEnded, IsEndedBy, entry_of}
+use Rattle.arrowflow_input.specs.Driver.{CallForMore, Driven}
+use Rattle.arrowflow_input.specs.Reads.{IsReadWhile}
+use Rattle.arrowflow_input.specs.Endings.{SendsSome, SendsText}
+use Rattle.arrowflow_input.specs.declared.tool_fault.ToolFault.{ToolFault}
+use Rattle.arrowflow_input.specs.declared.tool_fault.ToolFault.TheVariants.{Input, Output, Stream, Refused, Memory}
+use Rattle.arrowflow_input.proofs.Driving.{snapshot_of}
+use Rattle.arrowflow_input.proofs.Feeding.{one_table}
+use Rattle.arrowflow_text.proofs.Lined.{end_of, front_end}
+use Rattle.arrowflow_input.proofs.Schemas.{front_begins, front_after, front_keeps}
+use Rattle.arrowflow_input.proofs.Beginnings.{begun_after}
 use Rattle.arrowflow_json.specs.Forms.{AreBegun, AreWritten, IsEnd, Writes, WritesInput}
 use Rattle.arrowflow_json.specs.Messages.{AreMessageLines, IsLast, IsMessageLine, end_line, fault_line, messages_form}
 use Rattle.arrowflow_json.specs.Showing.{AddsFault, CheckingBegan, ChecksSo, HaveChecked, HaveWritten, IsLastBy, WritingBegan, quiet_form}
 use Rattle.arrowflow_json.specs.declared.message_lines.MessageLines.{MessageLines}
 use Rattle.arrowflow_json.proofs.Writing.{Fits, Keeping, begun_so, driven_less, end_written, input_written, message_broken, message_written}
 
--- the lines of all messages are a first part of them
+-- the lines of all messages are also a first part of them
 pub quiet_fits : (file : Option (List ℕ)) → Fits (quiet_form file)
 quiet_fits file = record { none = refl; all = λ schema es text are. are; no_line = λ fault. refl }
 
@@ -55,13 +55,13 @@ lines_more file schema p n (y ∷ es) x text line (first, rest, own, others, who
       ap (λ t. t ++ line) whole ∙ append_assoc first rest line,
     )
 
--- the lines after a schema stay those after it when a message more came
-lines_kept : (file : Option (List ℕ)) {l : LimitNumbers} {b : List ℕ} (c : List ℕ) {e f : Standing} (x : Entry) (text : List ℕ) (es : List Entry) → FrontOf l b es e → e.verdict ≡ Open → FrontOf l (b ++ c) (es ++ x ∷ []) f
+-- the lines after a schema remain those after it when one more message is read
+lines_kept : (file : Option (List ℕ)) {l : LimitNumbers} {b : List ℕ} (c : List ℕ) {e f : Snapshot} (x : Entry) (text : List ℕ) (es : List Entry) → FrontOf l b es e → e.verdict ≡ Open → FrontOf l (b ++ c) (es ++ x ∷ []) f
     → AreMessageLines file e.state.schema 0 0 es text → AreMessageLines file f.state.schema 0 0 es text
 lines_kept file c x text [] old o new is = is
 lines_kept file c {e} {f} x text (y ∷ es) old o new is =
     let w = front_begins old refl (λ q. cc) in
-    let keep = front_keeps (front_behind c old o new).behind w.shape w.schema in
+    let keep = front_keeps (front_after c old o new).after w.shape w.schema in
     subst (λ s. AreMessageLines file s 0 0 (y ∷ es) text) (w.schema ∙ sym keep.schema) is
 
 module _ (file : Option (List ℕ)) (began : WritingBegan) (held held' : Option (List ℕ)) (failed failed' number place : ℕ) (item : Item) (old new : ReaderView) (t : List ℕ) (es : List Entry) (piece : List ℕ) (n : ℕ) (comes : Comes place item old new t es piece n)
@@ -69,13 +69,13 @@ module _ (file : Option (List ℕ)) (began : WritingBegan) (held held' : Option 
   abbrev entry : Entry
   entry = entry_of item t n
 
-  -- the lines with that of the message
+  -- the lines, with that of the message
   grown : (line : List ℕ) → IsMessageLine file new.at.state.schema place number (given item) line → AreMessageLines file new.at.state.schema 0 0 (es ++ entry ∷ []) (x.text ++ line)
   grown line is =
       let front = comes.before.front in
-      let standing = standing_of new comes.gives.stands.rest in
-      let next = subst (λ l. FrontOf l (t ++ take n piece) (es ++ entry ∷ []) standing) comes.limits comes.gives.stands.front in
-      let kept = lines_kept file (take n piece) {f = standing} entry x.text es front comes.is_open next x.are in
+      let snapshot = snapshot_of new comes.gives.position.rest in
+      let next = subst (λ l. FrontOf l (t ++ take n piece) (es ++ entry ∷ []) snapshot) comes.limits comes.gives.position.front in
+      let kept = lines_kept file (take n piece) {f = snapshot} entry x.text es front comes.is_open next x.are in
       let count : number ≡ 0 + length (tables_of es) = omega (arith, counted) in
       let here : IsMessageLine file new.at.state.schema (end_of 0 es) (0 + length (tables_of es)) (given item) line =
       subst (λ m. IsMessageLine file new.at.state.schema (end_of 0 es) m (given item) line) count (subst (λ p. IsMessageLine file new.at.state.schema p number (given item) line) (comes.begins ∙ front_end front) is) in
@@ -86,7 +86,7 @@ module _ (file : Option (List ℕ)) (began : WritingBegan) (held held' : Option 
   message_checked sent =
       message_written (quiet_form file) (quiet_fits file) began held held' failed failed' place item old new t es piece n comes x sent.0 (grown sent.0 sent.1) sent.2.0 sent.2.1
 
-  -- or it was not sent to its end
+  -- or it was not sent completely
   pub message_cut : (f : ToolFault) → SendsSome (IsMessageLine file new.at.state.schema place number (given item)) held failed (Err f) held' failed' → (left : Option (List ℕ)) → Writes (quiet_form file) new.limits (t ++ piece) left began.first began.failures (Err f) held' failed'
   message_cut f sent left =
       message_broken (quiet_form file) (quiet_fits file) began held held' failed failed' place item old new t es piece n comes x sent.0 f (grown sent.0 sent.1) sent.2 left
@@ -102,12 +102,12 @@ last_is : (file : Option (List ℕ)) (marked : Bool) (verdict : Verdict) (place 
 last_is file true verdict place text ended is = subst (λ v. IsLast file v place text) (sym ended) is
 last_is file false verdict place text ended is = subst (λ v. IsLast file v place text) (sym ended) is
 
--- there is one
+-- there is a last line
 pub some_last : (file : Option (List ℕ)) (marked : Bool) (place : ℕ) → (text : List ℕ) × IsLastBy file marked place text
 some_last file true place = ([], refl)
 some_last file false place = (end_line file place, refl)
 
--- what comes last was sent, or not to its end
+-- the last line was sent, completely or not
 pub end_checked : (file : Option (List ℕ)) (began : WritingBegan) (held held' : Option (List ℕ)) (failed failed' : ℕ) (marked : Bool) (r : ReaderView) (bytes : List ℕ) (left : Option (List ℕ)) (es : List Entry) → HasEnded marked r bytes left es
     → HaveWritten (quiet_form file) began held failed r.at.state es → (answer : Result (Unit {0}) ToolFault) → SendsSome (IsLastBy file marked r.at.place) held failed answer held' failed'
     → Writes (quiet_form file) r.limits bytes left began.first began.failures answer held' failed'
@@ -116,7 +116,7 @@ end_checked file began held held' failed failed' marked r bytes left es ended x 
 
 -- a text that was sent, and then nothing more
 after_all : (a b c : Option (List ℕ)) (text : List ℕ) → Appends a b text → AcceptsBeginning b c [] → AcceptsBeginning a c text
-after_all a b c text sent h = subst (AcceptsBeginning a c) (append-nil text) (begun_behind a b c text [] sent h)
+after_all a b c text sent h = subst (AcceptsBeginning a c) (append-nil text) (begun_after a b c text [] sent h)
 
 -- the output was flushed after a text
 pub flushed_after : (text : List ℕ) (a b c : Option (List ℕ)) (n m k : ℕ) (answer : Result (Unit {0}) ToolFault) → SendsText a n text (Ok tt) b m → SendsText b m [] answer c k → SendsText a n text answer c k
@@ -130,12 +130,12 @@ flushed_after text a b c n m k (Err (Refused what kind)) sent h = absurd h
 -- ---- the line of a fault
 
 module _ (file : Option (List ℕ)) (limits : LimitNumbers) (bytes : List ℕ) (left before held : Option (List ℕ)) where
-  -- the end without the line of a fault is one with it, if nothing was begun there
-  end_loud : (e : Standing) (last : List ℕ) → IsEnd (quiet_form file) left e last → (last ≡ []) ⊎ IsEnd (messages_form file) left e last
+  -- the end without the line of a fault is an end with it, if nothing of that line was begun
+  end_loud : (e : Snapshot) (last : List ℕ) → IsEnd (quiet_form file) left e last → (last ≡ []) ⊎ IsEnd (messages_form file) left e last
   end_loud e last (inl well) = inr (inl well)
   end_loud e last (inr (fault, none, badly)) = inl none
 
-  last_loud : (rest : List ℕ) (e : Standing) (last : List ℕ) → (last ≡ []) ⊎ ((rest ≡ []) × IsEnd (quiet_form file) left e last) → (last ≡ []) ⊎ ((rest ≡ []) × IsEnd (messages_form file) left e last)
+  last_loud : (rest : List ℕ) (e : Snapshot) (last : List ℕ) → (last ≡ []) ⊎ ((rest ≡ []) × IsEnd (quiet_form file) left e last) → (last ≡ []) ⊎ ((rest ≡ []) × IsEnd (messages_form file) left e last)
   last_loud rest e last (inl none) = inl none
   last_loud rest e last (inr (all, end)) = elim (end_loud e last end) [ inl none ↦ inl none | inr loud ↦ inr (all, loud) ]
 
@@ -144,20 +144,20 @@ module _ (file : Option (List ℕ)) (limits : LimitNumbers) (bytes : List ℕ) (
     taken = b.taken;
     rest = b.rest;
     whole = b.whole;
-    standing = b.standing;
+    snapshot = b.snapshot;
     entries = b.entries;
     front = b.front;
     text = b.text;
     are = b.are;
     last = b.last;
-    is_last = last_loud b.rest b.standing b.last b.is_last;
+    is_last = last_loud b.rest b.snapshot b.last b.is_last;
     wrote = b.wrote;
   }
 
-  written_loud : (e : Standing) (last : List ℕ) → AreWritten (quiet_form file) limits bytes e last before held → AreWritten (messages_form file) limits bytes e last before held
+  written_loud : (e : Snapshot) (last : List ℕ) → AreWritten (quiet_form file) limits bytes e last before held → AreWritten (messages_form file) limits bytes e last before held
   written_loud e last w = record { entries = w.entries; front = w.front; text = w.text; are = w.are; wrote = w.wrote }
 
-  -- an answer that stays
+  -- a result that is unchanged
   stays : (answer answer' : Result (Unit {0}) ToolFault) (failed count : ℕ) (held' : Option (List ℕ)) (failed' : ℕ) → (answer' ≡ answer) × (held' ≡ held) × (count ≡ failed')
       → Writes (messages_form file) limits bytes left before failed answer held failed' → Writes (messages_form file) limits bytes left before failed answer' held' count
   stays answer answer' failed count held' failed' (same, kept, counted) w =
@@ -166,7 +166,7 @@ module _ (file : Option (List ℕ)) (limits : LimitNumbers) (bytes : List ℕ) (
 
   -- the messages of a stream with a fault
   module _ (fault : Fault) (failed failed' : ℕ) (w : Writes (quiet_form file) limits bytes left before failed (Err (Stream fault)) held failed') where
-    -- nothing came after their lines
+    -- nothing follows their lines
     bare : Appends before held w.2.text
     bare = subst (Appends before held) (append-nil w.2.text) (subst (λ last. Appends before held (w.2.text ++ last)) w.3 w.2.wrote)
 
@@ -181,7 +181,7 @@ module _ (file : Option (List ℕ)) (limits : LimitNumbers) (bytes : List ℕ) (
       sent.1 ∙ w.5,
     )
 
-    -- or it was not sent to its end
+    -- or it was not sent completely
     fault_cut : (held' : Option (List ℕ)) (count : ℕ) (f : ToolFault) → SendsText held failed' (fault_line file fault) (Err f) held' count → Writes (messages_form file) limits bytes left before failed (Err f) held' count
     fault_cut held' count f sent =
         begun_so (messages_form file) limits bytes left before held held' (fault_line file fault) failed failed' count f w.5
@@ -189,17 +189,17 @@ module _ (file : Option (List ℕ)) (limits : LimitNumbers) (bytes : List ℕ) (
           taken = bytes;
           rest = [];
           whole = append-nil bytes;
-          standing = w.0;
+          snapshot = w.0;
           entries = w.2.entries;
           front = w.2.front;
           text = w.2.text;
           are = w.2.are;
           last = fault_line file fault;
           is_last = inr (refl, inr (fault, refl, w.4));
-          wrote = begun_behind before held held' w.2.text (fault_line file fault) bare h;
+          wrote = begun_after before held held' w.2.text (fault_line file fault) bare h;
         }) sent
 
-  -- what a call answers that has written the line of a fault, if there is one
+  -- the result of a call that has written the line of a fault, if there is one
   pub fault_added : (answer answer' : Result (Unit {0}) ToolFault) (failed failed' count : ℕ) (held' : Option (List ℕ)) → AddsFault file answer held failed' answer' held' count
       → Writes (quiet_form file) limits bytes left before failed answer held failed' → Writes (messages_form file) limits bytes left before failed answer' held' count
   fault_added (Err (Stream fault)) (Ok done) failed failed' count held' adds w = absurd adds
@@ -217,7 +217,7 @@ module _ (file : Option (List ℕ)) (limits : LimitNumbers) (bytes : List ℕ) (
   fault_added (Err Memory) answer' failed failed' count held' adds w = stays (Err Memory) answer' failed count held' failed' adds (begun_loud w.0, w.1)
   fault_added (Err (Refused what kind)) answer' failed failed' count held' adds w = absurd w
 
--- the line of a fault was not sent to its end
+-- the line of a fault was not sent completely
 pub fault_broken : (file : Option (List ℕ)) (fault : Fault) (held held' : Option (List ℕ)) (failed failed' : ℕ) (f : ToolFault) → SendsSome (λ text. text ≡ fault_line file fault) held failed (Err f) held' failed' → AddsFault file (Err (Stream fault)) held failed (Err f) held' failed'
 fault_broken file fault held held' failed failed' Output sent = subst (λ text. SendsText held failed text (Err Output) held' failed') sent.1 sent.2
 fault_broken file fault held held' failed failed' Memory sent = subst (λ text. SendsText held failed text (Err Memory) held' failed') sent.1 sent.2
@@ -227,7 +227,7 @@ fault_broken file fault held held' failed failed' (Refused what kind) sent = abs
 
 -- ---- a call
 
--- what blames no input blames none wrongly
+-- a fault that blames no input blames none wrongly
 no_blame : (P : Type 0) (f : ToolFault) → BlamesNone f → BlamesOnly P f
 no_blame P (Input number) none = absurd none
 no_blame P Output none = tt
@@ -235,7 +235,7 @@ no_blame P (Stream fault) none = tt
 no_blame P (Refused what kind) none = tt
 no_blame P Memory none = tt
 
--- an answer that blames no input, or is the one before
+-- a result that blames no input, or is the one before
 pub blames_same : (P : Type 0) (answer answer' : Result (Unit {0}) ToolFault) → IfErr answer' (λ f. BlamesNone f ⊎ (answer ≡ Err f)) → IfErr answer (BlamesOnly P) → IfErr answer' (BlamesOnly P)
 blames_same P answer (Ok done) either before = tt
 blames_same P answer (Err f) (inl none) before = no_blame P f none
@@ -243,7 +243,7 @@ blames_same P answer (Err f) (inr is) before = subst (λ a. IfErr a (BlamesOnly 
 
 module _ {S : Type 0} (contents : S → Option (List ℕ)) (count : S → ℕ) (is_passed_on : S → Type 0) (began : CheckingBegan) (c : MessageLines S) (limits : LimitNumbers) (had left : Option (List ℕ)) (r : ReaderView) (same : r.limits ≡ limits) (answer : Result (Unit {0}) ToolFault)
     (driven : (bytes : List ℕ) × Consumes had left bytes × IsReadWhile (CallForMore (HaveChecked contents count began) limits) bytes × Driven (HaveChecked contents count began c) (ChecksSo contents count is_passed_on began c) bytes left r answer) where
-  -- what the messages of an input are, without the line of a fault
+  -- what is written for the messages of an input, without the line of a fault
   pub quiet_input : WritesInput (quiet_form began.file) limits had left began.writing.first began.writing.failures answer (contents c.output) (count c.output) × OnOk answer (is_passed_on c.output)
   quiet_input =
       let held = contents c.output in

@@ -1,4 +1,5 @@
--- The JSON of columns and of messages has numbers of JSON, and nests no deeper than is read: so its text reads back.
+-- The JSON of columns and of messages has JSON numbers, and nests no deeper than the reader allows: so its text reads
+-- back.
 use Rattle.std.proofs.Common.{◌≡◌, ◌<◌, ◌≤◌, ◌+◌, ◌*◌, ◌^◌, ℕ, ℤ, pos, negsuc, Bool, true, false, List, [], ◌∷◌, ◌++◌, codes, map, Option, None, Some, refl, arith}
 use Rattle.std.specs.Prelude.{FitsSigned}
 use Rattle.std.specs.Fmt.{signed_decimal}
@@ -10,7 +11,7 @@ use Rattle.json.specs.Tree.{HasNumbers, ItemsHaveNumbers, MembersHaveNumbers, de
 use Rattle.json.specs.Value.{items_of}
 use Rattle.json.proofs.Printed.Decimals.{IsNumber-decimal, IsNumber-signed_decimal}
 use Rattle.json.proofs.Printed.Trees.{document-print}
-use Rattle.arrow_types.specs.Field.{Head, Fields, none, more, levels}
+use Rattle.arrow_types.specs.Field.{FieldHeader, FieldTree, none, more, levels}
 use Rattle.arrow_types.specs.Notes.{KeyValue, Notes, unnoted, noted}
 use Rattle.arrow_types.specs.declared.field.Encoding.{Encoding}
 use Rattle.arrow_json.specs.Values.{members_of}
@@ -19,7 +20,7 @@ use Rattle.arrowflow_json.specs.Fields.{dictionary_json, field_json, field_membe
 use Rattle.arrowflow_json.specs.Laws.{ColumnsReadBack, EndReadsBack, FaultReadsBack, HasNumbersOf, HaveIds, IsId, MessageReadsBack, ReadsBack}
 use Rattle.arrowflow_json.specs.Messages.{message_members, place_json, whole}
 
--- its numbers are numbers, and it nests so deep at most
+-- its numbers are JSON numbers, and it nests at most this deep
 abbrev Reads : ℕ → Json → Type 0
 Reads n json = HasNumbers json × (depth json ≤ n)
 
@@ -27,12 +28,12 @@ Reads n json = HasNumbers json × (depth json ≤ n)
 read : (json : Json) → Reads 127 json → ReadsBack json
 read json reads = document-print json reads.0 (omega (arith, reads.1))
 
--- a number of 64 bits with a sign
+-- a signed 64-bit number
 id_number : (z : ℤ) → FitsSigned w64 z → IsNumber (signed_decimal z)
 id_number (pos n) fits = IsNumber-signed_decimal (pos n) fits.sfits
 id_number (negsuc n) fits = IsNumber-signed_decimal (negsuc n) fits.sfits
 
--- the members of an object of a file that may have a name
+-- the members of an object, whose file may have a name
 abbrev MembersRead : ℕ → List (List ℕ × Json) → Type 0
 MembersRead n ms = MembersHaveNumbers (members_of ms) × (members_depth (members_of ms) ≤ n)
 
@@ -62,10 +63,10 @@ dictionary_reads None h = (tt, omega arith)
 dictionary_reads (Some e) h = ((id_number e.id h, (tt, (tt, tt))), omega arith)
 
 -- the children of a field
-abbrev ChildrenRead : Fields → Notes → Type 0
+abbrev ChildrenRead : FieldTree → Notes → Type 0
 ChildrenRead fields notes = ItemsHaveNumbers (items_of (fields_json None fields notes)) × (items_depth (items_of (fields_json None fields notes)) ≤ 2 * levels fields + 2)
 
-field_reads : (file : Option (List ℕ)) (head : Head) (pairs : List KeyValue) (children : Fields) (below : Notes) → IsId head.encoding → ChildrenRead children below → Reads (2 * levels children + 4) (field_json file head pairs (fields_json None children below))
+field_reads : (file : Option (List ℕ)) (head : FieldHeader) (pairs : List KeyValue) (children : FieldTree) (below : Notes) → IsId head.encoding → ChildrenRead children below → Reads (2 * levels children + 4) (field_json file head pairs (fields_json None children below))
 field_reads file head pairs children below id inner =
     let dictionary = dictionary_reads head.encoding id in
     let metadata = pairs_read pairs in
@@ -74,7 +75,7 @@ field_reads file head pairs children below id inner =
     let reads = in_file_reads file (2 * levels children + 3) (field_members head pairs (fields_json None children below)) own in
     (reads.0, omega (arith, reads.1))
 
-children_read : (fields : Fields) (notes : Notes) → HaveIds fields → ChildrenRead fields notes
+children_read : (fields : FieldTree) (notes : Notes) → HaveIds fields → ChildrenRead fields notes
 children_read none notes ids = (tt, omega arith)
 children_read (more head children rest) unnoted ids =
     let own = field_reads None head [] children unnoted ids.0 (children_read children unnoted ids.1) in

@@ -1,4 +1,4 @@
--- A stream whose rows are shown message by message.
+-- A stream whose rows are written message by message.
 use Rattle.std.proofs.Common.{◌≡◌, ℕ, List, [], ◌∷◌, ◌++◌, Option, Ok, Err, refl, sym, ap, ◌∙◌, subst}
 use Rattle.arrow_json.specs.Lines.{AreFirstLines, AreLines, rows_of}
 use Rattle.arrow_json.proofs.Rows.{first_join, lines_all, lines_join, lines_none, rows_append}
@@ -7,15 +7,15 @@ use Rattle.arrow_stream_reader.specs.Front.{Entry}
 use Rattle.arrow_stream_reader.specs.Stream.{ReaderView}
 use Rattle.arrow_stream_reader.specs.Tables.{table_in, tables_of}
 use Rattle.arrow_stream_reader.specs.Views.{given}
-use Rattle.arrowflow_report.specs.Consumer.{Comes, entry_of}
-use Rattle.arrowflow_report.specs.declared.tool_fault.ToolFault.{ToolFault}
-use Rattle.arrowflow_report.proofs.Growing.{one_table}
+use Rattle.arrowflow_input.specs.Consumer.{Comes, entry_of}
+use Rattle.arrowflow_input.specs.declared.tool_fault.ToolFault.{ToolFault}
+use Rattle.arrowflow_input.proofs.Feeding.{one_table}
 use Rattle.arrowflow_json.specs.Forms.{Writes}
 use Rattle.arrowflow_json.specs.Showing.{HaveWritten, SendsLines, WritingBegan}
 use Rattle.arrowflow_json.specs.Shows.{rows_form}
 use Rattle.arrowflow_json.proofs.Writing.{Fits, message_broken, message_written}
 
--- the lines of all rows are a first part of them
+-- the lines of all rows are also a first part of them
 pub rows_fit : Fits rows_form
 rows_fit = record {
   none = lines_none;
@@ -38,7 +38,7 @@ module _ (began : WritingBegan) (held held' : Option (List ℕ)) (failed failed'
       let are = subst (λ rs. AreLines rs (x.text ++ sent.0)) (sym (rows_more es (entry_of item t n))) (lines_join (rows_of (tables_of es)) (rows_of (table_in (given item))) x.text sent.0 x.are sent.1) in
       message_written rows_form rows_fit began held held' failed failed' place item old new t es piece n comes x sent.0 are sent.2.0 sent.2.1
 
-  -- or they were not sent to their end
+  -- or they were not sent completely
   pub message_cut : (f : ToolFault) → SendsLines (rows_of (table_in (given item))) held failed (Err f) held' failed' → (left : Option (List ℕ)) → Writes rows_form new.limits (t ++ piece) left began.first began.failures (Err f) held' failed'
   message_cut f sent left =
       let are = subst (λ rs. AreFirstLines rs (x.text ++ sent.0)) (sym (rows_more es (entry_of item t n))) (first_join (rows_of (tables_of es)) (rows_of (table_in (given item))) x.text sent.0 x.are sent.1) in

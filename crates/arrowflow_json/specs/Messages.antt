@@ -1,4 +1,4 @@
--- The lines of a stream's messages as JSON, and what is written of a stream that is checked.
+-- The lines of a stream's messages as JSON, and what is written for a stream that is checked.
 use Rattle.std.specs.Prelude.{◌≡◌, ℕ, ◌+◌, List, [], ◌∷◌, ◌++◌, length, Option, Result, codes}
 use Rattle.std.specs.Fmt.{decimal, signed_decimal}
 use Rattle.json.specs.Json.{Json, number, object, string}
@@ -15,7 +15,7 @@ use Rattle.arrow_stream_reader.specs.Front.{Entry}
 use Rattle.arrow_stream_reader.specs.Kind.{name_of}
 use Rattle.arrow_stream_reader.specs.State.{StreamState, Given, fields_in, schema_given, dictionary_given, batch_given, ended}
 use Rattle.arrow_stream_reader.specs.Tables.{table_in}
-use Rattle.arrowflow_report.specs.declared.tool_fault.ToolFault.{ToolFault}
+use Rattle.arrowflow_input.specs.declared.tool_fault.ToolFault.{ToolFault}
 use Rattle.arrowflow_json.specs.Fields.{in_file}
 use Rattle.arrowflow_json.specs.Forms.{Form, WritesInput}
 
@@ -23,11 +23,11 @@ use Rattle.arrowflow_json.specs.Forms.{Form, WritesInput}
 abbrev pub whole : ℕ → Json
 whole n = number (decimal n)
 
--- an object of a file that may have a name, about this place
+-- an object about this offset, whose file may have a name
 abbrev pub place_json : Option (List ℕ) → ℕ → List (List ℕ × Json) → Json
 place_json file place members = object (members_of (in_file file ++ (codes "at", whole place) ∷ members))
 
--- the members of a message after its place, of one that comes after so many batches, and leaves this state
+-- the members of a message after its offset, if this many batches precede it and this is the state after it
 abbrev pub message_members : ℕ → StreamState → Given → List (List ℕ × Json)
 message_members before state schema_given =
     (codes "message", string (codes "schema")) ∷ (codes "columns", whole (width (fields_in state.schema))) ∷ []
@@ -38,11 +38,11 @@ message_members before state (batch_given batch) =
     (codes "message", string (codes "batch")) ∷ (codes "number", whole before) ∷ (codes "rows", whole batch.rows) ∷ []
 message_members before state ended = (codes "message", string (codes "end marker")) ∷ []
 
--- a message that begins at this place
+-- a message that begins at this offset
 abbrev pub message_json : Option (List ℕ) → ℕ → ℕ → StreamState → Given → Json
 message_json file place before state given = place_json file place (message_members before state given)
 
--- the end at this place of an input without an end marker
+-- the end, at this offset, of an input without an end marker
 abbrev pub end_json : Option (List ℕ) → ℕ → Json
 end_json file place = place_json file place ((codes "message", string (codes "end of input")) ∷ [])
 
@@ -58,20 +58,20 @@ end_line file place = line_of (end_json file place)
 abbrev pub fault_line : Option (List ℕ) → Fault → List ℕ
 fault_line file fault = line_of (fault_json file fault)
 
--- the line of a message after this schema: of some dictionaries that it left
+-- the line of a message, with this schema after it, for some dictionaries after it
 abbrev pub IsMessageLine : Option (List ℕ) → Option SchemaShape → ℕ → ℕ → Given → List ℕ → Type 0
 IsMessageLine file schema place before given line =
     (state : StreamState) × (state.schema ≡ schema) × (line ≡ line_of (message_json file place before state given))
 
--- The lines of messages one after the other, the first of which begins at this place, after so many batches: each begins where
--- the one before it ends.
+-- The lines of messages one after the other, the first of which begins at this offset, after this many batches: each
+-- message begins where the one before it ends.
 abbrev pub AreMessageLines : Option (List ℕ) → Option SchemaShape → ℕ → ℕ → List Entry → List ℕ → Type 0
 AreMessageLines file schema place before [] text = text ≡ []
 AreMessageLines file schema place before (x ∷ xs) text =
     (line : List ℕ) × (rest : List ℕ) × IsMessageLine file schema place before x.given line
     × AreMessageLines file schema x.end (before + length (table_in x.given)) xs rest × (text ≡ line ++ rest)
 
--- the last line of a stream that ends well at this place: none after an end marker, which has a line of its own
+-- the last line of a stream that ends well at this offset: none after an end marker, which has its own line
 abbrev pub IsLast : Option (List ℕ) → Verdict → ℕ → List ℕ → Type 0
 IsLast file Done place text = text ≡ []
 IsLast file Open place text = text ≡ end_line file place

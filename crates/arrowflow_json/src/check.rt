@@ -2,10 +2,10 @@
 
 ghost use Rattle.std.specs.Prelude.{◌≡◌, ◌<◌, ◌-◌, ◌^◌, ◌⊎◌, Err, IfErr, Ok, OnOk};
 ghost use Rattle.arrow_stream_reader.specs.declared.fault.Fault.{Fault};
-ghost use Rattle.arrowflow_report.specs.declared.tool_fault.ToolFault.TheVariants.{Stream};
+ghost use Rattle.arrowflow_input.specs.declared.tool_fault.ToolFault.TheVariants.{Stream};
 ghost use Rattle.arrowflow_json.specs.Showing.{AddsFault};
-ghost use Rattle.arrowflow_report.specs.Blame.{BlamesNone, BlamesOnly};
-ghost use Rattle.arrowflow_report.specs.Reports.{SendsSome};
+ghost use Rattle.arrowflow_input.specs.Blame.{BlamesNone, BlamesOnly};
+ghost use Rattle.arrowflow_input.specs.Endings.{SendsSome};
 ghost use Rattle.arrowflow_json.specs.Fields.{name_by};
 ghost use Rattle.arrowflow_json.specs.Messages.{ChecksInput, fault_line};
 
@@ -15,21 +15,21 @@ use crate::sending::send_text;
 use arrow_sink::Sink;
 use arrow_stream_reader::{Fault, StreamReader};
 use arrow_types::Limits;
-use arrowflow_report::{Input, ToolFault, drive};
+use arrowflow_input::{Input, ToolFault, drive};
 use std::alloc::Global;
 
-/// Writes each message of a stream as a JSON object and a line feed, and hands the output back.
+/// Writes each message of a stream as a JSON object and a line feed, and returns the output.
 ///
 /// `{"at":P,"message":"schema","columns":K}`, `{"at":P,"message":"dictionary","id":I,"values":N}`,
 /// `{"at":P,"message":"batch","number":B,"rows":N}`, and last `{"at":P,"message":"end marker"}` or
-/// `{"at":P,"message":"end of input"}`, where `P` is the place of the message's first byte and
-/// batches are counted from 0; where a file is named, `file` is the first member. If the stream is
+/// `{"at":P,"message":"end of input"}`, where `P` is the offset of the message's first byte and
+/// batches are counted from 0; if a file is named, `file` is the first member. If the stream is
 /// rejected or ends too early, the last line is `{"at":P,"fault":"KIND"}`, with the fault that is
-/// answered. As of `check` of `arrowflow_report`, the contract of the whole says of the values of a
-/// dictionary that some dictionaries had as many.
+/// returned. As for `check` of `arrowflow_text`, the contract of the whole does not tie the
+/// printed number of values to the dictionary: it only says that some dictionaries had that many.
 ///
-/// The input is read, and the call ends, as of [`show_json`](crate::show_json); the output is
-/// flushed once, before `Ok`. If the output fails at the line of a fault, `Output` is answered.
+/// The input is read, and the call ends, as for [`show_json`](crate::show_json); the output is
+/// flushed once, before `Ok`. If the output fails at the line of a fault, `Output` is returned.
 pub fn check_json<R: Input, S: Sink>(
     alloc: Global,
     input: &mut R,
@@ -56,7 +56,7 @@ pub fn check_json<R: Input, S: Sink>(
     with_fault(alloc, file, answer, output)
 }
 
-/// Sends the line of a fault, if the stream has one; hands the output back, with the answer.
+/// Sends the line of a fault, if the stream has one; returns the output, with the result.
 fn with_fault<S: Sink>(
     alloc: Global,
     file: Option<&str>,

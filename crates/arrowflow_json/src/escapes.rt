@@ -1,12 +1,12 @@
 //! Time zones within the name of a type.
 
 ghost use Rattle.std.specs.Prelude.{◌≡◌, ◌<◌, ◌++◌, OnOk, string_bytes, encode_utf8};
-ghost use Rattle.arrowflow_report.specs.Escapes.{is_escaped, hex_digit, byte_number, escaped};
+ghost use Rattle.arrowflow_text.specs.Escapes.{is_escaped, hex_digit, byte_number, escaped};
 
 use std::alloc::AllocError;
 
-/// Appends a text as the text of a schema has it: each byte below 20 hexadecimal, 7f and the
-/// backslash as `\x` and two lower-case hexadecimal digits, all others as they are.
+/// Appends a text as it appears in the text of a schema: each byte below 20 hexadecimal, 7f and the
+/// backslash as `\x` and two lower-case hexadecimal digits, all others unchanged.
 pub(crate) fn push_escaped(line: &mut String, text: &str) -> Result<(), AllocError>
     ensures { OnOk result (string_bytes line.new ≡ string_bytes line.old ++ escaped text.now) }
 {
@@ -29,7 +29,7 @@ fn push_char(line: &mut String, ch: char) -> Result<(), AllocError>
     }
 }
 
-/// Whether the character is shown by number. All of these are one byte long.
+/// Whether the character is written by number. All of these are one byte long.
 fn is_shown_by_number(ch: char) -> bool
     ensures { result ≡ is_escaped ch }
 {

@@ -15,7 +15,7 @@ use arrow_types::{DataType, Field, Schema};
 use json::Writer;
 use std::alloc::{AllocError, Global};
 
-/// The lines of the columns of a schema: of each an object, and a line feed. Where a file is named,
+/// The lines of the columns of a schema: for each an object, and a line feed. If a file is named,
 /// its name is the first member of each object.
 pub fn schema_json_lines(
     alloc: Global,

@@ -3,15 +3,15 @@
 ghost use Rattle.std.specs.Prelude.{◌≡◌};
 
 use arrow_stream_reader::{Item, StreamReader};
-use arrowflow_report::{Consumer, ToolFault, Wants};
+use arrowflow_input::{Consumer, ToolFault, Wants};
 
-/// What reads a stream up to its schema, which the reader has then.
+/// The consumer that reads a stream up to its schema, which the reader then has.
 #[derive(Drop)]
 pub(crate) struct FirstSchema;
 
-/// It has enough once the schema came, and never fails.
+/// It stops the read once the schema was read, and never fails.
 impl Consumer for FirstSchema {
-    ghost use Rattle.arrowflow_report.specs.SchemaCall.{HasNoMessage};
+    ghost use Rattle.arrowflow_text.specs.SchemaCall.{HasNoMessage};
     ghost use Rattle.arrowflow_json.specs.SchemaLines.{HasSchema};
 
     ghost Start = { Unit {0} };

@@ -10,7 +10,7 @@ ghost use Rattle.arrowflow_json.specs.Fields.{text_json};
 ghost use Rattle.arrowflow_json.specs.Tokens.{Adds, member_tokens, members_tokens};
 
 use arrow_types::Encoding;
-use arrowflow_report::int_words;
+use arrowflow_text::int_words;
 use json::Writer;
 use std::alloc::{AllocError, Global};
 
@@ -87,7 +87,7 @@ fn write_pair(
     writer.end_object()
 }
 
-/// Writes bytes as a string, or if they are no text as an object with their hexadecimal digits.
+/// Writes bytes as a string, or if they are not a text as an object with their hexadecimal digits.
 fn write_bytes(alloc: Global, writer: &mut Writer, bytes: &[u8]) -> Result<(), AllocError>
     ensures { OnOk result (Adds (json_tokens (text_json bytes.now)) writer.old writer.new) }
 {

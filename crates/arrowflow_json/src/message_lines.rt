@@ -1,23 +1,23 @@
-//! The messages of a stream, written as they come.
+//! The messages of a stream, written as they are read.
 
 ghost use Rattle.std.specs.Prelude.{◌≡◌, ◌<◌, ◌+◌, ◌-◌, ◌^◌, IfErr, IfOk, OnOk, length};
 ghost use Rattle.arrow_stream_reader.specs.Tables.{table_in};
 ghost use Rattle.arrow_stream_reader.specs.Views.{given};
-ghost use Rattle.arrowflow_report.specs.Reports.{SendsSome};
-ghost use Rattle.arrowflow_report.specs.declared.tool_fault.ToolFault.TheVariants.{Memory};
+ghost use Rattle.arrowflow_input.specs.Endings.{SendsSome};
+ghost use Rattle.arrowflow_input.specs.declared.tool_fault.ToolFault.TheVariants.{Memory};
 ghost use Rattle.arrowflow_json.specs.Fields.{name_by};
 ghost use Rattle.arrowflow_json.specs.Messages.{IsMessageLine};
 ghost use Rattle.arrowflow_json.specs.Showing.{IsLastBy};
 
-use crate::message_texts::{Message, end_line, message_line};
+use crate::message_texts::{MessageText, end_line, message_line};
 use crate::sending::{flush, send_text};
 use arrow_sink::Sink;
 use arrow_stream_reader::{Item, StreamReader};
-use arrowflow_report::{Consumer, ToolFault, Wants};
+use arrowflow_input::{Consumer, ToolFault, Wants};
 use std::alloc::Global;
 
-/// An output to which the lines of a stream's messages are written as they come: the name of the
-/// file, if the lines have one, and how many batches came.
+/// An output to which the lines of a stream's messages are written as they are read: the name of
+/// the file, if the lines have one, and the number of batches so far.
 #[derive(Drop)]
 pub(crate) struct MessageLines<'a, S: Sink> {
     pub(crate) alloc: Global,
@@ -27,7 +27,7 @@ pub(crate) struct MessageLines<'a, S: Sink> {
 }
 
 impl<'a, S: Sink> MessageLines<'a, S> {
-    /// Counts the batch of a message, if it has one; returns how many came before.
+    /// Counts the batch of a message, if it has one; returns the number of batches before it.
     fn count(&mut self, item: &Item) -> Result<u64, ToolFault>
         ensures number { IfOk result (λ before. before ≡ self.old.number) }
         ensures counted { OnOk result
@@ -58,7 +58,7 @@ impl<'a, S: Sink> MessageLines<'a, S> {
         ensures file { self.new.file ≡ self.old.file }
     {
         let before = self.count(item)?;
-        let message = Message {
+        let message = MessageText {
             reader,
             place,
             before,
@@ -68,7 +68,7 @@ impl<'a, S: Sink> MessageLines<'a, S> {
     }
 
     /// Sends the line of a message.
-    fn send_message(&mut self, message: Message) -> Result<(), ToolFault>
+    fn send_message(&mut self, message: MessageText) -> Result<(), ToolFault>
         requires { S.failed self.old.output < 2 ^ 64 - 1 }
         ensures sent { SendsSome (IsMessageLine (name_by self.old.file)
             message.entry.reader.now.at.state.schema message.entry.place message.entry.before
@@ -96,7 +96,7 @@ impl<'a, S: Sink> MessageLines<'a, S> {
         send_text(&mut self.output, &line)
     }
 
-    /// Writes the end, and passes on what was written.
+    /// Writes the end, and flushes what was written.
     fn finish(&mut self, reader: &StreamReader, marked: bool) -> Result<(), ToolFault>
         requires { S.failed self.old.output < 2 ^ 64 - 1 }
         ensures sent { SendsSome (IsLastBy (name_by self.old.file) marked reader.now.at.place)
@@ -109,7 +109,8 @@ impl<'a, S: Sink> MessageLines<'a, S> {
     }
 }
 
-/// `Output` if the output failed, and `Memory` if allocation failed; it never has enough.
+/// It fails with `Output` if the output failed, and with `Memory` if an allocation failed; it never
+/// stops the read.
 impl<'a, S: Sink> Consumer for MessageLines<'a, S> {
     ghost use Rattle.std.specs.Prelude.{◌<◌, ◌-◌, ◌^◌};
     ghost use Rattle.arrowflow_json.specs.Showing.{CheckingBegan, ChecksSo, HaveChecked};

@@ -23,10 +23,10 @@ use arrow_types::Field;
 use json::Writer;
 use std::alloc::{AllocError, Global};
 
-/// A message that has just been read: the reader that read it, where it began, how many batches
-/// came before it, and what it is.
+/// A message that has just been read: the reader that read it, the offset at which it began, the
+/// number of batches before it, and the message itself.
 #[derive(Clone, Copy)]
-pub(crate) struct Message<'a> {
+pub(crate) struct MessageText<'a> {
     pub(crate) reader: &'a StreamReader,
     pub(crate) place: u64,
     pub(crate) before: u64,
@@ -37,7 +37,7 @@ pub(crate) struct Message<'a> {
 pub(crate) fn message_line(
     alloc: Global,
     file: Option<&str>,
-    message: Message,
+    message: MessageText,
 ) -> Result<Vec<u8>, AllocError>
     ensures { IfOk result (λ line. line.items ≡ line_of (message_json (name_by file.entry)
         message.entry.place message.entry.before message.entry.reader.now.at.state
@@ -48,7 +48,7 @@ pub(crate) fn message_line(
     ended(writer)
 }
 
-/// The last line of an input that ends without an end marker, at this place.
+/// The last line of an input that ends without an end marker, at this offset.
 pub(crate) fn end_line(alloc: Global, file: Option<&str>, place: u64) -> Result<Vec<u8>, AllocError>
     ensures { IfOk result (λ line. line.items ≡ end_line (name_by file.entry) place) }
 {
@@ -70,7 +70,7 @@ pub(crate) fn fault_line(
     ended(writer)
 }
 
-/// The beginning of the line of a place.
+/// The beginning of a line, up to the offset.
 fn begun(alloc: Global, file: Option<&str>, place: u64) -> Result<Writer, AllocError>
     ensures before { IfOk result (λ writer. writer.before ≡ []) }
     ensures tokens { IfOk result (λ writer. writer.tokens
@@ -83,7 +83,7 @@ fn begun(alloc: Global, file: Option<&str>, place: u64) -> Result<Writer, AllocE
     Ok(writer)
 }
 
-/// The text of an object that is written but for its end, and a line feed.
+/// The text of an object that is written except for its end, and a line feed.
 fn ended(mut writer: Writer) -> Result<Vec<u8>, AllocError>
     ensures { IfOk result (λ line. line.items ≡ writer.before
         ++ (print (writer.tokens ++ end_object ∷ []) ++ codes "\n")) }
@@ -94,8 +94,8 @@ fn ended(mut writer: Writer) -> Result<Vec<u8>, AllocError>
     Ok(text)
 }
 
-/// Writes the members of a message after its place.
-fn write_message(writer: &mut Writer, message: Message) -> Result<(), AllocError>
+/// Writes the members of a message after its offset.
+fn write_message(writer: &mut Writer, message: MessageText) -> Result<(), AllocError>
     ensures { OnOk result (Adds (members_tokens (message_members message.entry.before
         message.entry.reader.now.at.state (given message.entry.item.now))) writer.old writer.new) }
 {
@@ -107,7 +107,7 @@ fn write_message(writer: &mut Writer, message: Message) -> Result<(), AllocError
     }
 }
 
-/// Writes the members of a schema with so many columns.
+/// Writes the members of a schema with this many columns.
 fn write_schema(writer: &mut Writer, columns: u64) -> Result<(), AllocError>
     ensures { OnOk result (Adds (members_tokens ((codes "message", string (codes "schema"))
         ∷ (codes "columns", whole columns) ∷ [])) writer.old writer.new) }
@@ -116,7 +116,7 @@ fn write_schema(writer: &mut Writer, columns: u64) -> Result<(), AllocError>
     write_whole(writer, "columns", columns)
 }
 
-/// Writes the members of a dictionary that has so many values now.
+/// Writes the members of a dictionary that has this many values now.
 fn write_values(writer: &mut Writer, id: i64, values: u64) -> Result<(), AllocError>
     ensures { OnOk result (Adds (members_tokens ((codes "message", string (codes "dictionary"))
         ∷ (codes "id", number (signed_decimal id)) ∷ (codes "values", whole values) ∷ []))
@@ -127,7 +127,7 @@ fn write_values(writer: &mut Writer, id: i64, values: u64) -> Result<(), AllocEr
     write_whole(writer, "values", values)
 }
 
-/// Writes the members of a batch of this number, which has so many rows.
+/// Writes the members of a batch with this number, which has this many rows.
 fn write_batch(writer: &mut Writer, before: u64, rows: u64) -> Result<(), AllocError>
     ensures { OnOk result (Adds (members_tokens ((codes "message", string (codes "batch"))
         ∷ (codes "number", whole before) ∷ (codes "rows", whole rows) ∷ []))
@@ -155,7 +155,7 @@ fn write_whole(writer: &mut Writer, name: &str, count: u64) -> Result<(), AllocE
     writer.u64(count)
 }
 
-/// How many columns the schema has, none before it.
+/// The number of columns of the schema, 0 before there is one.
 fn columns_in(reader: &StreamReader) -> u64
     ensures { result ≡ width (fields_in reader.now.at.state.schema) }
 {
@@ -165,14 +165,14 @@ fn columns_in(reader: &StreamReader) -> u64
     }
 }
 
-/// How many fields there are.
+/// The number of fields.
 fn count(fields: &[Field]) -> u64
     ensures { result ≡ width (fields_view fields.now) }
 {
     fields.len() as u64
 }
 
-/// How many values the dictionary of the id has, none where there is no dictionary.
+/// The number of values of the dictionary with this id, 0 if there is no dictionary.
 fn values_of(reader: &StreamReader, id: i64) -> u64
     ensures { result ≡ length (values_by reader.now.at.state.dictionaries id) }
 {

@@ -1,4 +1,4 @@
-//! The rows of a stream, written as its batches come.
+//! The rows of a stream, written as its batches are read.
 
 ghost use Rattle.std.specs.Prelude.{◌<◌, ◌-◌, ◌^◌};
 ghost use Rattle.arrow_json.specs.Lines.{rows_of};
@@ -9,10 +9,10 @@ ghost use Rattle.arrowflow_json.specs.Showing.{SendsLines};
 use crate::sending::{flush, send_batch};
 use arrow_sink::Sink;
 use arrow_stream_reader::{Item, StreamReader};
-use arrowflow_report::{Consumer, ToolFault, Wants};
+use arrowflow_input::{Consumer, ToolFault, Wants};
 use std::alloc::Global;
 
-/// An output to which the rows of a stream are written as lines of JSON, as its batches come.
+/// An output to which the rows of a stream are written as lines of JSON, as its batches are read.
 #[derive(Drop)]
 pub(crate) struct RowLines<S: Sink> {
     pub(crate) alloc: Global,
@@ -20,7 +20,7 @@ pub(crate) struct RowLines<S: Sink> {
 }
 
 impl<S: Sink> RowLines<S> {
-    /// Writes the rows of a message, which only a batch has.
+    /// Writes the rows of a message; only a batch has rows.
     fn take(&mut self, item: &Item) -> Result<(), ToolFault>
         requires { S.failed self.old.output < 2 ^ 64 - 1 }
         ensures { SendsLines (rows_of (table_in (given item.now))) (S.contents self.old.output)
@@ -34,7 +34,8 @@ impl<S: Sink> RowLines<S> {
     }
 }
 
-/// `Output` if the output failed, and `Memory` if allocation failed; it never has enough.
+/// It fails with `Output` if the output failed, and with `Memory` if an allocation failed; it never
+/// stops the read.
 impl<S: Sink> Consumer for RowLines<S> {
     ghost use Rattle.std.specs.Prelude.{◌<◌, ◌-◌, ◌^◌};
     ghost use Rattle.arrowflow_json.specs.Showing.{HaveShown, ShowsSo, WritingBegan};

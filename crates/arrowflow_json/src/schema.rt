@@ -3,9 +3,9 @@
 ghost use Rattle.std.specs.Prelude.{◌≡◌, ◌<◌, ◌-◌, ◌^◌, IfErr, IfOk, OnOk};
 ghost use Rattle.std.specs.Prelude.{Some, is_some, true};
 ghost use Rattle.arrow_types.specs.Notes.{SchemaShape};
-ghost use Rattle.arrowflow_report.specs.Blame.{BlamesOnly};
+ghost use Rattle.arrowflow_input.specs.Blame.{BlamesOnly};
 ghost use Rattle.arrowflow_json.specs.Fields.{name_by, schema_lines};
-ghost use Rattle.arrowflow_report.specs.declared.tool_fault.ToolFault.TheVariants.{Memory};
+ghost use Rattle.arrowflow_input.specs.declared.tool_fault.ToolFault.TheVariants.{Memory};
 ghost use Rattle.arrowflow_json.specs.SchemaLines.{AnswersLines, SendsAll, WritesSchemaOf};
 
 use crate::fields::schema_json_lines;
@@ -13,22 +13,23 @@ use crate::first_schema::FirstSchema;
 use arrow_sink::{Sink, send};
 use arrow_stream_reader::StreamReader;
 use arrow_types::Limits;
-use arrowflow_report::{Input, ToolFault, drive};
+use arrowflow_input::{Input, ToolFault, drive};
 use std::alloc::Global;
 
-/// Writes the columns of a stream's schema, of each a JSON object and a line feed, and hands the
-/// output back.
+/// Writes the columns of a stream's schema, each as a JSON object and a line feed, and returns the
+/// output.
 ///
 /// The members of an object are `name`, `type`, `format`, `nullable`, `dictionary`, `metadata` and
-/// `children`, all of them always and in this order (`specs/Fields.antt`); where a file is named,
-/// `file` comes first. A schema without columns has no line.
+/// `children`, all of them always and in this order (`specs/Fields.antt`); if a file is named,
+/// `file` comes first. A schema without columns has no lines.
 ///
-/// The input is read in pieces of 65,536 bytes until its first message is whole, and no further.
+/// The input is read in pieces of 65,536 bytes until its first message is complete, and no further.
 ///
 /// `Stream` with the reader's fault if the first message is rejected, at byte 0, and with
-/// `NoSchema` if the input ends before it is whole; `Input(0)` if a read failed before that, an
-/// interrupted one included; `Memory` if allocation failed: then nothing is written. `Output` if
-/// the output failed: then a beginning of the lines is. The output is flushed once, before `Ok`.
+/// `NoSchema` if the input ends before it is complete; `Input(0)` if a read failed before that,
+/// including an interrupted one; `Memory` if an allocation failed: then nothing is written.
+/// `Output` if the output failed: then a prefix of the lines is written. The output is flushed
+/// once, before `Ok`.
 pub fn schema_json<R: Input, S: Sink>(
     alloc: Global,
     input: &mut R,
@@ -90,7 +91,7 @@ fn lines_of_schema(
     }
 }
 
-/// Sends a text and passes it on.
+/// Sends a text and flushes the output.
 fn send_all<S: Sink>(output: &mut S, text: &[u8]) -> Result<(), ToolFault>
     requires { S.failed output.old < 2 ^ 64 - 1 }
     ensures sent { SendsAll (S.contents output.old) (S.failed output.old) text.now result

@@ -2,17 +2,17 @@
 
 ghost use Rattle.std.specs.Prelude.{◌<◌, ◌≤◌, ◌-◌, ◌^◌, [], OnOk};
 ghost use Rattle.arrow_json.specs.Lines.{rows_between};
-ghost use Rattle.arrowflow_report.specs.Reports.{SendsText};
+ghost use Rattle.arrowflow_input.specs.Endings.{SendsText};
 ghost use Rattle.arrowflow_json.specs.Showing.{SendsLines};
 
 use arrow_data::Batch;
 use arrow_json::lines_of;
 use arrow_sink::{Sink, send};
-use arrowflow_report::ToolFault;
+use arrowflow_input::ToolFault;
 use std::alloc::Global;
 use std::ops::Range;
 
-/// How many rows are put into text at once.
+/// The number of rows that are formatted at once.
 const ROWS: usize = 1_024;
 
 /// Sends the lines of all rows of a batch, some of them at a time.
@@ -62,7 +62,7 @@ pub(crate) fn send_text<S: Sink>(output: &mut S, text: &[u8]) -> Result<(), Tool
     Ok(())
 }
 
-/// Passes on what was sent.
+/// Flushes what was sent.
 pub(crate) fn flush<S: Sink>(output: &mut S) -> Result<(), ToolFault>
     requires { S.failed output.old < 2 ^ 64 - 1 }
     ensures kept { SendsText (S.contents output.old) (S.failed output.old) [] result

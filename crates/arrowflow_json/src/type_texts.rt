@@ -3,15 +3,15 @@
 ghost use Rattle.std.specs.Prelude.{◌≡◌, ◌++◌, IfOk, codes, string_bytes};
 ghost use Rattle.std.specs.Fmt.{decimal, signed_decimal};
 ghost use Rattle.arrow_types.specs.View.{type_view};
-ghost use Rattle.arrowflow_report.specs.TypeWords.{format_of, type_name};
+ghost use Rattle.arrowflow_text.specs.TypeWords.{format_of, type_name};
 
 use crate::escapes::push_escaped;
 use arrow_types::DataType;
-use arrowflow_report::{format_width, words_of};
+use arrowflow_text::{format_width, words_of};
 use std::alloc::{AllocError, Global};
 use std::fmt::Write;
 
-/// The name of a type without its children, as the text of a schema has it.
+/// The name of a type without its children, as it appears in the text of a schema.
 pub(crate) fn type_name(alloc: Global, data_type: &DataType) -> Result<String, AllocError>
     ensures { IfOk result (λ text. string_bytes text ≡ type_name (type_view data_type.now).tag) }
 {

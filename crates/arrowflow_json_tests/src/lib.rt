@@ -1,5 +1,5 @@
-//! Tests of `arrow_json` and of `arrowflow_json`, in a crate of their own: so neither is proved
-//! once more with its tests.
+//! Tests of `arrow_json` and of `arrowflow_json`, in a separate crate so that neither is verified
+//! again with its tests.
 #![tactic(auto)]
 
 #[cfg(test)]

@@ -1,5 +1,5 @@
-//! `scalars`, `nested` and `names` show columns that are built value by value (`columns`),
-//! `streams`, `checks` and `schemas` whole inputs. The lines are those of RFC 8259, written by
+//! `scalars`, `nested` and `names` test columns that are built value by value (`columns`),
+//! `streams`, `checks` and `schemas` complete inputs. The lines are those of RFC 8259, written by
 //! hand; decimals are those of Python's `decimal`.
 
 mod checks;

@@ -1,4 +1,4 @@
--- The command that clap finds in words of which it has no fault is one of the program's own: `help` answers with a fault.
+-- The command that clap finds in words without a fault is one of the program's own: `help` leads to a fault.
 use Rattle.std.proofs.Common.{◌≡◌, ℕ, Bool, true, false, ◌&&◌, ◌||◌, not, if◌then◌else◌, List, [], ◌∷◌, Option, Some, None, is_some, option_map, fold, codes}
 use Rattle.std.proofs.Common.{◌⊎◌, inl, inr, refl, sym, ap, subst, ◌∙◌, true≢false}
 use Rattle.std.specs.Str.{bytes_eq}
@@ -38,18 +38,18 @@ long_never : (c : List Rule) (waiting : Waiting) (word : Text) (p : Option (Text
 long_never c waiting word (Some p) h = flag_never c waiting word (long_met c (arg_by_long c p.0) p.1 h).0 (long_met c (arg_by_long c p.0) p.1 h).1
 long_never c waiting word None h = short_never c waiting word (short_of word) h
 
--- A word that names no command of the names is none.
+-- A word that matches none of the names is not read to be the name of a command.
 other_never : (dashes : Bool) (c : List Rule) (waiting : Waiting) (position : ℕ) (word : Text) (h : Held)
     → is_name (if dashes then (h, trailing position) else long_or_other c waiting word (long_of word) h).1 ≡ false
 other_never true c waiting position word h = refl
 other_never false c waiting position word h = long_never c waiting word (long_of word) h
 
--- where a walk stopped, it is not at `help`
+-- the command at which a walk stopped is not `help`
 abbrev NotHelp : Option (Text × List Text) → Type 0
 NotHelp None = Unit {0}
 NotHelp (Some p) = bytes_eq p.0 (codes "help") ≡ false
 
--- a word is not `help` as a command's name
+-- a word is not read as the command name `help`
 abbrev IsNoHelp : Step → Type 0
 IsNoHelp (next waiting) = Unit {0}
 IsNoHelp (trailing position) = Unit {0}
@@ -67,7 +67,7 @@ help_faults false off kinds o h = refl
 help_faults true false kinds o h = absurd (cc)
 help_faults true true kinds o h = absurd (true≢false o)
 
--- Where a word has no fault, it is not `help` as a command's name.
+-- A word without a fault is not read as the command name `help`.
 named_so : (found : Option Text) (s : Shape) (waiting : Waiting) (position : ℕ) (word : Text) (h : Held) → s.disable_help_subcommand ≡ false
     → other_fault s found word h ≡ [] → IsNoHelp (subcommand_or_other s.rules found waiting position word h).1
 named_so (Some name) s waiting position word h helps sound =
@@ -116,7 +116,7 @@ walked_on s names w (word ∷ rest) helps other sound =
     let both = both_sound (turn_fault s names w word) (walk_fault s names (walked s.rules names w word) rest) sound in
     walked_on s names (walked s.rules names w word) rest helps (turned s names w word helps other both.0) both.1
 
--- which of seven commands is found, where the last is not
+-- which of seven commands is found, if the last one is not
 one_of_six : (a b c d e f g : Bool) (s t u v w x y : Shape) (words : List Text) (name : Text) (rows : List Row) → g ≡ false
     → option_map (λ x. rows_at x words) (if a then Some s else (if b then Some t else (if c then Some u else (if d then Some v else (if e then Some w else (if f then Some x else (if g then Some y else None))))))) ≡ Some (name, rows)
     → (name ≡ s.name) ⊎ ((name ≡ t.name) ⊎ ((name ≡ u.name) ⊎ ((name ≡ v.name) ⊎ ((name ≡ w.name) ⊎ (name ≡ x.name)))))

@@ -1,4 +1,5 @@
--- What the words of a command line ask for, in the terms of clap: what it reads of a command, and what it finds in words.
+-- What the words of a command line ask for, in clap's terms: what clap reads from a command, and what it finds in
+-- words.
 use Rattle.std.specs.Prelude.{◌≡◌, ◌≤◌, ◌-◌, ◌^◌, ◌⊎◌, ℕ, List, [], ◌∷◌, Bool, true, false, codes, ◌==◌, map, option_map, if◌then◌else◌, Option, None, Some, is_some, is_none, Result, Ok, Err, ⊤, string_bytes, unwrap_or}
 use Rattle.std.specs.List.{slice_split}
 use Rattle.std.specs.Str.{bytes_eq}
@@ -8,7 +9,7 @@ use Rattle.arrow_body_writer.specs.declared.align.Align.{Align}
 use Rattle.arrow_body_writer.specs.declared.align.Align.TheVariants.{Eight, SixtyFour}
 use Rattle.arrow_dict.specs.declared.update.Updates.{Updates}
 use Rattle.arrow_dict.specs.declared.update.Updates.TheVariants.{Delta, Resend}
-use Rattle.arrow_stream_writer.specs.declared.stream_writer.Options.{Options}
+use Rattle.arrow_stream_writer.specs.declared.options.Options.{Options}
 use Rattle.arrow_types.specs.Limits.{LimitNumbers}
 use Rattle.arrow_types.specs.declared.type_set.TypeSet.{TypeSet}
 use Rattle.arrow_types.specs.declared.type_set.TypeSet.TheVariants.{Core, All}
@@ -37,17 +38,17 @@ use Rattle.arrowflow_line.specs.declared.plans.Task.{Task}
 use Rattle.arrowflow_line.specs.declared.plans.Totals.{Totals}
 use Rattle.arrowflow_line.specs.declared.plans.Task.TheVariants.{Schema, Check, Show, Explain, Copy, Drill}
 
--- no argument of the command is one of its subcommands too
+-- no argument of the command is also one of its subcommands'
 abbrev pub HasNoGlobals : Command → Type 0
 HasNoGlobals c = (out-Command c).has_globals ≡ false
 
--- a line without a subcommand is refused
+-- a line without a subcommand is rejected
 abbrev pub NeedsSubcommand : Command → Type 0
 NeedsSubcommand c = (out-Command c).subcommand_required ≡ true
 
 -- ---- what the program takes
 
--- a name that has to stand there
+-- a required name
 abbrev pub needed : Text → Rule
 needed id = record (new_rule id) { required = true }
 
@@ -55,7 +56,7 @@ needed id = record (new_rule id) { required = true }
 abbrev pub needed_some : Text → Rule
 needed_some id = record (needed id) { range = Some (record { start_inclusive = 1; end_inclusive = usize_max }) }
 
--- a name that may be left out
+-- an optional name
 abbrev pub maybe : Text → Rule
 maybe id = new_rule id
 
@@ -63,71 +64,69 @@ maybe id = new_rule id
 abbrev pub maybe_some : Text → Rule
 maybe_some id = record (maybe id) { range = Some (record { start_inclusive = 1; end_inclusive = usize_max }) }
 
--- an option with a letter for its name
+-- an option with a letter as its short name
 abbrev pub lettered : ℕ → Rule → Rule
 lettered letter rule = record rule { short = Some letter }
 
--- an option of this name
+-- an option with this name
 abbrev pub named : Text → Rule
 named name = record (new_rule name) { long = Some name }
 
--- an option of this name with a value that passes this parser, and what stands for it where it is not given
+-- an option with this name, with a value that passes this parser, and its default
 abbrev pub option : Text → ValueParser → Text → Rule
 option name parser default = record (named name) { parser = Some parser; defaults = default ∷ [] }
 
--- an option of this name without a value
+-- an option with this name and without a value
 abbrev pub flag : Text → Rule
 flag name = record (named name) { action = Some SetTrue }
 
--- an option of this name with a text, for which nothing stands where it is not given; help has one word for the text
+-- an option with this name and with a text, without a default; help shows one word for the text
 abbrev pub text : Text → Rule
 text name = record (named name) { value_names = 1 }
 
--- an option of this name with a number of 64 bits, for which nothing stands where it is not given; help has one word for
--- the number
+-- an option with this name and with a 64-bit number, without a default; help shows one word for the number
 abbrev pub number : Text → Rule
 number name = record (named name) { parser = Some (parsers.Unsigned 0 (2 ^ 64 - 1)); value_names = 1 }
 
--- an option of this name with a number up to this ceiling, and what stands for it where it is not given; help has one word
--- for the number
+-- an option with this name and with a number up to this ceiling, and its default; help shows one word for the number
 abbrev pub limit : Text → ℕ → Text → Rule
 limit name ceiling default = record (option name (parsers.Unsigned 0 ceiling) default) { value_names = 1 }
 
--- an option of this name with a size, and the text that counts if it is not given; help has one word for the size
+-- an option with this name and with a size, and its default as text; help shows one word for the size
 abbrev pub size : Text → Text → Rule
 size name default = record (option name parsers.String default) { value_names = 1 }
 
--- a command with the limits that it keeps to
+-- a command with the options for its limits
 abbrev pub with_limits : App → App
 with_limits app =
     with_rule (with_rule (with_rule app (size (codes "limit-metadata") (codes "67108864"))) (size (codes "limit-body") (codes "68719476736"))) (limit (codes "limit-rows") 2147483647 (codes "2147483647"))
 
--- a command with the bounds of a whole stream
+-- a command with the options for the bounds of a complete stream
 abbrev pub with_totals : App → App
 with_totals app = with_rule (with_rule (with_rule app (number (codes "limit-total-rows"))) (number (codes "limit-messages"))) (text (codes "limit-bytes"))
 
--- words among which a value has to be
+-- the words one of which a value has to be
 abbrev pub Choices : Type 0
 Choices = Bor (List (Bor Text))
 
--- the words that are such
+-- these words, as texts
 abbrev pub words_of : Choices → List Text
 words_of choices = map (λ w. w.now) choices.now
 
--- a command with the options of how a stream is written
+-- a command with the options for how a stream is written
 abbrev pub with_options : App → Choices → Choices → App
 with_options app updates aligns =
     with_rule (with_rule app (option (codes "updates") (parsers.Names updates) (codes "delta"))) (option (codes "align") (parsers.Names aligns) (codes "64"))
 
--- a command with the sets of types
+-- a command with the option for the sets of types
 abbrev pub with_types : App → Choices → App
 with_types app types = with_rule app (option (codes "types") (parsers.Names types) (codes "core"))
 
--- a command of this name that takes one file, or none
+-- a command with this name that takes one file, or none
 abbrev pub file_app : Text → App
 file_app name = with_rule (new_app name) (maybe (codes "FILE"))
 
--- a command of this name that takes any number of files, and may name each in its lines, or print JSON
+-- a command with this name that takes any number of files, and may name each in its lines, or print JSON
 abbrev pub files_app : Text → App
 files_app name = with_rule (with_rule (with_rule (new_app name) (maybe_some (codes "FILE"))) (lettered 72 (flag (codes "with-filename")))) (flag (codes "json"))
 
@@ -139,35 +138,36 @@ schema_app types = with_types (with_limits (files_app (codes "schema"))) types
 abbrev pub check_app : Choices → App
 check_app types = with_types (with_limits (with_totals (with_rule (files_app (codes "check")) (lettered 113 (flag (codes "quiet")))))) types
 
--- a command with the options of which columns are shown, and of which batch
+-- a command with the options for which columns are printed, and of which batch
 abbrev pub with_choice : App → App
 with_choice app = with_rule (with_rule app (lettered 99 (text (codes "columns")))) (number (codes "batch"))
 
--- a command with the options of which rows are shown
+-- a command with the options for which rows are printed
 abbrev pub with_window : App → App
 with_window app = with_rule (with_rule app (number (codes "skip"))) (lettered 110 (number (codes "rows")))
 
--- a command with the options of how rows are written
+-- a command with the options for how rows are written
 abbrev pub with_layout : App → App
 with_layout app = with_rule (with_rule (with_rule app (text (codes "null"))) (flag (codes "no-batch"))) (flag (codes "json"))
 
--- the command that shows rows
+-- the command that prints rows
 abbrev pub show_app : Choices → App
 show_app types = with_types (with_limits (with_totals (with_layout (with_window (with_choice (file_app (codes "show"))))))) types
 
--- the command that says why a stream is refused
+-- the command that reports why a stream is rejected
 abbrev pub explain_app : Choices → App
 explain_app types = with_types (with_limits (file_app (codes "explain"))) types
 
--- a command with the options of what becomes of its output
+-- a command with the options for how its output is treated
 abbrev pub with_care : App → App
 with_care app = with_rule (with_rule (with_rule (with_rule app (flag (codes "atomic"))) (flag (codes "in-place"))) (flag (codes "no-clobber"))) (flag (codes "fail-downstream"))
 
--- the command that copies, with the options of what becomes of its output and the bounds of a whole stream alone
+-- the command that copies, only with the options for how its output is treated and for the bounds of a complete
+-- stream
 abbrev pub careful_copy : App
 careful_copy = with_totals (with_care (with_rule (with_rule (new_app (codes "copy")) (needed (codes "IN"))) (maybe (codes "OUT"))))
 
--- the command that copies, without the sets of types
+-- the command that copies, without the option for the sets of types
 abbrev pub limited_copy : Choices → Choices → App
 limited_copy updates aligns = with_limits (with_options careful_copy updates aligns)
 
@@ -175,12 +175,12 @@ limited_copy updates aligns = with_limits (with_options careful_copy updates ali
 abbrev pub copy_app : Choices → Choices → Choices → App
 copy_app updates aligns types = with_types (limited_copy updates aligns) types
 
--- a command with the options of what is delivered of a connection
+-- a command with the options for what is delivered of a connection
 abbrev pub with_delivery : App → App
 with_delivery app =
     with_rule (with_rule app (size (codes "bytes") (codes "4611686018427387904"))) (size (codes "piece") (codes "65536"))
 
--- the command that drills, without the sets of types
+-- the command that drills, without the option for the sets of types
 abbrev pub limited_drill : Choices → Choices → App
 limited_drill updates aligns = with_limits (with_options (with_delivery (with_rule (new_app (codes "drill")) (needed_some (codes "FILE")))) updates aligns)
 
@@ -196,13 +196,13 @@ pub record Offers (command : Choices → Choices → App) (app : App) : Type 0 w
   pub aligns_are : words_of aligns ≡ codes "8" ∷ codes "64" ∷ []
   pub is : app ≡ command updates aligns
 
--- a command with the sets of types: the core, or all
+-- a command with the option for the sets of types: the core, or all
 pub record Takes (command : Choices → App) (app : App) : Type 0 where
   pub types : Choices
   pub types_are : words_of types ≡ codes "core" ∷ codes "all" ∷ []
   pub is : app ≡ command types
 
--- a command with such options and the sets of types
+-- a command with such options and the one for the sets of types
 pub record Sends (command : Choices → Choices → Choices → App) (app : App) : Type 0 where
   pub updates : Choices
   pub aligns : Choices
@@ -212,15 +212,15 @@ pub record Sends (command : Choices → Choices → Choices → App) (app : App)
   pub types_are : words_of types ≡ codes "core" ∷ codes "all" ∷ []
   pub is : app ≡ command updates aligns types
 
--- a command line with a command more
+-- a command line with one more command
 abbrev pub with_command : App → App → App
 with_command app command = with_subcommand app command.top
 
--- the commands that read alone
+-- the commands that only read
 abbrev pub reading_app : App → App → App → App → App
 reading_app schema check show explain = with_command (with_command (with_command (with_command (new_app (codes "arrowflow")) schema) check) show) explain
 
--- it is the command line with these commands
+-- the value is the command line with these commands
 pub record IsReading (app : App) : Type 0 where
   pub schema : App
   pub has_schema : Takes schema_app schema
@@ -232,11 +232,11 @@ pub record IsReading (app : App) : Type 0 where
   pub has_explain : Takes explain_app explain
   pub is : app ≡ reading_app schema check show explain
 
--- the program's command line: it has a version, and one of six commands has to be there
+-- the program's command line: it has a version, and requires one of six commands
 abbrev pub program_app : App → App → App → App
 program_app reading copying drilling = on_top (λ s. record s { subcommand_required = true; has_version = true }) (with_command (with_command reading copying) drilling)
 
--- it is the program's command line
+-- the value is the program's command line
 pub record IsProgram (app : App) : Type 0 where
   pub reading : App
   pub reads : IsReading reading
@@ -248,7 +248,7 @@ pub record IsProgram (app : App) : Type 0 where
 
 -- ---- what is asked for
 
--- the text that clap found for an argument, empty where it found none
+-- the text that clap found for an argument, empty if it found none
 abbrev pub name_in : Text → List Row → Text
 name_in id rows = unwrap_or (first_of id rows) []
 
@@ -256,11 +256,11 @@ name_in id rows = unwrap_or (first_of id rows) []
 abbrev pub name_if_any : Text → List Row → Option Text
 name_if_any id rows = first_of id rows
 
--- all of them
+-- all texts that clap found for an argument
 abbrev pub names_in : Text → List Row → List Text
 names_in id rows = unwrap_or (all_of id rows) []
 
--- the names in a text, with commas between them
+-- the names in a text, separated by commas
 abbrev pub names_by : Text → List Text
 names_by names = slice_split (λ b. b == 44) names
 
@@ -272,13 +272,13 @@ names_if_any id rows = option_map names_by (first_of id rows)
 abbrev pub number_text : Text → List Row → Option Text
 number_text id rows = one_of id rows
 
--- The number that a text says, in these bounds. (clap refuses a text that says no such number.)
+-- The number that a text represents, within these bounds. (clap rejects a text that represents no such number.)
 pub record IsNumberOf (least most : ℕ) (text : Option Text) (n : ℕ) : Type 0 where
   pub low : least ≤ n
   pub high : n ≤ most
   pub said : (t : Text) → text ≡ Some t → IsUnsignedIn least most t → n ≡ digits_value 10 (without_leading_plus t)
 
--- what is sent of dictionaries, by the word for it
+-- how updates of dictionaries are sent, by the word for it
 abbrev pub updates_by : Text → Updates
 updates_by word = if bytes_eq word (codes "resend") then Resend else Delta
 
@@ -286,16 +286,17 @@ updates_by word = if bytes_eq word (codes "resend") then Resend else Delta
 abbrev pub types_by : Text → TypeSet
 types_by word = if bytes_eq word (codes "all") then All else Core
 
--- the alignment, by the number of its bytes
+-- the alignment, by its number of bytes
 abbrev pub align_by : Text → Align
 align_by word = if bytes_eq word (codes "8") then Eight else SixtyFour
 
--- The number that a text says, of 64 bits; none where there is no text. (clap refuses a text that says no such number.)
+-- The 64-bit number that a text represents; none if there is no text. (clap rejects a text that represents no such
+-- number.)
 abbrev pub IsNumberIfAny : Option Text → Option ℕ → Type 0
 IsNumberIfAny None n = n ≡ None
 IsNumberIfAny (Some t) n = IsUnsignedIn 0 (2 ^ 64 - 1) t → n ≡ Some (digits_value 10 (without_leading_plus t))
 
--- whether an option without a value was given: clap finds `true` of it then, else `false`
+-- whether an option without a value was given: clap finds `true` for it if it was, else `false`
 abbrev pub is_given : Text → List Row → Bool
 is_given id rows = bytes_eq (name_in id rows) (codes "true")
 
@@ -309,7 +310,7 @@ pub record AreFiles (rows : List Row) (files : Files) : Type 0 where
   pub with_filename : files.with_filename ≡ is_given (codes "with-filename") rows
   pub json : files.json ≡ is_given (codes "json") rows
 
--- which rows are shown, and how
+-- which rows are printed, and how
 pub record AreShown (rows : List Row) (options : ShowOptions) : Type 0 where
   pub columns : option_map (λ names. map string_bytes names.items) options.columns ≡ names_if_any (codes "columns") rows
   pub batch : IsNumberIfAny (number_text (codes "batch") rows) options.batch
@@ -363,7 +364,7 @@ abbrev pub IsSizeIfAny : SizeOption → List Row → Option ℕ → Type 0
 IsSizeIfAny option rows None = name_if_any (size_name option) rows ≡ None
 IsSizeIfAny option rows (Some n) = (is_some (name_if_any (size_name option) rows) ≡ true) × IsSizeOf option rows n
 
--- the command of this name has a size for this option, which it may have to be given
+-- the command with this name has a size for this option: for `--limit-bytes` only if the option was given
 abbrev pub HasSize : Text → List Row → SizeOption → Type 0
 HasSize name rows LimitMetadata = ⊤
 HasSize name rows LimitBody = ⊤
@@ -371,28 +372,28 @@ HasSize name rows LimitBytes = is_some (name_if_any (codes "limit-bytes") rows) 
 HasSize name rows Bytes = name ≡ codes "drill"
 HasSize name rows Piece = name ≡ codes "drill"
 
--- What is wrong with a line in which clap finds no fault: an option has no size within its bounds; a copy has no output, or
--- one beside its input.
+-- What is wrong with a line in which clap finds no fault: an option has no size within its bounds; a copy has no
+-- output, or is in place and has an output too.
 abbrev pub IsMisuse : Text → List Row → Misuse → Type 0
 IsMisuse name rows (NoSize option) = HasSize name rows option × LacksSize (least_size option) (most_size option) (name_in (size_name option) rows)
 IsMisuse name rows NoOutput = (name ≡ codes "copy") × (name_if_any (codes "OUT") rows ≡ None) × (is_given (codes "in-place") rows ≡ false)
 IsMisuse name rows TwoOutputs = (name ≡ codes "copy") × (is_some (name_if_any (codes "OUT") rows) ≡ true) × (is_given (codes "in-place") rows ≡ true)
 
--- the fault of a command in whose words clap finds none
+-- the fault of a command in whose words clap finds no fault
 abbrev pub IsFaultIn : Text → List Row → ArgFault → Type 0
 IsFaultIn name rows (Line error) = ⊥
 IsFaultIn name rows (Misused misuse) = IsMisuse name rows misuse
 IsFaultIn name rows Memory = ⊤
 
--- it is said of this option that its value is no size within its bounds, and so it is
+-- the misuse is that this option's value is not a size within its bounds, and it is not
 abbrev pub LacksSizeOf : SizeOption → List Row → Misuse → Type 0
 LacksSizeOf option rows misuse = (misuse ≡ NoSize option) × LacksSize (least_size option) (most_size option) (name_in (size_name option) rows)
 
--- the same of an option that was given
+-- the same for an option that was given
 abbrev pub LacksGiven : SizeOption → List Row → Misuse → Type 0
 LacksGiven option rows misuse = (is_some (name_if_any (size_name option) rows) ≡ true) × LacksSizeOf option rows misuse
 
--- the same of a limit
+-- the same for a limit
 abbrev pub LacksLimit : List Row → Misuse → Type 0
 LacksLimit rows misuse = LacksSizeOf LimitMetadata rows misuse ⊎ LacksSizeOf LimitBody rows misuse
 
@@ -403,13 +404,13 @@ pub record AreLimitsIn (rows : List Row) (limits : LimitNumbers) : Type 0 where
   pub most_rows : IsNumberOf 0 2147483647 (number_text (codes "limit-rows") rows) limits.max_rows
   pub types : limits.types ≡ types_by (name_in (codes "types") rows)
 
--- the bounds of a whole stream that were asked for
+-- the bounds of a complete stream that were asked for
 pub record AreTotalsIn (rows : List Row) (totals : Totals) : Type 0 where
   pub all_rows : IsNumberIfAny (number_text (codes "limit-total-rows") rows) totals.rows
   pub messages : IsNumberIfAny (number_text (codes "limit-messages") rows) totals.messages
   pub bytes : IsSizeIfAny LimitBytes rows totals.bytes
 
--- the task of the command of this name, with what clap found behind it
+-- the task of the command with this name, from what clap found after the name
 abbrev pub IsTask : Text → List Row → Task → Type 0
 IsTask name rows (Schema files) = (name ≡ codes "schema") × AreFiles rows files
 IsTask name rows (Check files quiet) = (name ≡ codes "check") × AreFiles rows files × (quiet ≡ is_given (codes "quiet") rows)
@@ -422,25 +423,25 @@ IsTask name rows (Drill files options bytes piece) =
     (name ≡ codes "drill") × (map string_bytes files.items ≡ names_in (codes "FILE") rows) × (options ≡ options_in rows)
     × IsSizeOf Bytes rows bytes × IsSizeOf Piece rows piece
 
--- the plan of that task, within the limits and the bounds that were asked for
+-- the plan of that task, with the limits and the bounds that were asked for
 abbrev pub IsPlan : Text → List Row → Plan → Type 0
 IsPlan name rows plan = IsTask name rows plan.task × AreLimitsIn rows plan.limits × AreTotalsIn rows plan.totals
 
--- the plan of the command that clap finds in the words, with what it finds behind its name
+-- the plan of the command that clap finds in the words, from what it finds after the command's name
 pub record IsAskedFor (app : App) (words : List Text) (plan : Plan) : Type 0 where
   pub name : Text
   pub rows : List Row
   pub found : subcommand_of app words ≡ Some (name, rows)
   pub is : IsPlan name rows plan
 
--- this is wrong with the command that clap finds in the words
+-- the misuse of the command that clap finds in the words
 pub record IsMisusedBy (app : App) (words : List Text) (misuse : Misuse) : Type 0 where
   pub name : Text
   pub rows : List Row
   pub found : subcommand_of app words ≡ Some (name, rows)
   pub is : IsMisuse name rows misuse
 
--- What is answered of the words of a line: a plan if clap has no fault for them and nothing else is wrong with them; else
+-- The result for the words of a line: a plan if clap has no fault for them and nothing else is wrong with them; else
 -- an error of a kind that clap has, or what else is wrong. An allocation may fail at any time.
 abbrev pub AnswersLine : List Text → Result Plan ArgFault → Type 0
 AnswersLine words (Ok plan) = (app : App) × IsProgram app × IsAskedFor app words plan × (fault_of app words ≡ [])

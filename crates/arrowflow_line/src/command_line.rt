@@ -23,7 +23,7 @@ use clap::builder::ValueParser;
 use clap::{Arg, ArgAction, Command};
 use std::alloc::{AllocError, Global};
 
-/// The words for what is sent of dictionaries that grew.
+/// The words for how updates of dictionaries are sent.
 static UPDATES: [&str; 2] = ["delta", "resend"];
 
 /// The alignments, in bytes.
@@ -32,7 +32,7 @@ static ALIGNS: [&str; 2] = ["8", "64"];
 /// The words for the sets of types.
 static TYPES: [&str; 2] = ["core", "all"];
 
-/// A name that has to stand in the line.
+/// A required name.
 fn needed<'a>(alloc: Global, id: &'a str, help: &'a str) -> Arg<'a>
     ensures rule { rule_of result ≡ needed id.now }
     ensures local { result.global ≡ false }
@@ -40,7 +40,7 @@ fn needed<'a>(alloc: Global, id: &'a str, help: &'a str) -> Arg<'a>
     Arg::new(alloc, id).required(true).help(help)
 }
 
-/// A name that may be left out.
+/// An optional name.
 fn maybe<'a>(alloc: Global, id: &'a str, help: &'a str) -> Arg<'a>
     ensures rule { rule_of result ≡ maybe id.now }
     ensures local { result.global ≡ false }
@@ -56,7 +56,7 @@ fn maybe_some<'a>(alloc: Global, id: &'a str, help: &'a str) -> Arg<'a>
     maybe(alloc, id, help).num_args(1..)
 }
 
-/// Names of which one at least has to stand in the line.
+/// Names, at least one of which is required.
 fn needed_some<'a>(alloc: Global, id: &'a str, help: &'a str) -> Arg<'a>
     ensures rule { rule_of result ≡ needed_some id.now }
     ensures local { result.global ≡ false }
@@ -64,7 +64,7 @@ fn needed_some<'a>(alloc: Global, id: &'a str, help: &'a str) -> Arg<'a>
     needed(alloc, id, help).num_args(1..)
 }
 
-/// An option of this name.
+/// An option with this name.
 fn named<'a>(alloc: Global, name: &'a str, help: &'a str) -> Arg<'a>
     ensures rule { rule_of result ≡ named name.now }
     ensures local { result.global ≡ false }
@@ -72,15 +72,15 @@ fn named<'a>(alloc: Global, name: &'a str, help: &'a str) -> Arg<'a>
     Arg::new(alloc, name).long(name).help(help)
 }
 
-/// The value of an option: what reads it, and what stands for it where it is not given.
+/// The value of an option: what parses it, and its default.
 #[derive(Drop)]
-struct Value<'a> {
+struct OptionValue<'a> {
     parser: ValueParser<'a>,
     default: &'a str,
 }
 
 /// An option with a value.
-fn option<'a>(alloc: Global, name: &'a str, value: Value<'a>, help: &'a str) -> Arg<'a>
+fn option<'a>(alloc: Global, name: &'a str, value: OptionValue<'a>, help: &'a str) -> Arg<'a>
     ensures rule { rule_of result ≡ option name.now value.entry.parser value.entry.default.now }
     ensures local { result.global ≡ false }
 {
@@ -97,7 +97,7 @@ fn flag<'a>(alloc: Global, name: &'a str, help: &'a str) -> Arg<'a>
     named(alloc, name, help).action(ArgAction::SetTrue)
 }
 
-/// The option with a letter for its name.
+/// The option with a letter as its short name.
 fn lettered<'a>(option: Arg<'a>, letter: char) -> Arg<'a>
     ensures rule { rule_of result ≡ lettered letter (rule_of option.entry) }
     ensures local { result.global ≡ option.entry.global }
@@ -105,7 +105,7 @@ fn lettered<'a>(option: Arg<'a>, letter: char) -> Arg<'a>
     option.short(letter)
 }
 
-/// An option with a text, for which nothing stands where it is not given.
+/// An option with a text, without a default.
 fn text<'a>(alloc: Global, name: &'a str, word: &'a str, help: &'a str) -> Arg<'a>
     ensures rule { rule_of result ≡ text name.now }
     ensures local { result.global ≡ false }
@@ -113,7 +113,7 @@ fn text<'a>(alloc: Global, name: &'a str, word: &'a str, help: &'a str) -> Arg<'
     named(alloc, name, help).value_name(word)
 }
 
-/// An option with a number, for which nothing stands where it is not given.
+/// An option with a number, without a default.
 fn number<'a>(alloc: Global, name: &'a str, unit: &'a str, help: &'a str) -> Arg<'a>
     ensures rule { rule_of result ≡ number name.now }
     ensures local { result.global ≡ false }
@@ -123,8 +123,7 @@ fn number<'a>(alloc: Global, name: &'a str, unit: &'a str, help: &'a str) -> Arg
         .value_name(unit)
 }
 
-/// A limit of this name, with its ceiling and what stands for it where it is not given, and the
-/// words of its help.
+/// A limit with this name, with its ceiling, its default, and the words of its help.
 fn limit<'a>(
     alloc: Global,
     name: &'a str,
@@ -136,19 +135,19 @@ fn limit<'a>(
 {
     let (ceiling, default) = value;
     let parser = ValueParser::unsigned(0, ceiling);
-    option(alloc, name, Value { parser, default }, words.1).value_name(words.0)
+    option(alloc, name, OptionValue { parser, default }, words.1).value_name(words.0)
 }
 
-/// An option of this name with a size, and the text that counts if it is not given.
+/// An option with this name and with a size, and its default as text.
 fn size<'a>(alloc: Global, name: &'a str, default: &'a str, help: &'a str) -> Arg<'a>
     ensures rule { rule_of result ≡ size name.now default.now }
     ensures local { result.global ≡ false }
 {
     let parser = ValueParser::String;
-    option(alloc, name, Value { parser, default }, help).value_name("N")
+    option(alloc, name, OptionValue { parser, default }, help).value_name("N")
 }
 
-/// The command with the limits that it keeps to.
+/// The command with the options for its limits.
 fn with_limits<'a>(alloc: Global, command: Command<'a>) -> Result<Command<'a>, AllocError>
     requires { HasNoGlobals command }
     ensures globals { IfOk result HasNoGlobals }
@@ -168,7 +167,7 @@ fn with_limits<'a>(alloc: Global, command: Command<'a>) -> Result<Command<'a>, A
     Ok(whole)
 }
 
-/// The command with the bounds of a whole stream.
+/// The command with the options for the bounds of a complete stream.
 fn with_totals<'a>(alloc: Global, command: Command<'a>) -> Result<Command<'a>, AllocError>
     requires { HasNoGlobals command }
     ensures globals { IfOk result HasNoGlobals }
@@ -182,7 +181,7 @@ fn with_totals<'a>(alloc: Global, command: Command<'a>) -> Result<Command<'a>, A
     Ok(whole)
 }
 
-/// The command with the sets of types.
+/// The command with the option for the sets of types.
 fn with_types<'a>(alloc: Global, command: Command<'a>) -> Result<Command<'a>, AllocError>
     requires { HasNoGlobals command }
     ensures globals { IfOk result HasNoGlobals }
@@ -191,7 +190,7 @@ fn with_types<'a>(alloc: Global, command: Command<'a>) -> Result<Command<'a>, Al
     let types = option(
         alloc,
         "types",
-        Value {
+        OptionValue {
             parser: ValueParser::from(TYPES.as_slice()),
             default: "core",
         },
@@ -200,7 +199,7 @@ fn with_types<'a>(alloc: Global, command: Command<'a>) -> Result<Command<'a>, Al
     command.arg(types)
 }
 
-/// A command of one file, with what its help says.
+/// A command that takes one file, with the text of its help.
 fn file_command<'a>(alloc: Global, name: &'a str, words: Help) -> Result<Command<'a>, AllocError>
     ensures globals { IfOk result HasNoGlobals }
     ensures app { IfOk result (λ c. app_of c ≡ file_app name.now) }
@@ -212,7 +211,7 @@ fn file_command<'a>(alloc: Global, name: &'a str, words: Help) -> Result<Command
         .arg(file)
 }
 
-/// The same of a command of any number of files.
+/// The same for a command that takes any number of files.
 fn files_command<'a>(alloc: Global, name: &'a str, words: Help) -> Result<Command<'a>, AllocError>
     ensures globals { IfOk result HasNoGlobals }
     ensures app { IfOk result (λ c. app_of c ≡ files_app name.now) }
@@ -249,7 +248,7 @@ fn check_command<'a>(alloc: Global) -> Result<Command<'a>, AllocError>
     with_types(alloc, with_limits(alloc, with_totals(alloc, command)?)?)
 }
 
-/// The command with the options of which columns are shown, and of which batch.
+/// The command with the options for which columns are printed, and of which batch.
 fn with_choice<'a>(alloc: Global, command: Command<'a>) -> Result<Command<'a>, AllocError>
     requires { HasNoGlobals command }
     ensures globals { IfOk result HasNoGlobals }
@@ -261,7 +260,7 @@ fn with_choice<'a>(alloc: Global, command: Command<'a>) -> Result<Command<'a>, A
     Ok(whole)
 }
 
-/// The command with the options of which rows are shown.
+/// The command with the options for which rows are printed.
 fn with_window<'a>(alloc: Global, command: Command<'a>) -> Result<Command<'a>, AllocError>
     requires { HasNoGlobals command }
     ensures globals { IfOk result HasNoGlobals }
@@ -273,7 +272,7 @@ fn with_window<'a>(alloc: Global, command: Command<'a>) -> Result<Command<'a>, A
     Ok(whole)
 }
 
-/// The command with the options of how rows are written.
+/// The command with the options for how rows are written.
 fn with_layout<'a>(alloc: Global, command: Command<'a>) -> Result<Command<'a>, AllocError>
     requires { HasNoGlobals command }
     ensures globals { IfOk result HasNoGlobals }
@@ -285,7 +284,7 @@ fn with_layout<'a>(alloc: Global, command: Command<'a>) -> Result<Command<'a>, A
     Ok(whole)
 }
 
-/// The command that shows rows.
+/// The command that prints rows.
 fn show_command<'a>(alloc: Global) -> Result<Command<'a>, AllocError>
     ensures globals { IfOk result HasNoGlobals }
     ensures app { IfOk result (λ c. Takes show_app (app_of c)) }
@@ -295,7 +294,7 @@ fn show_command<'a>(alloc: Global) -> Result<Command<'a>, AllocError>
     with_types(alloc, with_limits(alloc, with_totals(alloc, command)?)?)
 }
 
-/// The command that says why a stream is refused.
+/// The command that reports why a stream is rejected.
 fn explain_command<'a>(alloc: Global) -> Result<Command<'a>, AllocError>
     ensures globals { IfOk result HasNoGlobals }
     ensures app { IfOk result (λ c. Takes explain_app (app_of c)) }
@@ -304,7 +303,7 @@ fn explain_command<'a>(alloc: Global) -> Result<Command<'a>, AllocError>
     with_types(alloc, with_limits(alloc, command)?)
 }
 
-/// The command with the options of how a stream is written.
+/// The command with the options for how a stream is written.
 fn with_options<'a>(alloc: Global, command: Command<'a>) -> Result<Command<'a>, AllocError>
     requires { HasNoGlobals command }
     ensures globals { IfOk result HasNoGlobals }
@@ -313,7 +312,7 @@ fn with_options<'a>(alloc: Global, command: Command<'a>) -> Result<Command<'a>, 
     let updates = option(
         alloc,
         "updates",
-        Value {
+        OptionValue {
             parser: ValueParser::from(UPDATES.as_slice()),
             default: "delta",
         },
@@ -322,7 +321,7 @@ fn with_options<'a>(alloc: Global, command: Command<'a>) -> Result<Command<'a>, 
     let align = option(
         alloc,
         "align",
-        Value {
+        OptionValue {
             parser: ValueParser::from(ALIGNS.as_slice()),
             default: "64",
         },
@@ -341,7 +340,7 @@ fn copy_command<'a>(alloc: Global) -> Result<Command<'a>, AllocError>
     Ok(whole)
 }
 
-/// The same without the sets of types.
+/// The same without the option for the sets of types.
 fn limited_copy<'a>(alloc: Global) -> Result<Command<'a>, AllocError>
     ensures globals { IfOk result HasNoGlobals }
     ensures app { IfOk result (λ c. Offers limited_copy (app_of c)) }
@@ -349,7 +348,7 @@ fn limited_copy<'a>(alloc: Global) -> Result<Command<'a>, AllocError>
     with_limits(alloc, with_options(alloc, careful_copy(alloc)?)?)
 }
 
-/// The same without the limits of messages, and without the options of how a stream is written.
+/// The same without the limits of messages, and without the options for how a stream is written.
 fn careful_copy<'a>(alloc: Global) -> Result<Command<'a>, AllocError>
     ensures globals { IfOk result HasNoGlobals }
     ensures app { IfOk result (λ c. app_of c ≡ careful_copy) }
@@ -364,7 +363,7 @@ fn careful_copy<'a>(alloc: Global) -> Result<Command<'a>, AllocError>
     with_totals(alloc, with_care(alloc, command)?)
 }
 
-/// The command with the options of what becomes of its output.
+/// The command with the options for how its output is treated.
 fn with_care<'a>(alloc: Global, command: Command<'a>) -> Result<Command<'a>, AllocError>
     requires { HasNoGlobals command }
     ensures globals { IfOk result HasNoGlobals }
@@ -381,7 +380,7 @@ fn with_care<'a>(alloc: Global, command: Command<'a>) -> Result<Command<'a>, All
     Ok(whole)
 }
 
-/// The command with the options of what is delivered of a connection.
+/// The command with the options for what is delivered of a connection.
 fn with_delivery<'a>(alloc: Global, command: Command<'a>) -> Result<Command<'a>, AllocError>
     requires { HasNoGlobals command }
     ensures globals { IfOk result HasNoGlobals }
@@ -404,7 +403,7 @@ fn drill_command<'a>(alloc: Global) -> Result<Command<'a>, AllocError>
     Ok(whole)
 }
 
-/// The same without the sets of types.
+/// The same without the option for the sets of types.
 fn limited_drill<'a>(alloc: Global) -> Result<Command<'a>, AllocError>
     ensures globals { IfOk result HasNoGlobals }
     ensures app { IfOk result (λ c. Offers limited_drill (app_of c)) }
@@ -417,7 +416,7 @@ fn limited_drill<'a>(alloc: Global) -> Result<Command<'a>, AllocError>
     with_limits(alloc, with_options(alloc, with_delivery(alloc, command)?)?)
 }
 
-/// The program's command line with the commands that read alone.
+/// The program's command line with the commands that only read.
 fn reading_command<'a>(alloc: Global) -> Result<Command<'a>, AllocError>
     ensures globals { IfOk result HasNoGlobals }
     ensures app { IfOk result (λ c. IsReading (app_of c)) }
@@ -433,7 +432,7 @@ fn reading_command<'a>(alloc: Global) -> Result<Command<'a>, AllocError>
     Ok(whole)
 }
 
-/// The whole command line.
+/// The complete command line.
 fn command<'a>(alloc: Global) -> Result<Command<'a>, AllocError>
     ensures globals { IfOk result HasNoGlobals }
     ensures needs { IfOk result NeedsSubcommand }
@@ -448,7 +447,7 @@ fn command<'a>(alloc: Global) -> Result<Command<'a>, AllocError>
 /// What the words of a command line ask for. The first word is the program's own name.
 ///
 /// `ArgFault::Line` if the words are not a command with its names and options, or ask for help;
-/// `ArgFault::Misused` if an option has no size within its bounds, or a copy no output or two;
+/// `ArgFault::Misused` if an option has no size within its bounds, or a copy has no output or two;
 /// `ArgFault::Memory` if an allocation failed.
 pub fn plan(alloc: Global, words: &[&str]) -> Result<Plan, ArgFault>
     ensures { AnswersLine (map (λ w. w.now) words.now) result }

@@ -7,19 +7,21 @@ use arrow_types::Limits;
 use std::alloc::{AllocError, AllocFailed};
 use std::fmt;
 
-/// The most bytes that a stream may be allowed, or a drill be asked to deliver: no stream has more.
+/// The greatest number of bytes that a stream may be allowed, or that a drill may be asked to
+/// deliver: no stream has more.
 const MOST_BYTES: u64 = 4_611_686_018_427_387_904;
 
-/// The most bytes of a piece.
+/// The greatest number of bytes of a piece.
 const MOST_PIECE: u64 = 1_073_741_824;
 
 /// Why a command line has no plan.
 #[derive(Debug, Drop)]
 pub enum ArgFault {
-    /// The words are no command, or ask for help. The error prints itself, help to standard output
-    /// and all else to standard error, and has the exit status: 0 for help, else 2.
+    /// The words are not a command, or ask for help. The error prints itself, help to standard
+    /// output and everything else to standard error, and has the exit status: 0 for help, else 2.
     Line(clap::Error),
-    /// Something else is wrong with the words. It belongs on standard error; the exit status is 2.
+    /// Something else is wrong with the words. It is to be printed on standard error; the exit
+    /// status is 2.
     Misused(Misuse),
     /// An allocation failed.
     Memory,
@@ -28,11 +30,11 @@ pub enum ArgFault {
 /// What is wrong with words that are a command with its names and options. It prints itself.
 #[derive(Clone, Copy, Debug, PartialEq, Eq)]
 pub enum Misuse {
-    /// The value of this option is no size within its bounds.
+    /// The value of this option is not a size within its bounds.
     NoSize(SizeOption),
-    /// A copy has no output, and is not to be in place either.
+    /// A copy has no output, and is not in place either.
     NoOutput,
-    /// A copy is to be in place, and has an output too.
+    /// A copy is in place, and has an output too.
     TwoOutputs,
 }
 
@@ -65,7 +67,7 @@ impl SizeOption {
         }
     }
 
-    /// The least size that it takes.
+    /// The least size that it accepts.
     pub fn least(self) -> u64
         ensures { result ≡ least_size self }
     {
@@ -76,7 +78,7 @@ impl SizeOption {
         }
     }
 
-    /// The most.
+    /// The greatest size that it accepts.
     pub fn most(self) -> u64
         ensures { result ≡ most_size self }
     {

@@ -1,16 +1,16 @@
-//! What help says, in lines of at most 80 columns.
+//! The text of help, in lines of at most 80 columns.
 
 /// The version of the program, as `--version` prints it.
 pub(crate) const VERSION: &str = "0.1.0";
 
-/// What a command says of itself before its arguments, and after its options.
+/// The text of a command's help before its arguments, and after its options.
 #[derive(Clone, Copy)]
 pub(crate) struct Help {
     pub(crate) about: &'static str,
     pub(crate) after: &'static str,
 }
 
-/// The help of the whole program.
+/// The help of the program itself.
 pub(crate) const PROGRAM: Help = Help {
     about: "Reads, checks and writes Apache Arrow IPC streams",
     after: "Example:\n  arrowflow show examples/growing_dictionary.arrows",
@@ -94,122 +94,122 @@ Example:
   arrowflow drill examples/growing_dictionary.arrows --bytes 975 --piece 1",
 };
 
-/// What is said of a file.
+/// The help for a file.
 pub(crate) const FILE: &str = "\
 A file with an Arrow IPC stream; - is standard input, and so is no
 FILE if standard input is no terminal";
 
-/// What is said of files.
+/// The help for files.
 pub(crate) const FILES: &str = "\
 Files with an Arrow IPC stream each; - is standard input, and so
 is no FILE if standard input is no terminal";
 
-/// What is said of the files of `drill`.
+/// The help for the files of `drill`.
 pub(crate) const CONNECTIONS: &str = "Files with an Arrow IPC stream each; - is standard input";
 
-/// What is said of the file that `copy` reads.
+/// The help for the file that `copy` reads.
 pub(crate) const INPUT: &str = "A file with an Arrow IPC stream; - is standard input";
 
-/// What is said of the file that it writes.
+/// The help for the file that `copy` writes.
 pub(crate) const OUTPUT: &str = "Where the new stream goes; - is standard output";
 
-/// What is said of `--with-filename`.
+/// The help for `--with-filename`.
 pub(crate) const WITH_FILENAME: &str = "\
 Begin each line with the name of its file, even if
 there is one file alone";
 
-/// What is said of `--quiet`.
+/// The help for `--quiet`.
 pub(crate) const QUIET: &str = "\
 Print no lines but that of a fault: the exit
 status says whether a stream is sound";
 
-/// What is said of `--columns`.
+/// The help for `--columns`.
 pub(crate) const COLUMNS: &str = "\
 Print only the columns of these names, with commas
 between them, in this order";
 
-/// What is said of `--batch`.
+/// The help for `--batch`.
 pub(crate) const BATCH: &str = "\
 Print only the rows of batch N, counted from 0";
 
-/// What is said of `--skip`.
+/// The help for `--skip`.
 pub(crate) const SKIP: &str = "Leave out the first N rows";
 
-/// What is said of `--rows`.
+/// The help for `--rows`.
 pub(crate) const ROWS: &str = "Print only the first N rows";
 
-/// What is said of `--null`.
+/// The help for `--null`.
 pub(crate) const NULL: &str = "\
 Print TEXT for a null, which is else empty";
 
-/// What is said of `--no-batch`.
+/// The help for `--no-batch`.
 pub(crate) const NO_BATCH: &str = "\
 Leave out the first field, the number of the batch";
 
-/// What is said of `--json` by `show`.
+/// The help for `--json` of `show`.
 pub(crate) const JSON: &str = "Print each row as a JSON object on a line";
 
-/// What is said of `--json` by `schema` and `check`.
+/// The help for `--json` of `schema` and `check`.
 pub(crate) const LINES_OF_JSON: &str = "Print each line as a JSON object";
 
-/// What is said of `--updates`.
+/// The help for `--updates`.
 pub(crate) const UPDATES: &str = "\
-What is sent of a dictionary that grew: the new
+RefusedItem is sent of a dictionary that grew: the new
 values, or all\n";
 
-/// What is said of `--align`.
+/// The help for `--align`.
 pub(crate) const ALIGN: &str = "\
 To how many bytes each buffer is padded\n";
 
-/// What is said of `--atomic`.
+/// The help for `--atomic`.
 pub(crate) const ATOMIC: &str = "\
 Leave OUT as it was until IN was read to its end
 and is sound; OUT may then be IN";
 
-/// What is said of `--in-place`.
+/// The help for `--in-place`.
 pub(crate) const IN_PLACE: &str = "\
 Write the copy into IN itself, as --atomic does";
 
-/// What is said of `--no-clobber`.
+/// The help for `--no-clobber`.
 pub(crate) const NO_CLOBBER: &str = "Do not write a file that exists";
 
-/// What is said of `--fail-downstream`.
+/// The help for `--fail-downstream`.
 pub(crate) const FAIL_DOWNSTREAM: &str = "\
 End the copy of a refused stream inside a message,
 so that whoever reads OUT fails too";
 
-/// What is said of `--bytes`.
+/// The help for `--bytes`.
 pub(crate) const BYTES: &str = "\
 How many bytes of each connection are delivered\n";
 
-/// What is said of `--piece`.
+/// The help for `--piece`.
 pub(crate) const PIECE: &str = "How many bytes are delivered at once\n";
 
-/// What is said of `--limit-total-rows`.
+/// The help for `--limit-total-rows`.
 pub(crate) const LIMIT_TOTAL_ROWS: &str = "The most rows of a whole stream";
 
-/// What is said of `--limit-messages`.
+/// The help for `--limit-messages`.
 pub(crate) const LIMIT_MESSAGES: &str = "The most messages of a whole stream";
 
-/// What is said of `--limit-bytes`.
+/// The help for `--limit-bytes`.
 pub(crate) const LIMIT_BYTES: &str = "The most bytes of a whole stream, as 64K or 1MiB";
 
-/// What is said of `--limit-metadata`.
+/// The help for `--limit-metadata`.
 pub(crate) const LIMIT_METADATA: &str = "\
 The most bytes of the metadata of one message, as
 64K, 1MiB or 1GB\n";
 
-/// What is said of `--limit-body`.
+/// The help for `--limit-body`.
 pub(crate) const LIMIT_BODY: &str = "\
 The most bytes of the body of one message, as 64K,
 1MiB or 1GB\n";
 
-/// What is said of `--limit-rows`.
+/// The help for `--limit-rows`.
 pub(crate) const LIMIT_ROWS: &str = "\
 The most rows of a batch, slots of a column, and
 values of a dictionary";
 
-/// What is said of `--types`.
+/// The help for `--types`.
 pub(crate) const TYPES: &str = "\
 The types of the streams that are read: the core,
 or all, with floating point, decimals, intervals,

@@ -1,14 +1,15 @@
 //! The command line of the program `arrowflow`, and what it asks for.
 //!
-//! [`plan`] takes the words of a line and gives a [`Plan`]: the [`Task`], which is the command with
-//! the names that it was given and its options, the limits of messages, and the bounds of a whole
-//! stream; or an [`ArgFault`], which prints itself. Sizes may have units, as `64K` or `1GiB`. What the
-//! words of a line ask for is said by `AnswersLine` (`specs/CommandLine.antt`), in the words of clap.
+//! [`plan`] takes the words of a line and returns a [`Plan`]: the [`Task`], which is the command
+//! with the names that it was given and its options, the limits of messages, and the bounds of a
+//! complete stream; or an [`ArgFault`], which prints itself. Sizes may have units, such as `64K` or
+//! `1GiB`. `AnswersLine` (`specs/CommandLine.antt`) defines what the words of a line ask for, in
+//! clap's terms.
 //!
 //! | Notion | Definition |
 //! |---|---|
 //! | what the words of a line ask for | `specs/CommandLine.antt`: `AnswersLine`, `IsAskedFor`, `program_app` |
-//! | what is wrong with words that clap takes | `specs/CommandLine.antt`: `IsMisuse` |
+//! | what is wrong with words that clap accepts | `specs/CommandLine.antt`: `IsMisuse` |
 //! | sizes with units | `specs/Sizes.antt`: `IsSize`, `units` |
 #![tactic(auto)]
 

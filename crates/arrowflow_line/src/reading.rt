@@ -1,4 +1,4 @@
-//! What clap found behind a command's name, as the parts of a plan.
+//! What clap found after a command's name, as the parts of a plan.
 
 ghost use Rattle.std.specs.Prelude.{◌≡◌, ◌≤◌, IfErr, IfOk, MatchOption, MatchResult, codes, map};
 ghost use Rattle.std.specs.Prelude.{option_map, string_bytes};
@@ -22,7 +22,7 @@ use arrow_types::{Limits, TypeSet};
 use clap::ArgMatches;
 use std::alloc::{AllocError, Global};
 
-/// The text that an argument was given, empty where it was given none.
+/// The text that an argument was given, empty if it was given none.
 #[tactic(auto, using(crate::proofs::Asked::name_found))]
 fn text_of<'a>(matches: &ArgMatches<'a>, argument: &str) -> &'a str
     ensures { result.now ≡ name_in argument.now (rows_of (found_of matches.now)) }
@@ -38,7 +38,7 @@ fn name_of(alloc: Global, matches: &ArgMatches<'_>, argument: &str) -> Result<St
     String::from_str(alloc, text_of(matches, argument))
 }
 
-/// The name that an argument was given, None if it was given none.
+/// The name that an argument was given, `None` if it was given none.
 fn name_if_any(
     alloc: Global,
     matches: &ArgMatches<'_>,
@@ -73,8 +73,8 @@ fn names_of(
     Ok(names)
 }
 
-/// The names in the text that an argument was given, with commas between them, None where it was
-/// given none.
+/// The names in the text that an argument was given, separated by commas, `None` if it was given
+/// none.
 fn names_if_any(
     alloc: Global,
     matches: &ArgMatches<'_>,
@@ -95,15 +95,15 @@ fn parts_of(alloc: Global, text: &str) -> Result<Vec<String>, AllocError>
 {
     let mut parts = Vec::new(alloc);
     let mut rest = text;
-    while let Some((part, behind)) = rest.split_once(',') {
+    while let Some((part, after)) = rest.split_once(',') {
         parts.push(String::from_str(alloc, part)?)?;
-        rest = behind;
+        rest = after;
     }
     parts.push(String::from_str(alloc, rest)?)?;
     Ok(parts)
 }
 
-/// The number that an argument was given, in these bounds: clap takes no other.
+/// The number that an argument was given, within these bounds: clap accepts no other.
 fn number_of(matches: &ArgMatches<'_>, argument: &str, least: u64, most: u64) -> u64
     requires { least ≤ most }
     ensures { IsNumberOf least most (number_text argument.now (rows_of (found_of matches.now)))
@@ -115,7 +115,7 @@ fn number_of(matches: &ArgMatches<'_>, argument: &str, least: u64, most: u64) ->
     }
 }
 
-/// The number that an argument was given, None where it was given none.
+/// The number that an argument was given, `None` if it was given none.
 fn number_if_any(matches: &ArgMatches<'_>, argument: &str) -> Option<u64>
     ensures { IsNumberIfAny (number_text argument.now (rows_of (found_of matches.now))) result }
 {
@@ -141,7 +141,7 @@ fn size_of(matches: &ArgMatches<'_>, option: SizeOption) -> Result<u64, Misuse>
     }
 }
 
-/// The size that an option was given, None if it was given none.
+/// The size that an option was given, `None` if it was given none.
 fn size_if_any(matches: &ArgMatches<'_>, option: SizeOption) -> Result<Option<u64>, Misuse>
     ensures { MatchResult result (IsSizeIfAny option (rows_of (found_of matches.now)))
         (LacksGiven option (rows_of (found_of matches.now))) }
@@ -155,7 +155,7 @@ fn size_if_any(matches: &ArgMatches<'_>, option: SizeOption) -> Result<Option<u6
     }
 }
 
-/// The bounds that a command was given for a whole stream.
+/// The bounds of a complete stream that a command was given.
 fn totals_of(matches: &ArgMatches<'_>) -> Result<Totals, Misuse>
     ensures { MatchResult result (AreTotalsIn (rows_of (found_of matches.now)))
         (LacksGiven LimitBytes (rows_of (found_of matches.now))) }
@@ -186,29 +186,29 @@ fn types_by(word: &str) -> TypeSet
 {
     match word {
         "all" => TypeSet::All,
-        // `core`: clap takes no other word
+        // `core`: clap accepts no other word
         _ => TypeSet::Core,
     }
 }
 
-/// What is sent of dictionaries, by the word for it.
+/// How updates of dictionaries are sent, by the word for it.
 fn updates_by(word: &str) -> Updates
     ensures { result ≡ updates_by word.now }
 {
     match word {
         "resend" => Updates::Resend,
-        // `delta`: clap takes no other word
+        // `delta`: clap accepts no other word
         _ => Updates::Delta,
     }
 }
 
-/// The alignment, by the number of its bytes.
+/// The alignment, by its number of bytes.
 fn align_by(word: &str) -> Align
     ensures { result ≡ align_by word.now }
 {
     match word {
         "8" => Align::Eight,
-        // `64`: clap takes no other word
+        // `64`: clap accepts no other word
         _ => Align::SixtyFour,
     }
 }
@@ -223,7 +223,7 @@ fn options_of(matches: &ArgMatches<'_>) -> Options
     }
 }
 
-/// The plan of the command of this name, with what was found behind the name; None where there is
+/// The plan of the command with this name, from what was found after the name; `None` if there is
 /// no such command.
 pub(crate) fn plan_of(
     alloc: Global,
@@ -244,7 +244,7 @@ pub(crate) fn plan_of(
     }
 }
 
-/// What the command of this name is to do; None where there is no such command.
+/// The task of the command with this name; `None` if there is no such command.
 fn task_of(alloc: Global, command: &str, given: &ArgMatches<'_>) -> Result<Option<Task>, ArgFault>
     ensures task { IfOk result (λ task. MatchOption task (IsCommand command.now → ⊥)
         (λ t. IsTask command.now (rows_of (found_of given.now)) t)) }
@@ -257,7 +257,7 @@ fn task_of(alloc: Global, command: &str, given: &ArgMatches<'_>) -> Result<Optio
         "explain" => Task::Explain(name_if_any(alloc, given, "FILE")?),
         "copy" => copy_of(alloc, given)?,
         "drill" => drill_of(alloc, given)?,
-        // a text that names no command
+        // a text that is not the name of a command
         _ => return Ok(None),
     }))
 }
@@ -274,7 +274,7 @@ fn files_of(alloc: Global, given: &ArgMatches<'_>) -> Result<Files, AllocError>
     })
 }
 
-/// What is shown.
+/// What is printed.
 fn show_of(alloc: Global, given: &ArgMatches<'_>) -> Result<Task, AllocError>
     ensures { IfOk result (λ t. IsTask (codes "show") (rows_of (found_of given.now)) t) }
 {

@@ -1,9 +1,9 @@
-//! Sizes as people type them: a number of bytes, or of a unit of bytes.
+//! Sizes as people type them: a number of bytes, or of units of bytes.
 
 ghost use Rattle.std.specs.Prelude.{◌<◌, ◌^◌, MatchOption, map};
 ghost use Rattle.arrowflow_line.specs.Sizes.{IsPartedBy, IsSizeIn, LacksSize, unit_of};
 
-/// The units, with the number of bytes that each has.
+/// The units, each with its number of bytes.
 static UNITS: [(&str, u64); 12] = [
     ("KiB", 1 << 10),
     ("MiB", 1 << 20),
@@ -19,7 +19,8 @@ static UNITS: [(&str, u64); 12] = [
     ("T", 1 << 40),
 ];
 
-/// The size in bytes of a text, in these bounds; None if it is that of no such size.
+/// The size in bytes that a text represents, within these bounds; `None` if it represents no such
+/// size.
 pub(crate) fn size_in(text: &str, least: u64, most: u64) -> Option<u64>
     ensures { MatchOption result (LacksSize least most text.now) (IsSizeIn least most text.now) }
 {
@@ -33,7 +34,7 @@ pub(crate) fn size_in(text: &str, least: u64, most: u64) -> Option<u64>
     }
 }
 
-/// A text without the first of these units with which it ends, and how many bytes that unit has: 1
+/// A text without the first of these units with which it ends, and that unit's number of bytes: 1
 /// if it ends with none.
 fn parted<'a>(text: &'a str, units: &[(&str, u64)]) -> (&'a str, u64)
     ensures { IsPartedBy (map unit_of units.now) text.now result.0.now result.1 }

@@ -1,6 +1,6 @@
-//! The library's calls over an input and an output that waits for it.
+//! The library's calls over an input and an output that is flushed before the input is read.
 
-use crate::held::{Held, Intake, Pausing};
+use crate::output_buffer::{BufferedOutput, FlushBeforeRead, OutputBuffer};
 use arrowflow::{
     Bounded, ColumnsFault, CopyOptions, Counted, Excess, Limits, Selection, ToolFault, WholeLimits,
     check_json, check_within, copy_within, schema_json, show_json, show_within,
@@ -9,16 +9,16 @@ use std::alloc::Global;
 use std::io::{Read, Write};
 use std::rc::Rc;
 
-/// An input, and an output whose bytes wait until the input is read on.
+/// An input, and an output whose bytes are buffered until the input is read again.
 #[derive(Drop)]
 pub(crate) struct Ends<I: Read + Drop, W: Write + Drop> {
-    input: Pausing<I, W>,
-    output: Intake<W>,
-    held: Rc<Held<W>>,
+    input: FlushBeforeRead<I, W>,
+    output: BufferedOutput<W>,
+    held: Rc<OutputBuffer<W>>,
 }
 
-/// How a call ended, the bound that its stream passed, if it did, and whether whoever read its output
-/// has gone.
+/// How a call ended, the bound that its stream passed, if it did, and whether the reader of its
+/// output has gone.
 #[derive(Drop)]
 pub(crate) struct Ended {
     pub(crate) answer: Result<(), ToolFault>,
@@ -27,8 +27,8 @@ pub(crate) struct Ended {
 }
 
 impl Ended {
-    /// Writes what waits, and tells how a call ended that answered so.
-    fn of<W: Write + Drop>(answer: Result<(), ToolFault>, held: &Held<W>) -> Ended {
+    /// Writes the buffered bytes, and returns how a call with this result ended.
+    fn of<W: Write + Drop>(answer: Result<(), ToolFault>, held: &OutputBuffer<W>) -> Ended {
         let written = held.finish();
         Ended {
             answer: written.and(answer),
@@ -37,11 +37,12 @@ impl Ended {
         }
     }
 
-    /// The same of a call over an input with bounds. If the output failed the answer says so, and names no bound.
+    /// The same for a call over an input with bounds. If the output failed, the result says so, and
+    /// names no bound.
     fn within<W: Write + Drop>(
         answer: Result<(), ToolFault>,
         excess: Option<Excess>,
-        held: &Held<W>,
+        held: &OutputBuffer<W>,
     ) -> Ended {
         let Ended {
             answer,
@@ -61,20 +62,20 @@ impl Ended {
 }
 
 impl<I: Read + Drop, W: Write + Drop> Ends<I, W> {
-    /// This input and this output. `Memory` where there is no room for what will wait.
+    /// This input and this output. `Memory` if the buffer cannot be allocated.
     pub(crate) fn new(alloc: Global, input: I, output: W) -> Result<Ends<I, W>, ToolFault> {
-        let held = Held::new(alloc, output).map_err(|_| ToolFault::Memory)?;
+        let held = OutputBuffer::new(alloc, output).map_err(|_| ToolFault::Memory)?;
         let held = Rc::new(alloc, held).map_err(|_| ToolFault::Memory)?;
         let intake = Rc::clone(&held).map_err(|_| ToolFault::Memory)?;
         let pausing = Rc::clone(&held).map_err(|_| ToolFault::Memory)?;
         Ok(Ends {
-            input: Pausing::new(input, pausing),
-            output: Intake::new(intake),
+            input: FlushBeforeRead::new(input, pausing),
+            output: BufferedOutput::new(intake),
             held,
         })
     }
 
-    /// Writes a line for each message, and gives the input back.
+    /// Writes a line for each message, and returns the input.
     pub(crate) fn check(self, alloc: Global, limits: &Limits, whole: WholeLimits) -> (I, Ended) {
         let mut input = Bounded::new(self.input, whole);
         let (_, answer) = check_within(alloc, &mut input, Counted::new(self.output), limits);
@@ -82,7 +83,7 @@ impl<I: Read + Drop, W: Write + Drop> Ends<I, W> {
         (input.into_inner().into_inner(), ended)
     }
 
-    /// Writes a JSON object for each message, and gives the input back.
+    /// Writes a JSON object for each message, and returns the input.
     pub(crate) fn check_json(
         self,
         alloc: Global,
@@ -94,7 +95,7 @@ impl<I: Read + Drop, W: Write + Drop> Ends<I, W> {
         (input.into_inner(), Ended::of(answer, &self.held))
     }
 
-    /// Writes a JSON object for each column, and gives the input back.
+    /// Writes a JSON object for each column, and returns the input.
     pub(crate) fn schema_json(
         self,
         alloc: Global,
@@ -106,15 +107,15 @@ impl<I: Read + Drop, W: Write + Drop> Ends<I, W> {
         (input.into_inner(), Ended::of(answer, &self.held))
     }
 
-    /// Writes a JSON object a row, and gives the input back.
+    /// Writes a JSON object for each row, and returns the input.
     pub(crate) fn show_json(self, alloc: Global, limits: &Limits) -> (I, Ended) {
         let (mut input, output) = (self.input, Counted::new(self.output));
         let (_, answer) = show_json(alloc, &mut input, output, limits);
         (input.into_inner(), Ended::of(answer, &self.held))
     }
 
-    /// Writes the selected rows, and gives the input back. An error is the place of the first column
-    /// asked for that the schema lacks.
+    /// Writes the selected rows, and returns the input. An error is the index of the first
+    /// requested column that the schema lacks.
     pub(crate) fn show(
         self,
         alloc: Global,
@@ -133,7 +134,7 @@ impl<I: Read + Drop, W: Write + Drop> Ends<I, W> {
         (input.into_inner().into_inner(), ended)
     }
 
-    /// Writes the stream again, and gives the input back.
+    /// Writes the stream again, and returns the input.
     pub(crate) fn copy(
         self,
         alloc: Global,

@@ -6,16 +6,16 @@ use std::env;
 use std::env::VarError;
 use std::rt::Env;
 
-/// What makes a terminal print in bold.
+/// The escape sequence that makes a terminal print in bold.
 const BOLD: &str = "\u{1b}[1m";
 
-/// What makes it print in red.
+/// The one that makes it print in red.
 const RED: &str = "\u{1b}[31m";
 
-/// What makes it print as before.
+/// The one that makes it print as before.
 const PLAIN: &str = "\u{1b}[0m";
 
-/// Whether what is printed is to have colours: on a terminal, unless the environment has a variable
+/// Whether output is to have colours: on a terminal, unless the environment has a variable
 /// `NO_COLOR` with a value.
 pub(crate) fn has_colours<R: AllocGlobal + Env + Terminals>(rt: &R) -> bool {
     if !rt.prints_on_terminal() {
@@ -28,7 +28,7 @@ pub(crate) fn has_colours<R: AllocGlobal + Env + Terminals>(rt: &R) -> bool {
     }
 }
 
-/// The explanation of a refusal with its first line, the fault, in bold, and with the carets under
+/// The explanation of an error with its first line, the fault, in bold, and with the carets under
 /// the bytes at fault in red.
 pub(crate) fn coloured(alloc: Global, text: &str) -> Result<String, AllocError> {
     let mut result = String::new(alloc);
@@ -60,7 +60,7 @@ fn push_styled(text: &mut String, style: &str, line: &str) -> Result<(), AllocEr
     text.push_str(PLAIN)
 }
 
-/// Whether a line has carets, and nothing but spaces beside them.
+/// Whether a line has carets, and otherwise only spaces.
 fn is_carets(line: &str) -> bool {
     line.contains('^') && line.bytes().all(|byte| byte == b' ' || byte == b'^')
 }

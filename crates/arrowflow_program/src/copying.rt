@@ -1,10 +1,10 @@
-//! The command `copy`: a stream written again.
+//! The command `copy`, which writes a stream again.
 
 use crate::calls::Ends;
 use crate::ends::{Destination, Source, create, is_same_file, is_standard, open};
+use crate::progress_reader::ProgressReader;
 use crate::terminals::Terminals;
-use crate::watched::Watched;
-use crate::{Bounds, FAILED, FINE, out_of_memory, progress_of, status_of_ended, tell};
+use crate::{Bounds, FAILED, FINE, out_of_memory, progress_of, report, status_of_ended};
 use arrowflow::{CopyOptions, ToolFault};
 use std::alloc::AllocError;
 use std::fs::{File, OpenFile};
@@ -15,28 +15,28 @@ use std::{fs, io};
 
 /// What is copied where, and how.
 #[derive(Clone, Copy)]
-pub(crate) struct Copying<'a> {
+pub(crate) struct FileCopy<'a> {
     pub(crate) from: &'a str,
     pub(crate) to: &'a str,
     pub(crate) options: CopyOptions,
     pub(crate) bounds: Bounds<'a>,
 }
 
-impl<'a> Copying<'a> {
-    /// What a plan asks for: without an output the file is replaced by its copy.
+impl<'a> FileCopy<'a> {
+    /// What a plan asks for: if there is no output, the file is replaced by its copy.
     pub(crate) fn planned(
         from: &'a str,
         output: &'a Option<String>,
         options: CopyOptions,
         bounds: Bounds<'a>,
-    ) -> Copying<'a> {
+    ) -> FileCopy<'a> {
         let to = match output {
             Some(name) => name.as_str(),
             None => from,
         };
         let atomic = options.atomic || output.is_none();
         let options = CopyOptions { atomic, ..options };
-        Copying {
+        FileCopy {
             from,
             to,
             options,
@@ -45,16 +45,16 @@ impl<'a> Copying<'a> {
     }
 }
 
-/// Writes a stream again, and gives the exit status.
-pub(crate) fn copy_file<R>(rt: &R, copying: Copying<'_>) -> u8
+/// Writes a stream again, and returns the exit status.
+pub(crate) fn copy_file<R>(rt: &R, copying: FileCopy<'_>) -> u8
 where
     R: AllocGlobal + Files + Input + Print + Eprint + Clock + Terminals,
     R::File: Drop,
 {
-    let Copying { from, to, .. } = copying;
+    let FileCopy { from, to, .. } = copying;
     let input = match open(rt, 0, from) {
         Ok(input) => input,
-        Err(fault) => return tell(rt, &fault, from, to),
+        Err(fault) => return report(rt, &fault, from, to),
     };
     if copying.options.atomic {
         return replace(rt, input, copying);
@@ -75,23 +75,28 @@ fn not_created<R: AllocGlobal + Eprint>(rt: &R, error: &io::Error, from: &str, t
         let _ = eprintln!(rt; "{to} exists");
         return FAILED;
     }
-    tell(rt, &ToolFault::Output, from, to)
+    report(rt, &ToolFault::Output, from, to)
 }
 
-/// Writes the stream of an input again into an output, and gives the exit status.
-fn copy_into<R, W>(rt: &R, input: Source<R::File, R::Reader>, output: W, copying: Copying<'_>) -> u8
+/// Writes the stream of an input again into an output, and returns the exit status.
+fn copy_into<R, W>(
+    rt: &R,
+    input: Source<R::File, R::Reader>,
+    output: W,
+    copying: FileCopy<'_>,
+) -> u8
 where
     R: AllocGlobal + Files + Input + Print + Eprint + Clock + Terminals,
     R::File: Drop,
     W: Write + Drop,
 {
-    let Copying {
+    let FileCopy {
         from,
         to,
         options,
         bounds,
     } = copying;
-    let input = Watched::new(input, progress_of(rt, "copy", from, is_standard(to)));
+    let input = ProgressReader::new(input, progress_of(rt, "copy", from, is_standard(to)));
     let Ok(ends) = Ends::new(rt.alloc(), input, output) else {
         return out_of_memory(rt);
     };
@@ -100,14 +105,14 @@ where
     status_of_ended(rt, ended, (from, to))
 }
 
-/// Writes the stream of an input again into a file beside the output's, which takes the output's
-/// place once all is written; gives the exit status.
-fn replace<R>(rt: &R, input: Source<R::File, R::Reader>, copying: Copying<'_>) -> u8
+/// Writes the stream of an input again into a file next to the output's, which replaces the
+/// output's once everything is written; returns the exit status.
+fn replace<R>(rt: &R, input: Source<R::File, R::Reader>, copying: FileCopy<'_>) -> u8
 where
     R: AllocGlobal + Files + Input + Print + Eprint + Clock + Terminals,
     R::File: Drop,
 {
-    let Copying { from, to, .. } = copying;
+    let FileCopy { from, to, .. } = copying;
     if !is_replaceable(rt, to) {
         let _ = eprintln!(rt; "{to} is no file that can be replaced");
         return FAILED;
@@ -127,7 +132,7 @@ where
     let status = copy_into(rt, input, output, copying);
     let Ok(file) = written else {
         let _ = fs::remove_file(rt, part.as_str());
-        return tell(rt, &ToolFault::Output, from, to);
+        return report(rt, &ToolFault::Output, from, to);
     };
     if status == FINE
         && put_in_place(rt, &file, (&part, &place), copying.options.no_clobber).is_ok()
@@ -136,13 +141,13 @@ where
     }
     let _ = fs::remove_file(rt, part.as_str());
     if status == FINE {
-        tell(rt, &ToolFault::Output, from, to)
+        report(rt, &ToolFault::Output, from, to)
     } else {
         status
     }
 }
 
-/// The name of the file that is replaced: of a link to a file, the one that it leads to.
+/// The name of the file that is replaced: for a link to a file, the one that it leads to.
 fn place_of<R: AllocGlobal + Files>(rt: &R, name: &str) -> Result<String, AllocError> {
     match fs::canonicalize(rt, name) {
         Ok(path) => String::from_str(rt.alloc(), path.as_str()),
@@ -150,14 +155,14 @@ fn place_of<R: AllocGlobal + Files>(rt: &R, name: &str) -> Result<String, AllocE
     }
 }
 
-/// The name of the file beside it.
+/// The name of the file next to it.
 fn part_of<R: AllocGlobal + Files>(rt: &R, name: &str) -> Result<String, AllocError> {
     let mut part = place_of(rt, name)?;
     part.push_str(".part")?;
     Ok(part)
 }
 
-/// Whether the name is of a regular file, or of none so far.
+/// Whether the name is that of a regular file, or of no file yet.
 fn is_replaceable<R: Files>(rt: &R, name: &str) -> bool {
     if is_standard(name) {
         return false;
@@ -168,7 +173,8 @@ fn is_replaceable<R: Files>(rt: &R, name: &str) -> bool {
     }
 }
 
-/// Gives a file that was written whole the place of another, with the permissions that the other had.
+/// Replaces a file by another that was written completely, with the permissions of the replaced
+/// one.
 fn put_in_place<R: Files>(
     rt: &R,
     file: &R::File,

@@ -1,7 +1,7 @@
-//! The command `drill`: connections rehearsed over the streams in files.
+//! The command `drill`, which rehearses connections over the streams in files.
 
 use crate::ends::{Source, open};
-use crate::{print_text, tell};
+use crate::{print_text, report};
 use arrowflow::{Limits, Options, ToolFault, drill};
 use std::io::Input;
 use std::rt::Files;
@@ -15,7 +15,7 @@ pub(crate) struct Rehearsal {
     pub(crate) piece: u64,
 }
 
-/// Rehearses a connection for each stream in the files of these names, and prints what came of them.
+/// Rehearses a connection for each stream in the files of these names, and prints the results.
 pub(crate) fn drill_files<R: AllocGlobal + Files + Input + Print + Eprint>(
     rt: &R,
     names: &[String],
@@ -27,7 +27,7 @@ where
 {
     let mut inputs = match open_all(rt, names) {
         Ok(inputs) => inputs,
-        Err(fault) => return tell_of(rt, &fault, names),
+        Err(fault) => return report_of(rt, &fault, names),
     };
     let Rehearsal {
         options,
@@ -36,11 +36,11 @@ where
     } = rehearsal;
     match drill(rt.alloc(), &mut inputs, options, bytes, piece, limits) {
         Ok(text) => print_text(rt, &text),
-        Err(fault) => tell_of(rt, &fault, names),
+        Err(fault) => report_of(rt, &fault, names),
     }
 }
 
-/// Opens the inputs of these names, in their order. The first that cannot be opened ends it.
+/// Opens the inputs with these names, in their order. Stops at the first that cannot be opened.
 fn open_all<R: AllocGlobal + Files + Input>(
     rt: &R,
     names: &[String],
@@ -58,12 +58,13 @@ where
     Ok(inputs)
 }
 
-/// Tells a fault of a call that read the inputs of these names, and gives its status.
-fn tell_of<R: AllocGlobal + Eprint>(rt: &R, fault: &ToolFault, names: &[String]) -> u8 {
-    tell(rt, fault, failed_name(fault, names), "-")
+/// Reports a fault of a call that read the inputs with these names, and returns its status.
+fn report_of<R: AllocGlobal + Eprint>(rt: &R, fault: &ToolFault, names: &[String]) -> u8 {
+    report(rt, fault, failed_name(fault, names), "-")
 }
 
-/// The name of the input that failed. Where another fault came, its line names none.
+/// The name of the input that failed. For any other fault it is empty, since the line of that fault
+/// names no input.
 fn failed_name<'a>(fault: &ToolFault, names: &'a [String]) -> &'a str {
     match fault {
         ToolFault::Input(number) => names.get(*number as usize).map_or("", |name| name.as_str()),

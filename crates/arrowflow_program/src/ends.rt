@@ -7,15 +7,15 @@ use std::os::unix::fs::MetadataExt;
 use std::rt::Files;
 use std::{fs, io};
 
-/// The name that stands for standard input or output.
+/// The name that means standard input or output.
 const STANDARD: &str = "-";
 
-/// Whether the name stands for standard input or output.
+/// Whether the name means standard input or output.
 pub(crate) fn is_standard(name: &str) -> bool {
     name == STANDARD
 }
 
-/// What an input is called in a line on it.
+/// The name of an input in a line about it.
 pub(crate) fn input_name(name: &str) -> &str {
     if is_standard(name) {
         "standard input"
@@ -24,7 +24,7 @@ pub(crate) fn input_name(name: &str) -> &str {
     }
 }
 
-/// What an output is called in a line on it.
+/// The name of an output in a line about it.
 pub(crate) fn output_name(name: &str) -> &str {
     if is_standard(name) {
         "standard output"
@@ -49,7 +49,7 @@ impl<F: Read + Drop, I: Read + Drop> Read for Source<F, I> {
     }
 }
 
-/// Opens the input of this number and name.
+/// Opens the input with this number and name.
 pub(crate) fn open<R: Files + Input>(
     rt: &R,
     number: u64,
@@ -88,8 +88,8 @@ impl<F: Write + Drop, O: Write + Drop> Write for Destination<F, O> {
     }
 }
 
-/// Opens the output of this name: a file is created, and one that exists is emptied, or with
-/// `no_clobber` an error.
+/// Opens the output with this name: a file is created. An existing file is emptied, or is an error
+/// with `no_clobber`.
 pub(crate) fn create<'a, R: Files + Print>(
     rt: &'a R,
     name: &str,
@@ -109,8 +109,8 @@ where
     Ok(Destination::File(file))
 }
 
-/// How many bytes the file of this name has; `None` where the name stands for standard input, or what
-/// has it is no regular file.
+/// How many bytes the file with this name has; `None` if the name means standard input, or is not
+/// that of a regular file.
 pub(crate) fn size_of<R: Files>(rt: &R, name: &str) -> Option<u64> {
     if is_standard(name) {
         return None;
@@ -121,8 +121,8 @@ pub(crate) fn size_of<R: Files>(rt: &R, name: &str) -> Option<u64> {
     }
 }
 
-/// Whether both names are of one regular file, as far as the system tells. A name that stands for
-/// standard input or output is of none, whatever file has it.
+/// Whether both names are those of one regular file, as far as the system knows. The name for
+/// standard input or output is never the name of a file, even if there is a file with that name.
 pub(crate) fn is_same_file<R: Files>(rt: &R, one: &str, other: &str) -> bool {
     if is_standard(one) || is_standard(other) {
         return false;

@@ -1,16 +1,17 @@
-//! The command `explain`: why a stream is refused, or what it has.
+//! The command `explain`: why a stream is rejected, or what it has.
 
 use crate::coloured::{coloured, has_colours};
 use crate::ends::open;
+use crate::progress_reader::ProgressReader;
 use crate::terminals::Terminals;
-use crate::watched::Watched;
-use crate::{REFUSED, named_or_standard, out_of_memory, print_text, progress_of, tell};
+use crate::{REFUSED, named_or_standard, out_of_memory, print_text, progress_of, report};
 use arrowflow::{Explanation, Limits, explain};
 use std::io::Input;
 use std::rt::{Env, Files};
 use std::time::Clock;
 
-/// Says why the stream in the file of this name, or of standard input, is refused, or what it has.
+/// Says why the stream in the file with this name, or on standard input, is rejected, or what it
+/// has.
 pub(crate) fn explain_file<R>(rt: &R, name: &Option<String>, limits: &Limits) -> u8
 where
     R: AllocGlobal + Env + Files + Input + Print + Eprint + Clock + Terminals,
@@ -22,14 +23,14 @@ where
     };
     let file = match open(rt, 0, name) {
         Ok(file) => file,
-        Err(fault) => return tell(rt, &fault, name, "-"),
+        Err(fault) => return report(rt, &fault, name, "-"),
     };
-    let mut input = Watched::new(file, progress_of(rt, "explain", name, false));
+    let mut input = ProgressReader::new(file, progress_of(rt, "explain", name, false));
     let answer = explain(rt.alloc(), &mut input, limits);
     input.clear();
     let explanation = match answer {
         Ok(explanation) => explanation,
-        Err(fault) => return tell(rt, &fault, name, "-"),
+        Err(fault) => return report(rt, &fault, name, "-"),
     };
     let Ok(text) = explanation.text(rt.alloc()) else {
         return out_of_memory(rt);
@@ -40,7 +41,7 @@ where
     }
 }
 
-/// Prints why a stream is refused, and gives the exit status of the printing.
+/// Prints why a stream is rejected, and returns the exit status of the printing.
 fn print_refusal<R>(rt: &R, text: &str) -> u8
 where
     R: AllocGlobal + Env + Print + Eprint + Terminals,

@@ -1,4 +1,4 @@
-//! Lines that begin with the name of the file that they are of.
+//! Lines that begin with the name of the file that they are about.
 
 use std::io;
 use std::io::Write;
@@ -8,7 +8,7 @@ use std::io::Write;
 pub(crate) struct Labelled<'a, W: Write + Drop> {
     writer: W,
     label: Option<&'a str>,
-    // Whether the next byte is the first of a line.
+    /// Whether the next byte is the first of a line.
     is_at_start: bool,
 }
 

@@ -1,9 +1,9 @@
 //! The program `arrowflow`: reads its command line, opens the files, makes one call of the library,
-//! or one for each file, prints what that gives, and ends with the call's exit status.
+//! or one for each file, prints the results, and ends with the call's exit status.
 #![tactic(auto)]
 
 ghost use Rattle.std.specs.Prelude.{◌≡◌, ◌⊎◌, IfErr, OnOk};
-ghost use Rattle.arrowflow.specs.Report.Faults.{status_of as status_by};
+ghost use Rattle.arrowflow.specs.Input.Faults.{status_of as status_by};
 
 mod calls;
 mod coloured;
@@ -11,25 +11,25 @@ mod copying;
 mod drilling;
 mod ends;
 mod explaining;
-mod held;
 mod labelled;
+mod output_buffer;
 mod pipe;
+mod progress_reader;
 mod reading;
 mod showing;
 mod terminals;
-mod watched;
 
 use crate::calls::Ended;
-use crate::copying::{Copying, copy_file};
+use crate::copying::{FileCopy, copy_file};
 use crate::drilling::{Rehearsal, drill_files};
 use crate::ends::{input_name, output_name, size_of};
 use crate::explaining::explain_file;
 use crate::labelled::Labelled;
 use crate::pipe::Pipe;
-use crate::reading::{Reading, read_files};
+use crate::progress_reader::ProgressLine;
+use crate::reading::{FileReading, read_files};
 use crate::showing::show_file;
 use crate::terminals::Terminals;
-use crate::watched::Progress;
 use arrowflow::{ArgFault, Limits, Plan, Task, ToolFault, Totals, WholeLimits, plan};
 use std::alloc::Global;
 use std::io::{ErrorKind, Input, Write};
@@ -41,21 +41,21 @@ use std::{env, io};
 /// All went well.
 pub(crate) const FINE: u8 = 0;
 
-/// A stream was refused.
+/// A stream was rejected.
 pub(crate) const REFUSED: u8 = 1;
 
 /// The arguments, a file or memory failed.
 pub(crate) const FAILED: u8 = 2;
 
-/// The size of a block that is taken and given back before all others: after it glibc keeps twice
-/// as much that is free for the blocks to come.
+/// The size of a block that is allocated and freed before all others: afterwards glibc keeps twice
+/// as much free memory for later blocks.
 const FIRST_BLOCK: usize = 4 << 20;
 
 fn main(rt: HostRuntime) -> ExitCode {
     ExitCode::from(run(&rt))
 }
 
-/// Does what the command line asks for, and gives the exit status.
+/// Does what the command line asks for, and returns the exit status.
 fn run<R: AllocGlobal + Env + Files + Input + Print + Eprint + Clock + Terminals>(rt: &R) -> u8
 where
     R::File: Drop,
@@ -91,15 +91,15 @@ where
     }
 }
 
-/// Has free memory kept for the blocks to come. Else glibc gives it back to the system once as much
-/// is free as twice the largest block that it had from the system alone: what a batch of some
-/// thousand columns frees is just so much, and the next batch is given all its pages anew. Where the
-/// block is refused, that is so.
+/// Makes glibc keep free memory for later blocks. Otherwise glibc returns free memory to the system
+/// once there is twice as much of it as the largest block that glibc took from the system by
+/// itself: a batch of some thousand columns frees just that much, and the next batch is given all
+/// its pages again. If this allocation fails, that is what happens.
 fn keep_free_memory(alloc: Global) {
     let _ = Vec::<u8>::with_capacity(alloc, FIRST_BLOCK);
 }
 
-/// How much a message, and a whole stream, may have.
+/// The bounds of a message, and of a whole stream.
 #[derive(Clone, Copy)]
 pub(crate) struct Bounds<'a> {
     pub(crate) limits: &'a Limits,
@@ -113,7 +113,7 @@ impl<'a> Bounds<'a> {
     }
 }
 
-/// The bounds that a line asks for.
+/// The bounds that a command line asks for.
 fn whole_limits(totals: Totals) -> WholeLimits {
     WholeLimits {
         rows: totals.rows,
@@ -122,7 +122,7 @@ fn whole_limits(totals: Totals) -> WholeLimits {
     }
 }
 
-/// Makes the call that a plan asks for, and gives the exit status.
+/// Makes the call that a plan asks for, and returns the exit status.
 fn carry_out<R>(rt: &R, plan: &Plan) -> u8
 where
     R: AllocGlobal + Env + Files + Input + Print + Eprint + Clock + Terminals,
@@ -134,13 +134,13 @@ where
         whole: whole_limits(plan.totals),
     };
     match &plan.task {
-        Task::Schema(files) => read_files(rt, Reading::Schema, files, bounds),
-        Task::Check(files, false) => read_files(rt, Reading::Messages, files, bounds),
-        Task::Check(files, true) => read_files(rt, Reading::Nothing, files, bounds),
+        Task::Schema(files) => read_files(rt, FileReading::Schema, files, bounds),
+        Task::Check(files, false) => read_files(rt, FileReading::Messages, files, bounds),
+        Task::Check(files, true) => read_files(rt, FileReading::Nothing, files, bounds),
         Task::Show(name, options) => show_file(rt, name, options, bounds),
         Task::Explain(name) => explain_file(rt, name, limits),
         Task::Copy(input, output, options) => {
-            copy_file(rt, Copying::planned(input, output, *options, bounds))
+            copy_file(rt, FileCopy::planned(input, output, *options, bounds))
         }
         Task::Drill(names, options, bytes, piece) => {
             let rehearsal = Rehearsal {
@@ -153,8 +153,8 @@ where
     }
 }
 
-/// Prints what clap says of the command line, and gives the exit status: help is fine, any other
-/// word is not.
+/// Prints what clap says of the command line, and returns the exit status: help is fine, any other
+/// message is not.
 fn print_help<R: Print + Eprint>(rt: &R, error: &clap::Error) -> u8 {
     if error.print(rt).is_ok() && error.exit_code() == 0 {
         FINE
@@ -163,12 +163,13 @@ fn print_help<R: Print + Eprint>(rt: &R, error: &clap::Error) -> u8 {
     }
 }
 
-/// Prints a text to standard output, and gives the exit status.
+/// Prints a text to standard output, and returns the exit status.
 pub(crate) fn print_text<R: AllocGlobal + Print + Eprint>(rt: &R, text: &str) -> u8 {
     print_lines(rt, text, None)
 }
 
-/// Prints the lines of a text to standard output, each after this label, and gives the exit status.
+/// Prints the lines of a text to standard output, each after this label, and returns the exit
+/// status.
 pub(crate) fn print_lines<R>(rt: &R, text: &str, label: Option<&str>) -> u8
 where
     R: AllocGlobal + Print + Eprint,
@@ -179,8 +180,8 @@ where
     status_of(rt, answer, ("-", "-"), output.is_closed())
 }
 
-/// The file that a command reads: the one of this name, or standard input if there is no name and
-/// standard input is no terminal. The exit status if there is none.
+/// The file that a command reads: the one with this name, or standard input if there is no name and
+/// standard input is not a terminal. The exit status if there is none.
 pub(crate) fn named_or_standard<'a, R: Eprint + Terminals>(
     rt: &R,
     name: Option<&'a str>,
@@ -195,22 +196,22 @@ pub(crate) fn named_or_standard<'a, R: Eprint + Terminals>(
     }
 }
 
-/// How far a command has come that reads the file of this name. `None` if standard error is no
+/// The progress of a command that reads the file with this name. `None` if standard error is not a
 /// terminal, or if the command prints on a terminal.
 pub(crate) fn progress_of<'a, R: Files + Eprint + Clock + Terminals>(
     rt: &'a R,
     command: &'static str,
     from: &str,
     prints: bool,
-) -> Option<Progress<'a, R>> {
+) -> Option<ProgressLine<'a, R>> {
     if !rt.reports_on_terminal() || (prints && rt.prints_on_terminal()) {
         return None;
     }
-    Progress::new(rt, command, size_of(rt, from))
+    ProgressLine::new(rt, command, size_of(rt, from))
 }
 
-/// Tells how a call ended that read the input of the first name and wrote the output of the second, and
-/// gives its status: the bound that its stream passed, or its fault.
+/// Reports how a call ended that read the input with the first name and wrote the output with the
+/// second, and returns its status: the bound that its stream passed, or its fault.
 pub(crate) fn status_of_ended<R: AllocGlobal + Eprint>(
     rt: &R,
     ended: Ended,
@@ -226,9 +227,9 @@ pub(crate) fn status_of_ended<R: AllocGlobal + Eprint>(
     }
 }
 
-/// Tells how a call ended that read the input of the first name and wrote the output of the second,
-/// whose reader may have gone, and gives its status; that of want of memory where the line cannot be
-/// made.
+/// Reports how a call ended that read the input with the first name and wrote the output with the
+/// second, whose reader may have gone, and returns its status, or that of a failed allocation if
+/// the line cannot be made.
 pub(crate) fn status_of<R: AllocGlobal + Eprint>(
     rt: &R,
     answer: Result<(), ToolFault>,
@@ -240,15 +241,15 @@ pub(crate) fn status_of<R: AllocGlobal + Eprint>(
 {
     match answer {
         Ok(()) => FINE,
-        // whoever closes a pipe knows that, and wants to hear nothing of it
+        // whoever closes a pipe knows that, and needs no report of it
         Err(fault) if is_closed => fault.status(),
-        Err(fault) => tell(rt, &fault, names.0, names.1),
+        Err(fault) => report(rt, &fault, names.0, names.1),
     }
 }
 
-/// Tells a fault of a call that read the input of the first name and wrote the output of the
-/// second, and gives its status; that of want of memory where the line cannot be made.
-pub(crate) fn tell<R: AllocGlobal + Eprint>(
+/// Reports a fault of a call that read the input with the first name and wrote the output with the
+/// second, and returns its status, or that of a failed allocation if the line cannot be made.
+pub(crate) fn report<R: AllocGlobal + Eprint>(
     rt: &R,
     fault: &ToolFault,
     read: &str,

@@ -3,7 +3,7 @@
 use std::io;
 use std::io::{ErrorKind, Write};
 
-/// A writer, with whether a write found that nobody reads it any more.
+/// A writer, and whether a write found that it no longer has a reader.
 #[derive(Drop)]
 pub(crate) struct Pipe<W: Write> {
     writer: W,
@@ -18,7 +18,7 @@ impl<W: Write> Pipe<W> {
         }
     }
 
-    /// Whether whoever read what was written has gone.
+    /// Whether the reader of the output has gone.
     pub(crate) fn is_closed(&self) -> bool {
         self.closed
     }

@@ -5,11 +5,11 @@ ghost use Rattle.std.specs.Prelude.{◌≡◌};
 use crate::calls::Ends;
 use crate::ends::{input_name, open};
 use crate::labelled::Labelled;
+use crate::progress_reader::ProgressReader;
 use crate::terminals::Terminals;
-use crate::watched::Watched;
 use crate::{
     Bounds, FAILED, FINE, REFUSED, named_or_standard, out_of_memory, print_lines, progress_of,
-    status_of, tell,
+    report, status_of,
 };
 use arrowflow::{
     Bounded, Excess, Files as FileNames, Limits, ToolFault, check_quietly_within, schema_text,
@@ -19,14 +19,14 @@ use std::io::Input;
 use std::rt::Files;
 use std::time::Clock;
 
-/// What is printed of each file.
+/// What is printed for each file.
 #[derive(Clone, Copy)]
-pub(crate) enum Reading {
+pub(crate) enum FileReading {
     /// Its schema.
     Schema,
     /// A line for each of its messages.
     Messages,
-    /// Nothing: the exit status says whether it is sound.
+    /// Nothing: the exit status says whether it is valid.
     Nothing,
 }
 
@@ -49,9 +49,14 @@ impl<'a> Named<'a> {
     }
 }
 
-/// Reads files, standard input if none is named, and gives the worst exit status. The lines of several
-/// begin with their names.
-pub(crate) fn read_files<R>(rt: &R, reading: Reading, files: &FileNames, bounds: Bounds<'_>) -> u8
+/// Reads files, or standard input if none is named, and returns the worst exit status. If there are
+/// several, their lines begin with their names.
+pub(crate) fn read_files<R>(
+    rt: &R,
+    reading: FileReading,
+    files: &FileNames,
+    bounds: Bounds<'_>,
+) -> u8
 where
     R: AllocGlobal + Files + Input + Print + Eprint + Clock + Terminals,
     R::File: Drop,
@@ -87,19 +92,19 @@ where
     worst
 }
 
-/// Reads one file, and gives the exit status.
-fn read_file<R>(rt: &R, reading: Reading, named: Named<'_>, bounds: Bounds<'_>) -> u8
+/// Reads one file, and returns the exit status.
+fn read_file<R>(rt: &R, reading: FileReading, named: Named<'_>, bounds: Bounds<'_>) -> u8
 where
     R: AllocGlobal + Files + Input + Print + Eprint + Clock + Terminals,
     R::File: Drop,
 {
     let limits = bounds.limits;
     match reading {
-        Reading::Schema if named.json => print_objects(rt, reading, named, limits),
-        Reading::Schema => print_schema(rt, named, limits),
-        Reading::Messages if named.json => print_objects(rt, reading, named, limits),
-        Reading::Messages => print_messages(rt, named, bounds),
-        Reading::Nothing => check_file(rt, named, bounds),
+        FileReading::Schema if named.json => print_objects(rt, reading, named, limits),
+        FileReading::Schema => print_schema(rt, named, limits),
+        FileReading::Messages if named.json => print_objects(rt, reading, named, limits),
+        FileReading::Messages => print_messages(rt, named, bounds),
+        FileReading::Nothing => check_file(rt, named, bounds),
     }
 }
 
@@ -111,11 +116,11 @@ where
 {
     let mut file = match open(rt, 0, named.name) {
         Ok(file) => file,
-        Err(fault) => return tell_of(rt, &fault, named),
+        Err(fault) => return report_of(rt, &fault, named),
     };
     match schema_text(rt.alloc(), &mut file, limits) {
         Ok(text) => print_lines(rt, &text, named.label()),
-        Err(fault) => tell_of(rt, &fault, named),
+        Err(fault) => report_of(rt, &fault, named),
     }
 }
 
@@ -127,9 +132,9 @@ where
 {
     let file = match open(rt, 0, named.name) {
         Ok(file) => file,
-        Err(fault) => return tell_of(rt, &fault, named),
+        Err(fault) => return report_of(rt, &fault, named),
     };
-    let input = Watched::new(file, progress_of(rt, "check", named.name, true));
+    let input = ProgressReader::new(file, progress_of(rt, "check", named.name, true));
     let output = Labelled::new(io::writer(rt), named.label());
     let Ok(ends) = Ends::new(rt.alloc(), input, output) else {
         return out_of_memory(rt);
@@ -138,30 +143,30 @@ where
     input.clear();
     match (ended.excess, ended.answer) {
         (Some(_), _) if ended.is_closed => REFUSED,
-        (Some(excess), _) => tell_excess(rt, excess, named),
+        (Some(excess), _) => report_excess(rt, excess, named),
         (None, Ok(())) => FINE,
         (None, Err(fault)) if ended.is_closed => fault.status(),
-        (None, Err(fault)) => tell_of(rt, &fault, named),
+        (None, Err(fault)) => report_of(rt, &fault, named),
     }
 }
 
-/// Prints the columns or the messages of the stream in a file as JSON objects, one a line.
-fn print_objects<R>(rt: &R, reading: Reading, named: Named<'_>, limits: &Limits) -> u8
+/// Prints the columns or the messages of the stream in a file as JSON objects, one on each line.
+fn print_objects<R>(rt: &R, reading: FileReading, named: Named<'_>, limits: &Limits) -> u8
 where
     R: AllocGlobal + Files + Input + Print + Eprint + Clock + Terminals,
     R::File: Drop,
 {
     let file = match open(rt, 0, named.name) {
         Ok(file) => file,
-        Err(fault) => return tell_of(rt, &fault, named),
+        Err(fault) => return report_of(rt, &fault, named),
     };
-    let input = Watched::new(file, progress_of(rt, "check", named.name, true));
+    let input = ProgressReader::new(file, progress_of(rt, "check", named.name, true));
     let Ok(ends) = Ends::new(rt.alloc(), input, io::writer(rt)) else {
         return out_of_memory(rt);
     };
     let (input, ended) = match reading {
-        Reading::Schema => ends.schema_json(rt.alloc(), limits, named.label()),
-        Reading::Messages | Reading::Nothing => {
+        FileReading::Schema => ends.schema_json(rt.alloc(), limits, named.label()),
+        FileReading::Messages | FileReading::Nothing => {
             ends.check_json(rt.alloc(), limits, named.label())
         }
     };
@@ -169,11 +174,11 @@ where
     match ended.answer {
         Ok(()) => FINE,
         Err(fault) if ended.is_closed => fault.status(),
-        Err(fault) => tell_of(rt, &fault, named),
+        Err(fault) => report_of(rt, &fault, named),
     }
 }
 
-/// Reads the stream in a file, and prints the line of its fault alone.
+/// Reads the stream in a file, and prints only the line of its fault.
 fn check_file<R>(rt: &R, named: Named<'_>, bounds: Bounds<'_>) -> u8
 where
     R: AllocGlobal + Files + Input + Eprint + Clock + Terminals,
@@ -181,30 +186,30 @@ where
 {
     let file = match open(rt, 0, named.name) {
         Ok(file) => file,
-        Err(fault) => return tell_of(rt, &fault, named),
+        Err(fault) => return report_of(rt, &fault, named),
     };
-    let input = Watched::new(file, progress_of(rt, "check", named.name, false));
+    let input = ProgressReader::new(file, progress_of(rt, "check", named.name, false));
     let mut input = Bounded::new(input, bounds.whole);
     let answer = check_quietly_within(rt.alloc(), &mut input, bounds.limits);
     let excess = input.excess();
     input.into_inner().clear();
     match (excess, answer) {
-        (Some(excess), _) => tell_excess(rt, excess, named),
+        (Some(excess), _) => report_excess(rt, excess, named),
         (None, Ok(())) => FINE,
-        (None, Err(fault)) => tell_of(rt, &fault, named),
+        (None, Err(fault)) => report_of(rt, &fault, named),
     }
 }
 
 /// Prints the line of a fault, after the name of a labelled file if the line does not have it.
-fn tell_of<R: AllocGlobal + Eprint>(rt: &R, fault: &ToolFault, named: Named<'_>) -> u8 {
+fn report_of<R: AllocGlobal + Eprint>(rt: &R, fault: &ToolFault, named: Named<'_>) -> u8 {
     if let (Some(label), ToolFault::Stream(_)) = (named.label(), fault) {
         let _ = eprint!(rt; "{label}:");
     }
-    tell(rt, fault, named.name, "-")
+    report(rt, fault, named.name, "-")
 }
 
 /// Prints the line of a bound that the stream in a file passes, after the name of a labelled file.
-fn tell_excess<R: Eprint>(rt: &R, excess: Excess, named: Named<'_>) -> u8
+fn report_excess<R: Eprint>(rt: &R, excess: Excess, named: Named<'_>) -> u8
     ensures { result ≡ REFUSED }
 {
     if let Some(label) = named.label() {

@@ -4,10 +4,11 @@ ghost use Rattle.std.specs.Prelude.{◌≡◌};
 
 use crate::calls::Ends;
 use crate::ends::open;
+use crate::progress_reader::ProgressReader;
 use crate::terminals::Terminals;
-use crate::watched::Watched;
 use crate::{
-    Bounds, FAILED, named_or_standard, out_of_memory, progress_of, status_of, status_of_ended, tell,
+    Bounds, FAILED, named_or_standard, out_of_memory, progress_of, report, status_of,
+    status_of_ended,
 };
 use arrowflow::{Layout, Limits, Selection, ShowOptions};
 use std::io;
@@ -15,7 +16,7 @@ use std::io::Input;
 use std::rt::Files;
 use std::time::Clock;
 
-/// Prints the rows of the stream in the file of this name, or of standard input.
+/// Prints the rows of the stream in the file with this name, or on standard input.
 pub(crate) fn show_file<R>(
     rt: &R,
     name: &Option<String>,
@@ -46,7 +47,7 @@ where
     print_json(rt, name, bounds.limits)
 }
 
-/// Prints each row of the stream in the file of this name as a JSON object on a line.
+/// Prints each row of the stream in the file with this name as a JSON object on a line.
 fn print_json<R>(rt: &R, name: &str, limits: &Limits) -> u8
 where
     R: AllocGlobal + Files + Input + Print + Eprint + Clock + Terminals,
@@ -54,9 +55,9 @@ where
 {
     let file = match open(rt, 0, name) {
         Ok(file) => file,
-        Err(fault) => return tell(rt, &fault, name, "-"),
+        Err(fault) => return report(rt, &fault, name, "-"),
     };
-    let input = Watched::new(file, progress_of(rt, "show", name, true));
+    let input = ProgressReader::new(file, progress_of(rt, "show", name, true));
     let Ok(ends) = Ends::new(rt.alloc(), input, io::writer(rt)) else {
         return out_of_memory(rt);
     };
@@ -65,7 +66,7 @@ where
     status_of(rt, ended.answer, (name, "-"), ended.is_closed)
 }
 
-/// Prints the rows of the stream in the file of this name that are asked for.
+/// Prints the requested rows of the stream in the file with this name.
 fn print_rows<R>(rt: &R, name: &str, options: &ShowOptions, bounds: Bounds<'_>) -> u8
 where
     R: AllocGlobal + Files + Input + Print + Eprint + Clock + Terminals,
@@ -95,9 +96,9 @@ where
     };
     let file = match open(rt, 0, name) {
         Ok(file) => file,
-        Err(fault) => return tell(rt, &fault, name, "-"),
+        Err(fault) => return report(rt, &fault, name, "-"),
     };
-    let input = Watched::new(file, progress_of(rt, "show", name, true));
+    let input = ProgressReader::new(file, progress_of(rt, "show", name, true));
     let Ok(ends) = Ends::new(rt.alloc(), input, io::writer(rt)) else {
         return out_of_memory(rt);
     };
@@ -109,7 +110,7 @@ where
     }
 }
 
-/// Whether another option than that of JSON is given.
+/// Whether an option other than that of JSON is given.
 fn is_partial(options: &ShowOptions) -> bool {
     options.columns.is_some()
         || options.batch.is_some()
@@ -119,7 +120,7 @@ fn is_partial(options: &ShowOptions) -> bool {
         || options.no_batch
 }
 
-/// Tells of a column that the schema lacks.
+/// Reports a column that the schema lacks.
 fn no_column<R: Eprint>(rt: &R, name: Option<&&str>) -> u8
     ensures { result ≡ FAILED }
 {

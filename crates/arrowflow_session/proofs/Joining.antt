@@ -1,4 +1,4 @@
--- The headline of one connection, from what was sent and what was received of the first bytes of it.
+-- The main property of one connection, from what was sent and what was received of its first bytes.
 use Rattle.std.proofs.Common.{zero, suc, ◌≡◌, ℕ, ℤ, ◌-◌, ◌<◌, ◌≤◌, ◌⊎◌, inl, inr, List, [], ◌∷◌, ◌++◌, length, take, drop, map, refl, sym, ap, ◌∙◌, subst, arith, Option, Some, None, Bool, true, false, is_some, length-drop, if◌then◌else◌}
 use Rattle.std.specs.List.{AllByRecursion}
 use Rattle.std.proofs.lemmas.Bool.{cases_lt, le-ltb, lt-ltb}
@@ -10,7 +10,7 @@ use Rattle.arrow_stream_reader.specs.declared.kind.Kind.TheVariants.{Truncated}
 use Rattle.arrow_stream_reader.specs.declared.reader.Verdict.{Verdict}
 use Rattle.arrow_stream_reader.specs.declared.reader.Verdict.TheVariants.{Open, Done, Bad}
 use Rattle.arrow_stream_reader.specs.Frame.{First, waits, short_prefix}
-use Rattle.arrow_stream_reader.specs.Front.{Standing, rests}
+use Rattle.arrow_stream_reader.specs.Front.{Snapshot, rests}
 use Rattle.arrow_stream_reader.specs.State.{StreamState, nothing_yet}
 use Rattle.arrow_stream_reader.specs.Stream.{ended_by}
 use Rattle.arrow_stream_reader.specs.Tables.{tables_of}
@@ -25,13 +25,13 @@ use Rattle.arrow_stream_laws.specs.Text.{AreUpdates, IsPart, Text, begins, adds,
 use Rattle.arrow_stream_laws.proofs.Chains.{left_by-append, lying-step, lying-stop}
 use Rattle.arrow_stream_laws.proofs.Deliveries.{delivered, text_stream, written_is}
 use Rattle.arrow_stream_laws.proofs.Parts.{part_fits_so}
-use Rattle.arrowflow_report.specs.declared.session.Ending.TheVariants.{Clean, Fault}
-use Rattle.arrowflow_report.specs.Session.{Receives, ending_by, ending_of}
+use Rattle.arrowflow_input.specs.declared.session.Ending.TheVariants.{Clean, Fault}
+use Rattle.arrowflow_input.specs.Session.{Receives, ending_by, ending_of}
 use Rattle.arrowflow_session.specs.Asked.{Asked, outcome_of, outcome_by}
-use Rattle.arrowflow_session.specs.Report.{Told, Sends, IsReport, ending_after}
+use Rattle.arrowflow_session.specs.Report.{Reported, Sends, IsReport, ending_after}
 use Rattle.arrowflow_session.specs.Running.{SentPlain, IsSent}
 
--- WHAT EACH FRAME LEAVES: the schema
+-- THE STATE AFTER EACH FRAME: it has the schema
 
 abbrev Keeps : SchemaShape → Frame → Type 0
 Keeps shape f = f.leaves.schema ≡ Some shape
@@ -45,7 +45,7 @@ updates_keep l align shape ds [] fs u = subst (AllByRecursion (Keeps shape)) (sy
 updates_keep l align shape ds (w ∷ ws) fs u =
     subst (AllByRecursion (Keeps shape)) (sym u.4) (refl, updates_keep l align shape (with_list shape.fields w ds) ws u.1 u.3)
 
--- the last frame leaves the schema, or the state before it has it
+-- the state after the last frame has the schema, or the state before the frames has it
 left_keeps : (shape : SchemaShape) (s : StreamState) (fs : List Frame) → s.schema ≡ Some shape → AllByRecursion (Keeps shape) fs → (left_by s fs).schema ≡ Some shape
 left_keeps shape s [] e h = e
 left_keeps shape s (f ∷ fs) e h = left_keeps shape f.leaves fs h.0 h.1
@@ -58,7 +58,7 @@ lying_keep shape n (f ∷ fs) h =
       | inr k ↦ subst (AllByRecursion (Keeps shape)) (sym (lying-step n f fs k)) (h.0, lying_keep shape (n - length f.bytes) fs h.1)
     ]
 
--- whether frames leave a schema: where there are any
+-- whether the state after frames has a schema: it has one if there are any frames
 abbrev ShowsSchema : Bool → List Frame → Type 0
 ShowsSchema has [] = has ≡ false
 ShowsSchema has (f ∷ fs) = has ≡ true
@@ -76,7 +76,7 @@ module _ {l : LimitNumbers} {o : Options} {shape : SchemaShape} where
   text_keeps (begins b known a f) = (refl, tt)
   text_keeps (adds parts batches frames t fs text x) = both_keep shape frames fs (text_keeps text) (part_keeps x)
 
-  -- the state after a text has the schema
+  -- the state after the bytes of a connection has the schema
   text_leaves : {parts : List (List ℕ)} {batches : List Table} {frames : List Frame} → Text l o shape parts batches frames → (left_by nothing_yet frames).schema ≡ Some shape
   text_leaves (begins b known a f) = refl
   text_leaves (adds parts batches frames t fs text x) =
@@ -105,7 +105,7 @@ module _ {l : LimitNumbers} {o : Options} {shape : SchemaShape} where
   written_schemas (unfinished parts batches frames t) = text_schemas t
   written_schemas (finished parts batches frames b t h m) = text_schemas t
 
--- batches with the rows of the first of others have their schemas
+-- batches with the rows of the first of some others have their schemas
 same_schemas : (shape : SchemaShape) (n : ℕ) (xs ys : List Table) → map rows_of xs ≡ take n (map rows_of ys) → AllByRecursion (HasSchema shape) ys → AllByRecursion (HasSchema shape) xs
 same_schemas shape n [] ys e h = tt
 same_schemas shape zero (x ∷ xs) ys e h = absurd (cc)
@@ -137,7 +137,7 @@ ending_is Done has (f ∷ fs) rest b ends done is h =
     let len : length b ≤ place = omega (arith, ap length (sym is ∙ (done refl).0), length-drop place b) in
     ap (λ (x : Bool). if x then Fault (record { kind = Truncated; place = place }) else Clean) (sym (le-ltb place (length b) len))
 
--- WHAT IS TOLD
+-- WHAT IS REPORTED
 
 all_taken : (n : ℕ) (b : List ℕ) → length b ≤ n → take n b ≡ b
 all_taken zero [] h = refl
@@ -149,16 +149,16 @@ none_taken : {A : Type 0} (n : ℕ) → ◌≡◌ {A = List A} (take n []) []
 none_taken zero = refl
 none_taken (suc n) = refl
 
--- what a report tells was received of the delivered bytes
-abbrev IsReceived : LimitNumbers → Asked → Told → Type 0
+-- what was received of the delivered bytes according to a report
+abbrev IsReceived : LimitNumbers → Asked → Reported → Type 0
 IsReceived l c r = Receives l (take c.deliver (joined r.parts)) r.handed r.reader_dictionaries r.ending
 
--- what it tells was sent
-abbrev sent_by : Told → SentPlain
+-- what was sent according to a report
+abbrev sent_by : Reported → SentPlain
 sent_by r = record { parts = r.parts; refused = r.refused; dictionaries = r.writer_dictionaries; bytes = joined r.parts }
 
-module _ (l : LimitNumbers) (c : Asked) (r : Told) (s : IsSent l c (sent_by r)) (y : IsReceived l c r) where
-  -- the schema is admitted
+module _ (l : LimitNumbers) (c : Asked) (r : Reported) (s : IsSent l c (sent_by r)) (y : IsReceived l c r) where
+  -- the schema is accepted
   module _ (admits : schema_admission l c.options c.shape ≡ None) where
     written : Written l c.options c.shape (outcome_of l c).closed r.parts (outcome_of l c).admitted s.frames
     written = subst (λ a. Sends a l c r.parts s.frames) admits s.sends
@@ -167,7 +167,7 @@ module _ (l : LimitNumbers) (c : Asked) (r : Told) (s : IsSent l c (sent_by r)) 
     stream =
         subst (λ ds. IsStream l (joined r.parts) c.shape (map rows_of (outcome_of l c).admitted) ds) (sym (written_is written).dictionaries ∙ sym s.last_are) (text_stream written)
 
-    at_whole : length (joined r.parts) ≤ c.deliver → (y.entries ≡ stream.entries) × (y.standing ≡ stream.standing)
+    at_whole : length (joined r.parts) ≤ c.deliver → (y.entries ≡ stream.entries) × (y.snapshot ≡ stream.snapshot)
     at_whole h = one_front (at_bytes (all_taken c.deliver (joined r.parts) h) y.front) stream.front
 
     text_report : IsReport l c r
@@ -187,14 +187,14 @@ module _ (l : LimitNumbers) (c : Asked) (r : Told) (s : IsSent l c (sent_by r)) 
           writer_dictionaries_are = s.dictionaries_are;
           handed_are = handed;
           schemas_are = same_schemas c.shape (whole_batches r.parts (outcome_of l c).admitted n) r.handed (outcome_of l c).admitted handed (written_schemas written);
-          reader_dictionaries_are = y.dictionaries_are ∙ ap (λ (e : Standing). e.state.dictionaries) same.1;
+          reader_dictionaries_are = y.dictionaries_are ∙ ap (λ (e : Snapshot). e.state.dictionaries) same.1;
           ending_is = y.ended ∙ ap ending_of same.1
               ∙ ending_is d.verdict (is_some (left_by nothing_yet whole).schema) whole (drop (length (frames_bytes whole)) (take n (joined r.parts))) (take n (joined r.parts)) d.ends d.done refl (shows_schema c.shape whole keeps);
           all_handed = λ h. ap (map rows_of) (y.tables ∙ ap tables_of (at_whole h).0) ∙ stream.rows;
-          same_dictionaries = λ h. y.dictionaries_are ∙ ap (λ (e : Standing). e.state.dictionaries) (at_whole h).1 ∙ stream.dictionaries;
+          same_dictionaries = λ h. y.dictionaries_are ∙ ap (λ (e : Snapshot). e.state.dictionaries) (at_whole h).1 ∙ stream.dictionaries;
         }
 
-  -- the schema is refused
+  -- the schema is rejected
   module _ (k : WriteFault) (refuses : schema_admission l c.options c.shape ≡ Some k) where
     nothing : (r.parts ≡ []) × (s.frames ≡ [])
     nothing = subst (λ a. Sends a l c r.parts s.frames) refuses s.sends
@@ -205,7 +205,7 @@ module _ (l : LimitNumbers) (c : Asked) (r : Told) (s : IsSent l c (sent_by r)) 
     no_bytes : take c.deliver (joined r.parts) ≡ []
     no_bytes = ap (λ ps. take c.deliver (joined ps)) nothing.0 ∙ none_taken c.deliver
 
-    at_nothing : (y.entries ≡ []) × (y.standing ≡ record { state = nothing_yet; place = 0; rest = []; verdict = Open })
+    at_nothing : (y.entries ≡ []) × (y.snapshot ≡ record { state = nothing_yet; place = 0; rest = []; verdict = Open })
     at_nothing =
         let first : First l nothing_yet 0 [] waits = short_prefix (omega arith) in
         one_front (at_bytes no_bytes y.front) (rests first)
@@ -214,7 +214,7 @@ module _ (l : LimitNumbers) (c : Asked) (r : Told) (s : IsSent l c (sent_by r)) 
     none_handed = y.tables ∙ ap tables_of at_nothing.0
 
     no_dictionaries : r.reader_dictionaries ≡ []
-    no_dictionaries = y.dictionaries_are ∙ ap (λ (e : Standing). e.state.dictionaries) at_nothing.1
+    no_dictionaries = y.dictionaries_are ∙ ap (λ (e : Snapshot). e.state.dictionaries) at_nothing.1
 
     nothing_report : IsReport l c r
     nothing_report =
@@ -242,8 +242,8 @@ module _ (l : LimitNumbers) (c : Asked) (r : Told) (s : IsSent l c (sent_by r)) 
   pub report_of : IsReport l c r
   report_of = report_by (schema_admission l c.options c.shape) refl
 
--- the same of the bytes of all parts
-pub report_for : (l : LimitNumbers) (c : Asked) (r : Told) (bytes : List ℕ) → IsSent l c (record { parts = r.parts; refused = r.refused; dictionaries = r.writer_dictionaries; bytes = bytes })
+-- the same for the bytes of all parts
+pub report_for : (l : LimitNumbers) (c : Asked) (r : Reported) (bytes : List ℕ) → IsSent l c (record { parts = r.parts; refused = r.refused; dictionaries = r.writer_dictionaries; bytes = bytes })
     → Receives l (take c.deliver bytes) r.handed r.reader_dictionaries r.ending → IsReport l c r
 report_for l c r bytes s y =
     let sent : IsSent l c (sent_by r) = record { frames = s.frames; sends = s.sends; refused_are = s.refused_are; dictionaries_are = s.dictionaries_are; last_are = s.last_are; all = refl } in

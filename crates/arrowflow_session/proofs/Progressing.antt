@@ -1,4 +1,4 @@
--- How the writing of a connection goes on, and what was sent in all.
+-- How the writing of a connection advances, and what was sent in all.
 use Rattle.std.proofs.Common.{◌≡◌, ℕ, ℤ, ◌+◌, inl, inr, List, [], ◌∷◌, ◌++◌, length, drop, refl, sym, ap, ◌∙◌, subst, arith, Option, Some, None, false, true, Bool}
 use Rattle.std.proofs.lemmas.List.{append-nil}
 use Rattle.std.proofs.Math.Seq.{drop-append_seam}
@@ -17,27 +17,27 @@ use Rattle.arrow_stream_laws.specs.Plan.{lists_after}
 use Rattle.arrow_stream_laws.specs.Admission.{admission, schema_admission, marker_fits, part_size}
 use Rattle.arrow_stream_laws.specs.Frames.{Frame, frames_bytes}
 use Rattle.arrow_stream_laws.specs.Text.{Text, begins, adds, Written, unfinished, finished, joined}
-use Rattle.arrow_stream_laws.specs.Writer.{WriterView, WriterStands, Starts, StartFails, first_place}
+use Rattle.arrow_stream_laws.specs.Writer.{WriterView, IsWriterAt, Starts, StartFails, first_place}
 use Rattle.arrowflow_session.specs.Asked.{Asked, Progress, Outcome, begun, with_batch, with_batches, ended_after, marker_refusals, outcome_by, outcome_of}
 use Rattle.arrowflow_session.specs.Report.{Sends}
 use Rattle.arrowflow_session.specs.Running.{StartsNot, Tries, SoFar, IsOver, Finished, SentPlain, IsSent, progress_at}
 use Rattle.arrowflow_session.specs.declared.refusal.Refusal.{Refusal}
-use Rattle.arrowflow_report.specs.declared.what.What.TheVariants.{Start, Batch}
+use Rattle.arrowflow_input.specs.declared.what.RefusedItem.TheVariants.{Start, Batch}
 
--- what stands after the bytes that were there before
-pub behind : (x now more : List ℕ) (c c' : Option (List ℕ)) → Some x ≡ c → Some now ≡ c' → Appends c c' more → drop (length x) now ≡ more
-behind x now more c c' e f a =
+-- the bytes after those that were there before
+pub after : (x now more : List ℕ) (c c' : Option (List ℕ)) → Some x ≡ c → Some now ≡ c' → Appends c c' more → drop (length x) now ≡ more
+after x now more c c' e f a =
     let whole : now ≡ x ++ more = subst (λ d. Appends (Some x) d more) (sym f) (subst (λ d. Appends d c' more) (sym e) a) in
     ap (drop (length x)) whole ∙ drop-append_seam x more
 
 -- ONE BATCH
 
--- how far a writer comes with the next batch, once the answer for it is known
+-- how far a writer comes with the next batch, once the result for it is known
 next_batch : (w : WriterView) (p : Progress) (t : Table) (ts : List Table) (r : Option WriteFault) → admission w.limits w.options w.shape p.sent p.place t ≡ r
     → with_batches w.limits w.options w.shape (with_batch w.options w.shape t r p) ts ≡ with_batches w.limits w.options w.shape p (t ∷ ts)
 next_batch w p t ts r e = ap (λ q. with_batches w.limits w.options w.shape (with_batch w.options w.shape t q p) ts) (sym e)
 
--- what a tried batch leaves
+-- the progress after a batch was tried
 pub goes_so_far : (w new : WriterView) (all : List Table) (n : ℕ) (t : Table) (parts parts' : List (List ℕ)) (refused refused' : List Refusal) → SoFar w all n parts refused → drop n all ≡ t ∷ drop (n + 1) all
     → Tries w t n parts refused new parts' refused' → SoFar new all (n + 1) parts' refused'
 goes_so_far w new all n t parts parts' refused refused' s d (inl x) =
@@ -47,7 +47,7 @@ goes_so_far w new all n t parts parts' refused refused' s d (inl x) =
     let v : WriterView = record w { sent = lists_after w.options.updates w.shape.fields w.sent t; place = w.place + part_size w.options w.shape.fields w.sent t; contents = new.contents } in
     let made : SoFar v all (n + 1) (parts ++ bytes ∷ []) refused = record {
       admitted = s.admitted ++ t ∷ [];
-      stands = subst (λ z. WriterStands z (Some []) false (parts ++ bytes ∷ []) (s.admitted ++ t ∷ [])) a.new_is (a.stands (Some []) parts s.admitted s.stands);
+      position = subst (λ z. IsWriterAt z (Some []) false (parts ++ bytes ∷ []) (s.admitted ++ t ∷ [])) a.new_is (a.position (Some []) parts s.admitted s.position);
       reliable = s.reliable;
       goes_on = next_batch w (progress_at w n s.admitted refused) t ts None a.is_part.admitted
           ∙ ap (with_batches w.limits w.options w.shape (progress_at w n s.admitted refused)) (sym d) ∙ s.goes_on;
@@ -59,7 +59,7 @@ goes_so_far w new all n t parts parts' refused refused' s d (inr x) =
     let one = record { what = Batch n; kind = x.kind } ∷ [] in
     let made : SoFar w all (n + 1) parts (refused ++ one) = record {
       admitted = s.admitted;
-      stands = s.stands;
+      position = s.position;
       reliable = s.reliable;
       goes_on = next_batch w (progress_at w n s.admitted refused) t ts (Some x.kind) x.refusal
           ∙ ap (with_batches w.limits w.options w.shape (progress_at w n s.admitted refused)) (sym d) ∙ s.goes_on;
@@ -67,7 +67,7 @@ goes_so_far w new all n t parts parts' refused refused' s d (inr x) =
     subst (λ z. SoFar z all (n + 1) parts' refused') (sym x.unchanged)
     (subst (λ r. SoFar w all (n + 1) r refused') (sym x.same) (subst (λ r. SoFar w all (n + 1) parts r) (sym x.one_more) made))
 
--- a tried batch leaves the writer's limits, options and fields
+-- trying a batch leaves the writer's limits, options and fields unchanged
 pub over_same : (w new : WriterView) (n : ℕ) (t : Table) (parts parts' : List (List ℕ)) (refused refused' : List Refusal) → Tries w t n parts refused new parts' refused' → IsOver w new
 over_same w new n t parts parts' refused refused' (inl x) =
     record { limits = ap (λ (z : WriterView). z.limits) x.accepts.new_is; options = ap (λ (z : WriterView). z.options) x.accepts.new_is; shape = ap (λ (z : WriterView). z.shape) x.accepts.new_is }
@@ -80,15 +80,15 @@ over_then u v w x y = record { limits = y.limits ∙ x.limits; options = y.optio
 pub over_self : (w : WriterView) → IsOver w w
 over_self w = record { limits = refl; options = refl; shape = refl }
 
--- a started writer has tried nothing
+-- a started writer has tried no batch
 pub started : (l : LimitNumbers) (o : Options) (shape : SchemaShape) (w : WriterView) (all : List Table) (bytes : List ℕ) → Starts l o shape (Some []) 0 w → Some bytes ≡ w.contents → SoFar w all 0 (bytes ∷ []) []
 started l o shape w all bytes s e =
     let part : bytes ≡ s.part =
-    subst (λ d. Appends (Some []) d (joined (s.part ∷ []))) (sym e) s.stands.accepted ∙ append-nil s.part in
+    subst (λ d. Appends (Some []) d (joined (s.part ∷ []))) (sym e) s.position.accepted ∙ append-nil s.part in
     let v : WriterView = record { limits = l; options = o; shape = shape; sent = []; place = first_place o shape; status = Writing; contents = w.contents; failures = 0 } in
     let made : SoFar v all 0 (bytes ∷ []) [] = record {
       admitted = [];
-      stands = subst (λ z. WriterStands z (Some []) false (bytes ∷ []) []) s.new_is (subst (λ b. WriterStands w (Some []) false (b ∷ []) []) (sym part) s.stands);
+      position = subst (λ z. IsWriterAt z (Some []) false (bytes ∷ []) []) s.new_is (subst (λ b. IsWriterAt w (Some []) false (b ∷ []) []) (sym part) s.position);
       reliable = refl;
       goes_on = refl;
     } in
@@ -104,25 +104,25 @@ written_admits : {l : LimitNumbers} {o : Options} {shape : SchemaShape} {closed 
 written_admits (unfinished parts batches frames t) = text_admits t
 written_admits (finished parts batches frames b t h m) = text_admits t
 
--- a writer is over a connection's options and fields
+-- a writer has a connection's limits, options and fields
 pub record IsFor (l : LimitNumbers) (c : Asked) (w : WriterView) : Type 0 where
   pub limits : w.limits ≡ l
   pub options : w.options ≡ c.options
   pub shape : w.shape ≡ c.shape
 
--- they are the writer's, all three
+-- the connection's limits, options and fields are all three the writer's
 abbrev Same : LimitNumbers → Asked → WriterView → Type 0
 Same l c w = ◌≡◌ {A = LimitNumbers × (Options × SchemaShape)} (w.limits, (w.options, w.shape)) (l, (c.options, c.shape))
 
 all_same : (l : LimitNumbers) (c : Asked) (w : WriterView) → IsFor l c w → Same l c w
 all_same l c w i = λ j. (i.limits j, (i.options j, i.shape j))
 
--- what comes of an end marker that is asked for, by whether it has room
+-- the outcome of an end marker that is asked for, by whether it fits
 by_room : (p : Progress) (room : Bool) → marker_fits p.place ≡ room → ended_after true p ≡ record { admitted = p.admitted; refused = p.refused ++ marker_refusals true room; sent = p.sent; closed = room }
 by_room p room h = ap (λ b. record { admitted = p.admitted; refused = p.refused ++ marker_refusals true b; sent = p.sent; closed = b }) h
 
--- What a writer that stands at these parts and batches sent is what comes of the connection, if the outcome is of these.
-sent_from : (l : LimitNumbers) (c : Asked) (w : WriterView) (admitted : List Table) (closed : Bool) (s : SentPlain) → IsFor l c w → WriterStands w (Some []) closed s.parts admitted
+-- What a writer with these parts and batches sent is the outcome of the connection, if the outcome has these.
+sent_from : (l : LimitNumbers) (c : Asked) (w : WriterView) (admitted : List Table) (closed : Bool) (s : SentPlain) → IsFor l c w → IsWriterAt w (Some []) closed s.parts admitted
     → outcome_of l c ≡ record { admitted = admitted; refused = s.refused; sent = s.dictionaries; closed = closed } → Some s.bytes ≡ w.contents → s.dictionaries ≡ w.sent → IsSent l c s
 sent_from l c w admitted closed s i st out t e =
     let written : Written l c.options c.shape closed s.parts admitted st.frames =
@@ -153,7 +153,7 @@ module _ (l : LimitNumbers) (c : Asked) (w : WriterView) (parts : List (List ℕ
       let asked : end ≡ with_batches l c.options c.shape (begun c.options c.shape) c.batches =
       own ∙ ap (λ x. with_batches x.0 x.1.0 x.1.1 (begun x.1.0 x.1.1) c.batches) (all_same l c w i) in
       let admits : schema_admission l c.options c.shape ≡ None =
-      ap (λ x. schema_admission x.0 x.1.0 x.1.1) (sym (all_same l c w i)) ∙ written_admits s.stands.written in
+      ap (λ x. schema_admission x.0 x.1.0 x.1.1) (sym (all_same l c w i)) ∙ written_admits s.position.written in
       ap (λ a. outcome_by a l c) admits ∙ ap (ended_after c.finish) (sym asked)
 
   -- no end marker was asked for
@@ -161,15 +161,15 @@ module _ (l : LimitNumbers) (c : Asked) (w : WriterView) (parts : List (List ℕ
   sent_open last bytes f t e =
       let out = outcome_is ∙ ap (λ b. ended_after b end) f ∙ ap (λ r. record { admitted = s.admitted; refused = r; sent = w.sent; closed = false }) (append-nil refused)
       ∙ ap (λ ds. record { admitted = s.admitted; refused = refused; sent = ds; closed = false }) (sym e) in
-      sent_from l c w s.admitted false (record { parts = parts; refused = refused; dictionaries = last; bytes = bytes }) i s.stands out t e
+      sent_from l c w s.admitted false (record { parts = parts; refused = refused; dictionaries = last; bytes = bytes }) i s.position out t e
 
-  -- one was asked for
+  -- an end marker was asked for
   pub sent_ended : (w2 : WriterView) (parts2 : List (List ℕ)) (refused2 : List Refusal) (last : List (ℤ × ValueList)) (bytes : List ℕ) → c.finish ≡ true → Finished w parts refused w2 parts2 refused2 → Some bytes ≡ w2.contents → last ≡ w2.sent
       → IsSent l c (record { parts = parts2; refused = refused2; dictionaries = last; bytes = bytes })
   sent_ended w2 parts2 refused2 last bytes f (inl m) t e =
       let new = m.ends.new_is in
       let i2 : IsFor l c w2 = record { limits = ap (λ (v : WriterView). v.limits) new ∙ i.limits; options = ap (λ (v : WriterView). v.options) new ∙ i.options; shape = ap (λ (v : WriterView). v.shape) new ∙ i.shape } in
-      let st : WriterStands w2 (Some []) true parts2 s.admitted = subst (λ p. WriterStands w2 (Some []) true p s.admitted) (sym m.part) (m.ends.stands (Some []) parts s.admitted s.stands) in
+      let st : IsWriterAt w2 (Some []) true parts2 s.admitted = subst (λ p. IsWriterAt w2 (Some []) true p s.admitted) (sym m.part) (m.ends.position (Some []) parts s.admitted s.position) in
       let refusals : refused ++ [] ≡ refused2 = append-nil refused ∙ sym m.same in
       let lists : w.sent ≡ last = sym (e ∙ ap (λ (v : WriterView). v.sent) new) in
       let out = outcome_is ∙ ap (λ b. ended_after b end) f ∙ by_room end true m.ends.fits_in ∙ ap (λ r. record { admitted = s.admitted; refused = r; sent = w.sent; closed = true }) refusals
@@ -179,7 +179,7 @@ module _ (l : LimitNumbers) (c : Asked) (w : WriterView) (parts : List (List ℕ
       let lists : w.sent ≡ last = sym (e ∙ ap (λ (v : WriterView). v.sent) m.unchanged) in
       let out = outcome_is ∙ ap (λ b. ended_after b end) f ∙ by_room end false m.passes ∙ ap (λ r. record { admitted = s.admitted; refused = r; sent = w.sent; closed = false }) (sym m.one_more)
       ∙ ap (λ ds. record { admitted = s.admitted; refused = refused2; sent = ds; closed = false }) lists in
-      let x = sent_from l c w s.admitted false (record { parts = parts; refused = refused2; dictionaries = last; bytes = bytes }) i s.stands out (t ∙ ap (λ (v : WriterView). v.contents) m.unchanged) (sym lists) in
+      let x = sent_from l c w s.admitted false (record { parts = parts; refused = refused2; dictionaries = last; bytes = bytes }) i s.position out (t ∙ ap (λ (v : WriterView). v.contents) m.unchanged) (sym lists) in
       subst (λ p. IsSent l c (record { parts = p; refused = refused2; dictionaries = last; bytes = bytes })) (sym m.same) x
 
 -- nothing was sent
@@ -194,12 +194,12 @@ sent_nothing l c s a p r e b = record {
   all = b ∙ sym (ap joined p);
 }
 
--- what an answer is to be, by what it is
+-- a statement of a successful result implies what follows from it
 pub if_ok : {X E : Type 0} (r : Result X E) (P Q : X → Type 0) → IfOk r P → ((x : X) → P x → Q x) → IfOk r Q
 if_ok (Ok x) P Q h f = f x h
 if_ok (Err e) P Q h f = tt
 
--- what a writer that began is over after all batches
+-- a started writer has the connection's limits, options and fields after all batches
 pub for_one : (l : LimitNumbers) (c : Asked) (w v : WriterView) → Starts l c.options c.shape (Some []) 0 w → IsOver w v → IsFor l c v
 for_one l c w v s o = record {
   limits = o.limits ∙ ap (λ (z : WriterView). z.limits) s.new_is;
@@ -207,7 +207,7 @@ for_one l c w v s o = record {
   shape = o.shape ∙ ap (λ (z : WriterView). z.shape) s.new_is;
 }
 
--- why a start into memory was refused, by what it left of the sink
+-- why a start into memory failed, by the state of the sink after it
 pub starts_not : (l : LimitNumbers) (o : Options) (shape : SchemaShape) (base contents : Option (List ℕ)) (failures now : ℕ) (k : WriteFault) → StartFails l o shape base failures k contents now → StartsNot l o shape k
 starts_not l o shape base contents failures now TooLarge h = h.0
 starts_not l o shape base contents failures now Memory h = inl refl

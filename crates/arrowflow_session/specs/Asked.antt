@@ -1,5 +1,5 @@
--- What is asked of a connection, and what the definitions alone say comes of it: which batches are admitted, and which are refused
--- with what. (This project's own.)
+-- What is asked of a connection, and its outcome by the definitions alone: which batches are accepted, and which are
+-- rejected with which fault. (This project's own.)
 use Rattle.std.specs.Prelude.{ℕ, ℤ, ◌+◌, ◌&&◌, Bool, true, false, List, [], ◌∷◌, ◌++◌, Option, Some, None}
 use Rattle.arrow_types.specs.Limits.{LimitNumbers}
 use Rattle.arrow_types.specs.Notes.{SchemaShape}
@@ -13,11 +13,12 @@ use Rattle.arrow_stream_laws.specs.Admission.{admission, schema_admission, marke
 use Rattle.arrow_stream_laws.specs.Writer.{first_place}
 use Rattle.arrow_stream_writer.specs.Shown.{options_view}
 use Rattle.arrowflow_session.specs.declared.refusal.Refusal.{Refusal}
-use Rattle.arrowflow_report.specs.declared.what.What.TheVariants.{Start, Batch, Finish}
-use Rattle.arrowflow_session.specs.declared.session.Connection.{Connection}
+use Rattle.arrowflow_input.specs.declared.what.RefusedItem.TheVariants.{Start, Batch, Finish}
+use Rattle.arrowflow_session.specs.declared.connection.Connection.{Connection}
 
--- What is asked of a connection: the schema and the batches to be written, how, whether an end marker too, and how many bytes of
--- it all are delivered. In which pieces these come is not among it, since nothing hangs on that.
+-- What is asked of a connection: the schema and the batches to be written, with which options, whether with an end
+-- marker, and how many of all bytes are delivered. The pieces in which these come are not included, since nothing
+-- depends on them.
 pub record Asked : Type 0 where
   pub shape : SchemaShape
   pub options : Options
@@ -29,8 +30,8 @@ pub record Asked : Type 0 where
 abbrev pub asked_of : Connection → Asked
 asked_of c = record { shape = c.schema; options = options_view c.options; batches = c.batches.items; finish = c.finish; deliver = c.deliver }
 
--- How far the writing has come: how many batches were tried, those that were admitted, the refusals of the others, the
--- dictionaries that were sent, and the place of the next frame.
+-- How far the writing has come: how many batches were tried, those that were accepted, the rejections of the others,
+-- the dictionaries that were sent, and the offset of the next frame.
 pub record Progress : Type 0 where
   pub tried : ℕ
   pub admitted : List Table
@@ -42,7 +43,8 @@ pub record Progress : Type 0 where
 abbrev pub begun : Options → SchemaShape → Progress
 begun o shape = record { tried = 0; admitted = []; refused = []; sent = []; place = first_place o shape }
 
--- after one batch more: an admitted one is sent with the dictionaries that it needs, a refused one changes nothing of what was sent
+-- after one more batch: an accepted one is sent with the dictionaries that it needs, a rejected one changes nothing
+-- of what was sent
 abbrev pub with_batch : Options → SchemaShape → Table → Option WriteFault → Progress → Progress
 with_batch o shape t None p = record p {
   tried = p.tried + 1;
@@ -52,26 +54,28 @@ with_batch o shape t None p = record p {
 }
 with_batch o shape t (Some k) p = record p { tried = p.tried + 1; refused = p.refused ++ record { what = Batch p.tried; kind = k } ∷ [] }
 
--- after these batches more, each admitted or refused by the dictionaries and the place that the admitted ones before it left
+-- after these more batches, each accepted or rejected by the dictionaries and the offset after the accepted ones
+-- before it
 abbrev pub with_batches : LimitNumbers → Options → SchemaShape → Progress → List Table → Progress
 with_batches limits o shape p [] = p
 with_batches limits o shape p (t ∷ ts) = with_batches limits o shape (with_batch o shape t (admission limits o shape p.sent p.place t) p) ts
 
--- What comes of the writing in all: the batches that are sent, the refusals, the dictionaries that were sent, and whether the end
--- marker is the last part.
+-- The outcome of the writing in all: the batches that are sent, the rejections, the dictionaries that were sent, and
+-- whether the end marker is the last part.
 pub record Outcome : Type 0 where
   pub admitted : List Table
   pub refused : List Refusal
   pub sent : List (ℤ × ValueList)
   pub closed : Bool
 
--- the refusal of an end marker that is asked for and has no room
+-- the rejection of an end marker that is asked for and does not fit
 abbrev pub marker_refusals : Bool → Bool → List Refusal
 marker_refusals false fits = []
 marker_refusals true true = []
 marker_refusals true false = record { what = Finish; kind = TooLarge } ∷ []
 
--- after all batches: the end marker is sent where it is asked for and ends by place 2^62, and refused where it would pass that
+-- after all batches: the end marker is sent if it is asked for and ends by offset 2^62, and rejected if it would pass
+-- that
 abbrev pub ended_after : Bool → Progress → Outcome
 ended_after finish p = record {
   admitted = p.admitted;
@@ -80,11 +84,11 @@ ended_after finish p = record {
   closed = finish && marker_fits p.place;
 }
 
--- with a schema that is refused nothing is sent and no batch is tried
+-- if the schema is rejected, nothing is sent and no batch is tried
 abbrev pub outcome_by : Option WriteFault → LimitNumbers → Asked → Outcome
 outcome_by None limits c = ended_after c.finish (with_batches limits c.options c.shape (begun c.options c.shape) c.batches)
 outcome_by (Some k) limits c = record { admitted = []; refused = record { what = Start; kind = k } ∷ []; sent = []; closed = false }
 
--- what comes of a connection's writing, by its schema and its batches alone
+-- the outcome of a connection's writing, which depends only on what is asked of it
 abbrev pub outcome_of : LimitNumbers → Asked → Outcome
 outcome_of limits c = outcome_by (schema_admission limits c.options c.shape) limits c

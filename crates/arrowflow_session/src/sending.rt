@@ -9,24 +9,24 @@ ghost use Rattle.arrowflow_session.specs.Report.{items_of};
 ghost use Rattle.arrowflow_session.specs.Running.{Finished, IsNothing, IsOver, IsSent, SoFar, Tries};
 ghost use Rattle.arrowflow_session.specs.Running.{StartsNot, sent_plain, shown_kept};
 
-use crate::kept::Kept;
+use crate::connection::Connection;
+use crate::memory_sink::MemorySink;
 use crate::refusal::Refusal;
-use crate::session::Connection;
 use arrow_data::{Batch, Dictionary};
 use arrow_sink::WriteFault;
 use arrow_stream_writer::{Options, StreamWriter};
 use arrow_types::{Limits, Schema};
-use arrowflow_report::What;
+use arrowflow_input::RefusedItem;
 use std::alloc::{AllocError, Global};
 
 /// What was sent over a connection.
 #[derive(Drop)]
 pub(crate) struct Sent {
-    /// The parts, one behind the other.
+    /// The parts, one after another.
     pub(crate) parts: Vec<Vec<u8>>,
-    /// What the writer refused.
+    /// What the writer rejected.
     pub(crate) refused: Vec<Refusal>,
-    /// The dictionaries that the writer sent last, by rising id.
+    /// The dictionaries that the writer sent last, by ascending id.
     pub(crate) dictionaries: Vec<(i64, Dictionary)>,
     /// The bytes of all parts.
     pub(crate) bytes: Vec<u8>,
@@ -60,28 +60,28 @@ fn start(
     schema: &Schema,
     options: Options,
     limits: Limits,
-) -> Result<StreamWriter<Kept>, WriteFault>
+) -> Result<StreamWriter<MemorySink>, WriteFault>
     ensures { MatchResult result
         (λ w. Starts limits (options_view options) schema.now (Some []) 0 (shown_kept w))
         (λ k. StartsNot limits (options_view options) schema.now k) }
 {
-    match StreamWriter::start(alloc, Kept::new(alloc), schema, options, limits) {
+    match StreamWriter::start(alloc, MemorySink::new(alloc), schema, options, limits) {
         Ok(writer) => Ok(writer),
         Err((fault, _)) => Err(fault),
     }
 }
 
-/// All that was written so far.
-fn bytes_of(writer: &StreamWriter<Kept>) -> &[u8]
+/// All bytes that were written so far.
+fn bytes_of(writer: &StreamWriter<MemorySink>) -> &[u8]
     ensures { Some result.now ≡ (shown_kept writer.now).contents }
 {
     writer.sink().bytes()
 }
 
-/// All that is sent by a writer that has begun.
+/// All that is sent by a writer that was started.
 fn send_on(
     alloc: Global,
-    mut writer: StreamWriter<Kept>,
+    mut writer: StreamWriter<MemorySink>,
     connection: &Connection,
     limits: Limits,
 ) -> Result<Sent, AllocError>
@@ -99,10 +99,10 @@ fn send_on(
     sent_of(alloc, &writer, parts, refused)
 }
 
-/// Writes all batches, and keeps the parts of those that are admitted and the refusals of the
-/// others.
+/// Writes all batches, and keeps the messages of those that are accepted, a part for each, and the
+/// rejections of the others.
 fn write_all(
-    writer: &mut StreamWriter<Kept>,
+    writer: &mut StreamWriter<MemorySink>,
     parts: &mut Vec<Vec<u8>>,
     refused: &mut Vec<Refusal>,
     batches: &[Batch],
@@ -119,9 +119,9 @@ fn write_all(
     Ok(())
 }
 
-/// Writes one batch, which stands behind its number, and keeps its part or its refusal.
+/// Writes one batch, given with its number, and keeps its messages as a part, or its rejection.
 fn write_one(
-    writer: &mut StreamWriter<Kept>,
+    writer: &mut StreamWriter<MemorySink>,
     parts: &mut Vec<Vec<u8>>,
     refused: &mut Vec<Refusal>,
     numbered: (usize, &Batch),
@@ -143,7 +143,7 @@ fn write_one(
             | WriteFault::TooLarge
             | WriteFault::DictionariesDiffer),
         ) => {
-            let what = What::Batch(number);
+            let what = RefusedItem::Batch(number);
             Ok(refused.push(Refusal { what, kind })?)
         }
         Err(WriteFault::Sink | WriteFault::Broken | WriteFault::Finished | WriteFault::Memory) =>
@@ -151,9 +151,9 @@ fn write_one(
     }
 }
 
-/// Writes the end marker, and keeps it as a part, or its refusal.
+/// Writes the end marker, and keeps it as a part, or its rejection.
 fn finish(
-    writer: &mut StreamWriter<Kept>,
+    writer: &mut StreamWriter<MemorySink>,
     parts: &mut Vec<Vec<u8>>,
     refused: &mut Vec<Refusal>,
 ) -> Result<(), AllocError>
@@ -168,7 +168,7 @@ fn finish(
             Ok(parts.push(part)?)
         }
         Err(kind @ WriteFault::TooLarge) => {
-            let what = What::Finish;
+            let what = RefusedItem::Finish;
             Ok(refused.push(Refusal { what, kind })?)
         }
         Err(
@@ -182,7 +182,7 @@ fn finish(
     }
 }
 
-/// What was written from this place on.
+/// The bytes from offset `from` on.
 fn part_from(alloc: Global, bytes: &[u8], from: usize) -> Result<Vec<u8>, AllocError>
     requires { from < length bytes.now + 1 }
     ensures { IfOk result (λ v. v.items ≡ drop from bytes.now) }
@@ -193,7 +193,7 @@ fn part_from(alloc: Global, bytes: &[u8], from: usize) -> Result<Vec<u8>, AllocE
 /// What a writer has sent at the end.
 fn sent_of(
     alloc: Global,
-    writer: &StreamWriter<Kept>,
+    writer: &StreamWriter<MemorySink>,
     parts: Vec<Vec<u8>>,
     refused: Vec<Refusal>,
 ) -> Result<Sent, AllocError>
@@ -225,13 +225,13 @@ pub(crate) fn copies(
     Ok(copies)
 }
 
-/// What is told where the schema is refused: nothing was sent.
+/// The result if the schema is rejected: nothing was sent.
 fn nothing_sent(alloc: Global) -> Result<Sent, AllocError>
     ensures { IfOk result IsNothing }
 {
     let mut refused = Vec::new(alloc);
     refused.push(Refusal {
-        what: What::Start,
+        what: RefusedItem::Start,
         kind: WriteFault::TooLarge,
     })?;
     Ok(Sent {

@@ -1,65 +1,46 @@
 //! Connections, from the writer to the reader.
 
 ghost use Rattle.std.specs.Prelude.{◌≡◌, take, IfOk};
-ghost use Rattle.arrowflow_report.specs.Session.{Receives};
+ghost use Rattle.arrowflow_input.specs.Session.{Receives};
 ghost use Rattle.arrowflow_session.specs.Asked.{asked_of};
-ghost use Rattle.arrowflow_session.specs.Report.{IsReport, Reports, told_by};
+ghost use Rattle.arrowflow_session.specs.Report.{IsReport, Reports, reported_by};
 
+pub use crate::connection::Connection;
 pub use crate::refusal::Refusal;
 use crate::sending::{Sent, send_all};
 use arrow_data::{Batch, Dictionary};
 use arrow_stream_reader::StreamReader;
 pub use arrow_stream_writer::Options;
 use arrow_types::{Limits, Schema};
-pub use arrowflow_report::What;
-use arrowflow_report::session::{Received, receive};
+pub use arrowflow_input::RefusedItem;
+use arrowflow_input::session::{Received, receive};
 use std::alloc::{AllocError, Global};
-
-/// What is written to one connection, and how much of it is delivered.
-#[derive(Drop)]
-pub struct Connection {
-    /// The schema, with which the connection begins.
-    pub schema: Schema,
-    /// How the writer sends.
-    pub options: Options,
-    /// The batches, in the order in which they are written.
-    pub batches: Vec<Batch>,
-    /// Whether the end marker is written after them.
-    pub finish: bool,
-    /// How many of the bytes are delivered; all, where there are fewer.
-    pub deliver: u64,
-    /// The lengths of the pieces, in bytes, in which they are delivered. What is left after the
-    /// last one is one piece more; a length past the end takes the rest, and 0 gives an empty
-    /// piece.
-    pub cuts: Vec<usize>,
-}
 
 /// What was written to one connection and received from it.
 #[derive(Drop)]
 pub struct Report {
     /// The bytes that were written: the schema's frame, the frames of each batch that was accepted,
-    /// and the end marker where it was asked for and not refused. None where the schema was
-    /// refused.
+    /// and the end marker if it was asked for and not rejected. None if the schema was rejected.
     pub parts: Vec<Vec<u8>>,
-    /// What the writer refused, in the order of its calls.
+    /// What the writer rejected, in the order of its calls.
     pub refused: Vec<Refusal>,
-    /// The ids and the dictionaries that the writer sent last for them, by rising id.
+    /// The ids and the dictionaries that the writer sent last for them, by ascending id.
     pub writer_dictionaries: Vec<(i64, Dictionary)>,
-    /// What the reader made of the bytes that were delivered.
+    /// What the reader received of the bytes that were delivered.
     pub received: Received,
 }
 
-/// Writes to connections one after the other, and delivers the first bytes of each to one reader.
+/// Writes to connections one after another, and delivers the first bytes of each to one reader.
 ///
-/// A writer is started anew for each connection, and the reader begins anew. A batch that is
-/// refused is skipped, and the next one is written. The reader sees nothing but the bytes.
+/// A new writer is started for each connection, and the reader begins again. A batch that is
+/// rejected is skipped, and the next one is written. The reader sees nothing but the bytes.
 ///
-/// `Reports` (`specs/Report.antt`) says of every list of connections what the reports tell: what
-/// was sent is a stream of the admitted batches; the reader hands out the rows of just those whose
-/// last byte was delivered, in their order, with every index looked up in the dictionaries of the
-/// batch that was given; and after each whole message both ends have the same dictionaries.
+/// `Reports` (`specs/Report.antt`) states, for every list of connections, what the reports contain:
+/// what was sent is a stream of the accepted batches; the reader returns the rows of exactly those
+/// whose last byte was delivered, in their order, with every index looked up in the dictionaries of
+/// the batch that was given; and after each complete message both ends have the same dictionaries.
 ///
-/// `AllocError` where a growth was refused.
+/// Returns `AllocError` if an allocation failed.
 pub fn run(
     alloc: Global,
     limits: &Limits,
@@ -83,7 +64,7 @@ fn run_one(
     connection: &Connection,
 ) -> Result<Report, AllocError>
     requires { reader.old.limits ≡ limits }
-    ensures report { IfOk result (λ r. IsReport limits (asked_of connection.now) (told_by r)) }
+    ensures report { IfOk result (λ r. IsReport limits (asked_of connection.now) (reported_by r)) }
     ensures same { reader.new.limits ≡ limits }
 {
     let Sent {

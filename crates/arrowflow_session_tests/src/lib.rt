@@ -1,5 +1,5 @@
-//! Tests of `arrow_stream_writer` and `arrowflow_session`, in a crate of their own so that the
-//! libraries are not proved once more with them.
+//! Tests of `arrow_stream_writer` and `arrowflow_session`, in a separate crate so that the
+//! libraries are not verified again with them.
 #![tactic(auto)]
 
 #[cfg(test)]

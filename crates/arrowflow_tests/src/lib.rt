@@ -1,5 +1,5 @@
-//! Tests of `arrowflow_report`, `arrowflow_copy`, `arrowflow_drill` and `arrowflow_line`, in a crate
-//! of their own so that these are not proved once more with them.
+//! Tests of `arrowflow_input`, `arrowflow_text`, `arrowflow_copy`, `arrowflow_drill` and `arrowflow_line`, in their
+//! own crate so that those are not proved again with the tests.
 #![tactic(auto)]
 
 #[cfg(test)]

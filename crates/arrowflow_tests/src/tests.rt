@@ -1,6 +1,6 @@
-//! What no clause says and no stream shows: lines and pages, faults that no stream has, limits, how
-//! far inputs are read, columns that are chosen, words of types, and numbers of many digits. What the calls make of
-//! streams else is compared in `arrow_vectors_walk`.
+//! What no clause states and no test vector shows: lines and pages, faults that no stream has,
+//! limits, how far inputs are read, selected columns, words for types, and numbers of many digits.
+//! Everything else that the calls do with streams is compared in `arrow_vectors_walk`.
 
 mod columns;
 mod command_line;
@@ -13,6 +13,6 @@ mod first_rows;
 mod help_pages;
 mod limits;
 mod pieces;
+mod reported;
 mod session;
-mod told;
 mod totals;

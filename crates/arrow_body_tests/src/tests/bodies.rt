@@ -1,6 +1,6 @@
-// Bodies whose buffers are written one after the other, and the columns that they are, as their texts
-// say: `3/1 4/0 | #5, 1 9 3, 'abc'` are two nodes of a length and a number of nulls each, and buffers
-// of bytes, of numbers of four bytes each, and of a text.
+//! Bodies whose buffers are written one after the other, and the columns that they are, given as
+//! texts: `3/1 4/0 | #5, 1 9 3, 'abc'` are two nodes, each of a length and a number of nulls, and
+//! buffers of bytes, of numbers of four bytes each, and of a text.
 
 use arrow_body_reader::{BodyFault, are_fit, load};
 use arrow_data::{Array, Dictionary};
@@ -9,7 +9,7 @@ use arrow_types::{Buffer, FieldNode};
 use bytes::Bytes;
 use std::process::Abort;
 
-// Appends the bytes of a buffer.
+/// Appends the bytes of a buffer.
 pub(super) fn put(rt: &impl Abort, body: &mut Vec<u8>, words: &str) {
     if let Some(text) = words.strip_prefix('\'') {
         let text = text.strip_suffix('\'').expect(rt, "an end of the text");
@@ -50,7 +50,7 @@ pub(super) fn buffer(rt: &impl Abort, offset: usize, length: usize) -> Buffer {
     }
 }
 
-// Where the buffers stand in the body, and the body.
+/// Where the buffers lie in the body, and the body.
 pub(super) fn laid(rt: &(impl Abort + AllocGlobal), words: &str) -> (Vec<Buffer>, Bytes) {
     let mut buffers = Vec::new(rt.alloc());
     let mut body = Vec::new(rt.alloc());
@@ -64,7 +64,7 @@ pub(super) fn laid(rt: &(impl Abort + AllocGlobal), words: &str) -> (Vec<Buffer>
     (buffers, body)
 }
 
-// The nodes and the buffers of a text, and the body; without buffers it has nodes alone.
+/// The nodes and the buffers of a text, and the body; without buffers it has only nodes.
 pub(super) fn parts_of(
     rt: &(impl Abort + AllocGlobal),
     words: &str,
@@ -76,7 +76,7 @@ pub(super) fn parts_of(
     (nodes_in(rt, nodes), buffers, body)
 }
 
-// The columns, or the fault; a dictionary of another type than its field is no case of a test.
+/// The columns, or the fault; no test has a dictionary of a type other than its field's.
 pub(super) fn loaded(
     rt: &(impl Abort + AllocGlobal),
     of: &str,
@@ -94,7 +94,7 @@ fn only(rt: &impl Abort, columns: Result<Vec<Array>, BodyFault>) -> Array {
     columns.pop().expect(rt, "there is a column")
 }
 
-// The dictionary of the values in the one column.
+/// The dictionary of the values in the one column.
 pub(super) fn dictionary(
     rt: &(impl Abort + AllocGlobal),
     columns: Result<Vec<Array>, BodyFault>,
@@ -104,7 +104,7 @@ pub(super) fn dictionary(
     Dictionary::from_array(rt.alloc(), values).expect(rt, "memory")
 }
 
-// Puts the values in the one column behind those of the dictionary.
+/// Appends the values in the one column to those of the dictionary.
 pub(super) fn append(
     rt: &(impl Abort + AllocGlobal),
     dictionary: &mut Dictionary,
@@ -116,7 +116,7 @@ pub(super) fn append(
     dictionary.append(rt.alloc(), values).expect(rt, "memory");
 }
 
-// A list of one dictionary, of this id.
+/// A list of one dictionary, with this id.
 pub(super) fn listed(
     rt: &(impl Abort + AllocGlobal),
     id: i64,

@@ -1,7 +1,7 @@
-// What `load`, `check` and `load_typed` answer to one body, and to nodes that no stream leads to.
+//! What `load`, `check` and `load_typed` return for one body, and for nodes that no stream leads to.
 
 use super::bodies::{dictionary, listed, loaded, parts_of};
-use super::told::{holds, is_text, told};
+use super::reported::{holds, is_text, reported};
 use arrow_body_reader::BodyFault::{Index, Layout, Memory, Text};
 use arrow_body_reader::{BodyFault, are_fit, check, load_typed};
 use arrow_data::{Array, Dictionary, SharedBody, shared_types};
@@ -10,8 +10,8 @@ use arrow_types::Field;
 use std::process::Abort;
 use std::slice;
 
-// The types of fields, their nodes and buffers, and what is to be told. Dictionary 0 has "a", null and
-// "c".
+/// The types of fields, their nodes and buffers, and the expected text. Dictionary 0 has "a", null
+/// and "c".
 type Row = (&'static str, &'static str, &'static str);
 
 static ROWS: [Row; 20] = [
@@ -27,7 +27,7 @@ static ROWS: [Row; 20] = [
         "2/1 2/0 2/0 | #1, #, #1, #, #4 5",
         "2: struct 0 null",
     ),
-    // Decimals, and the same with a byte too few.
+    // Decimals, and the same with one byte too few.
     (
         "decimal[128:38:2]",
         "3/1 | #5, #254 255 255 255 255 255 255 255 255 255 255 255 255 255 255 255 \
@@ -67,7 +67,7 @@ static ROWS: [Row; 20] = [
         "1/0 | #, #0 0 0 0 0 0 0 0 0 0 0 0 0 0 0 0 0 0 0 0 0 0 0 0 0 0 0 0 0 0 0",
         "Layout",
     ),
-    // A number too few, a text that is none, and an index without a value.
+    // A number too few, bytes that are not a text, and an index without a value.
     ("int32", "3/0 | #, 1 2", "Layout"),
     (
         "by:0:int32 utf8 utf8",
@@ -75,14 +75,14 @@ static ROWS: [Row; 20] = [
         "Text",
     ),
     ("by:0:int32 utf8", "1/0 | #, 3", "Index"),
-    // The most nulls, and one more.
+    // The greatest number of nulls, and one more.
     (
         "null",
         "2147483647/7",
         "2147483647: null null null null null null null null",
     ),
     ("null", "2147483648/7", "Layout"),
-    // Nodes of less than no slots, and of more than there can be.
+    // Nodes with fewer than 0 slots, and with more than there can be.
     ("int32", "-1/0 | #, 1", "Layout"),
     ("int32", "2147483648/0 | #, 1", "Layout"),
     ("int32", "9223372036854775807/-1 | #, 1", "Layout"),
@@ -93,7 +93,7 @@ fn letters(rt: &(impl Abort + AllocGlobal)) -> Vec<(i64, Dictionary)> {
     listed(rt, 0, dictionary(rt, values))
 }
 
-// What is answered with types that were made before; the bytes alone have the same fault.
+/// The result with types that were made before; the bytes alone have the same fault.
 fn loaded_typed(
     rt: &(impl Abort + AllocGlobal),
     (of, parts, _): &Row,
@@ -119,7 +119,7 @@ fn loaded_typed(
     columns
 }
 
-// That columns are of the fields' types, or that the fault is this one.
+/// Asserts that columns have the fields' types, or that the fault is this one.
 fn is_checked(
     rt: &impl Abort,
     name: &str,
@@ -136,7 +136,7 @@ fn is_checked(
     holds(rt, name, is_so);
 }
 
-// Whether the columns are of the fields' types.
+/// Whether the columns have the fields' types.
 fn are_typed(fields: &[Field], columns: &[Array]) -> bool {
     if fields.len() != columns.len() {
         return false;
@@ -149,7 +149,7 @@ fn are_typed(fields: &[Field], columns: &[Array]) -> bool {
     true
 }
 
-// Whether the children of the columns are of the types of the fields below.
+/// Whether the children of the columns have the types of the fields below.
 fn are_children_typed(fields: &[Field], columns: &[Array]) -> bool {
     if fields.len() != columns.len() {
         return false;
@@ -169,11 +169,11 @@ fn are_children_typed(fields: &[Field], columns: &[Array]) -> bool {
 }
 
 fn compare(rt: &(impl Abort + AllocGlobal), row: &Row, dictionaries: &[(i64, Dictionary)]) {
-    let (of, parts, want) = row;
+    let (of, parts, expected) = row;
     let columns = loaded(rt, of, parts, dictionaries);
-    is_text(rt, parts, &told(rt, &columns), want);
+    is_text(rt, parts, &reported(rt, &columns), expected);
     let columns = loaded_typed(rt, row, dictionaries);
-    is_text(rt, parts, &told(rt, &columns), want);
+    is_text(rt, parts, &reported(rt, &columns), expected);
 }
 
 #[test]
@@ -184,7 +184,7 @@ fn one_body_by_three_calls(rt: HostRuntime) {
     }
 }
 
-// The faults with their numbers and words.
+/// The faults with their numbers and texts.
 static FAULT_WORDS: [(BodyFault, &str); 4] = [
     (Layout, "1 nodes and buffers that do not fit the body"),
     (Text, "2 a text that is not UTF-8"),
@@ -194,8 +194,8 @@ static FAULT_WORDS: [(BodyFault, &str); 4] = [
 
 #[test]
 fn faults_have_their_numbers(rt: HostRuntime) {
-    for &(fault, want) in &FAULT_WORDS {
+    for &(fault, expected) in &FAULT_WORDS {
         let words = format!(in rt.alloc(); "{} {fault}", fault.number()).expect(&rt, "memory");
-        is_text(&rt, "fault", &words, want);
+        is_text(&rt, "fault", &words, expected);
     }
 }

@@ -1,20 +1,20 @@
-// How many nodes fields take, and how many slots they have.
+//! The number of nodes that fields take, and the number of slots that they have.
 
 use super::bodies::nodes_in;
-use arrow_body_reader::{have_length, nodes_of};
+use arrow_body_reader::{check_row_count, nodes_of};
 use arrow_test_fields::fields_of;
 use std::process::Abort;
 
-// A list of numbers and indices: two nodes and one.
+/// A list of numbers and indices: two nodes and one.
 const TWO: &str = "list int32 by:0:int32 utf8";
 
-// The same, and a struct of a struct of a truth value: three nodes.
+/// The same, and a struct of a struct of booleans: three nodes.
 const THREE: &str = "list int32 by:0:int32 utf8 struct[1] struct[1] bool";
 
-// The nodes of these fields, and two more.
+/// The nodes of these fields, and two more.
 const NODES: &str = "3/0 8/0 3/0 3/0 4/0 5/0 9/0 9/0";
 
-// Fields, the nodes that are there, and the nodes that they take.
+/// Fields, the nodes that are there, and the nodes that they take.
 static TAKEN: [(&str, &str, &str); 6] = [
     (THREE, NODES, "3/0 8/0 3/0 3/0 4/0 5/0"),
     ("list int32", NODES, "3/0 8/0"),
@@ -26,19 +26,19 @@ static TAKEN: [(&str, &str, &str); 6] = [
 
 #[test]
 fn the_nodes_that_fields_take(rt: HostRuntime) {
-    for (of, nodes, want) in &TAKEN {
-        let (nodes, want) = (nodes_in(&rt, nodes), nodes_in(&rt, want));
+    for (of, nodes, expected) in &TAKEN {
+        let (nodes, expected) = (nodes_in(&rt, nodes), nodes_in(&rt, expected));
         assert_eq!(rt;
             nodes_of(&fields_of(rt.alloc(), of).expect(&rt, "fields"), &nodes),
-            want.as_slice(),
+            expected.as_slice(),
             "{of}"
         );
     }
 }
 
-// Fields, their nodes, a number of rows, and whether the fields have it.
+/// Fields, their nodes, a number of rows, and whether the fields have that number.
 static LENGTHS: [(&str, &str, usize, bool); 11] = [
-    // Only the own nodes of the fields count, not those below.
+    // Only the fields' own nodes count, not those of the fields below.
     (THREE, NODES, 3, true),
     (THREE, NODES, 2, false),
     (THREE, "3/0 8/0 3/0 3/0", 3, true),
@@ -46,7 +46,7 @@ static LENGTHS: [(&str, &str, usize, bool); 11] = [
     (TWO, "3/0 8/0 3/0", 3, true),
     (THREE, "3/0 8/0 3/0 4/0 4/0 5/0", 3, false),
     (TWO, "3/0 8/0 3/0 4/0 4/0 5/0", 3, true),
-    // A missing node and one of a negative length count as no slots.
+    // A missing node and one with a negative length count as having no slots.
     (THREE, "", 0, true),
     (THREE, "", 1, false),
     (THREE, "-3/0", 0, true),
@@ -54,7 +54,7 @@ static LENGTHS: [(&str, &str, usize, bool); 11] = [
 ];
 
 fn has_length(rt: &(impl Abort + AllocGlobal), of: &str, nodes: &str, rows: usize) -> bool {
-    have_length(
+    check_row_count(
         &fields_of(rt.alloc(), of).expect(rt, "fields"),
         &nodes_in(rt, nodes),
         rows,
@@ -63,7 +63,11 @@ fn has_length(rt: &(impl Abort + AllocGlobal), of: &str, nodes: &str, rows: usiz
 
 #[test]
 fn columns_of_one_length(rt: HostRuntime) {
-    for (of, nodes, rows, want) in &LENGTHS {
-        assert_eq!(rt; has_length(&rt, of, nodes, *rows), *want, "{nodes} {rows}");
+    for (of, nodes, rows, expected) in &LENGTHS {
+        assert_eq!(rt;
+            has_length(&rt, of, nodes, *rows),
+            *expected,
+            "{nodes} {rows}"
+        );
     }
 }

@@ -1,5 +1,5 @@
-// Columns and dictionaries of decimals, laid out as a body: rows as in `stored`. Numbers of four bytes
-// each are a quarter of a decimal of 128 bits, its lowest bits first.
+//! Columns and dictionaries of decimals, laid out as a body: rows as in `stored`. A number of four
+//! bytes is a quarter of a decimal of 128 bits; the lowest bits come first.
 
 use super::stored::{are_rests, are_stored};
 

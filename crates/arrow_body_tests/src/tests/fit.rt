@@ -1,14 +1,14 @@
-// Whether dictionaries have the types that fields ask for.
+//! Whether dictionaries have the types that fields ask for.
 
 use super::bodies::{dictionary, listed, loaded};
-use super::told::holds;
+use super::reported::holds;
 use arrow_body_reader::are_fit;
 use arrow_data::Dictionary;
 use arrow_test_fields::fields_of;
 use std::process::Abort;
 
-// The types of the fields, the type of the values of dictionary 0, or nothing where there is none, and
-// whether both fit.
+/// The types of the fields, the type of the values of dictionary 0, or nothing if there is none, and
+/// whether they fit.
 static FITTING: [(&str, &str, bool); 23] = [
     ("by:0:int8 utf8", "", true),
     ("by:0:int8 utf8", "utf8", true),
@@ -43,12 +43,12 @@ static FITTING: [(&str, &str, bool); 23] = [
     ("utf8 by:0:int8 utf8", "binary", false),
     ("list struct[2] bool by:0:int8 utf8", "utf8", true),
     ("list struct[2] bool by:0:int8 utf8", "binary", false),
-    // A dictionary below a dictionary, and below one of lists.
+    // A dictionary below a dictionary, and below a dictionary of lists.
     ("by:0:int8 struct[1] by:1:int8 utf8", "", false),
     ("by:0:int8 list struct[1] by:1:int8 utf8", "", false),
 ];
 
-// Dictionary 0 without values, where a type is given.
+/// Dictionary 0 without values, if a type is given.
 fn empty(rt: &(impl Abort + AllocGlobal), of: &str) -> Vec<(i64, Dictionary)> {
     if of.is_empty() {
         return Vec::new(rt.alloc());
@@ -66,7 +66,7 @@ fn fit(rt: &(impl Abort + AllocGlobal), of: &str, values: &str) -> bool {
 
 #[test]
 fn dictionaries_of_their_types(rt: HostRuntime) {
-    for (of, values, want) in &FITTING {
-        holds(&rt, of, fit(&rt, of, values) == *want);
+    for (of, values, expected) in &FITTING {
+        holds(&rt, of, fit(&rt, of, values) == *expected);
     }
 }

@@ -1,28 +1,28 @@
-// Dictionaries of just as many values, and of just as many bytes, as a body tells of, and of one
-// more. Each is one array again and again.
+//! Dictionaries with exactly as many values, and exactly as many bytes, as a body can have, and with
+//! one more. Each is one array repeated.
 
 use super::bodies::{append, dictionary, nodes_in};
-use super::told::holds;
+use super::reported::holds;
 use arrow_body_reader::{BodyFault, are_fit, load};
-use arrow_body_writer::{Align, Body, StoreFault, rest_size, store_rest_in};
+use arrow_body_writer::{Align, Body, BodyStoreFault, rest_size, store_rest_in};
 use arrow_data::{Array, Dictionary};
 use arrow_test_fields::fields_of;
 use arrow_types::{Buffer, Field, FieldNode};
 use bytes::Bytes;
 use std::process::Abort;
 
-// The bytes behind the first ones of a body, all alike: 2^22.
+/// The number of bytes after the first ones of a body, all equal: 2^22.
 const LETTERS: usize = 4_194_304;
 
-// An array: its type, its node, the first bytes of its body, and where its buffers end in it, one
-// behind the other.
+/// An array: its type, its node, the first bytes of its body, and where its buffers end in it, one
+/// after the other.
 type Piece = (&'static str, &'static str, &'static [u8], &'static [i64]);
 
-// 2^25 truth values: 64 times as many are 2^31.
+/// 2^25 booleans: 64 times that many are 2^31.
 const TRUTHS: Piece = ("bool", "33554432/0", &[], &[0, 4_194_304]);
 
-// Two texts, of one letter and of the others, behind offsets of 32 and of 64 bits: 512 times 2^22
-// letters are 2^31.
+/// Two texts, one of one letter and one of the other letters, after offsets of 32 and of 64 bits:
+/// 512 times 2^22 letters are 2^31.
 const SMALL: &[u8] = &[0, 0, 0, 0, 1, 0, 0, 0, 0, 0, 64, 0];
 
 const LARGE: &[u8] = b"\0\0\0\0\0\0\0\0\x01\0\0\0\0\0\0\0\0\0\x40\0\0\0\0\0";
@@ -33,9 +33,9 @@ const BYTES: Piece = ("binary", "2/0", SMALL, &[0, 12, 4_194_316]);
 
 const LARGE_TEXTS: Piece = ("large_utf8", "2/0", LARGE, &[0, 24, 4_194_328]);
 
-// Names, an array, how often it is put into the dictionary, from which value on this is laid out,
-// and in how many bytes. From the second text on there are 1,024 offsets and 2^31 - 1 bytes, of
-// large texts 1,025 offsets and 2^31 bytes.
+/// Names, an array, how often it is put into the dictionary, from which value on the dictionary is
+/// laid out, and in how many bytes. From the second text on there are 1,024 offsets and 2^31 - 1
+/// bytes, for large texts 1,025 offsets and 2^31 bytes.
 static CASES: [(&str, Piece, usize, usize, Option<u64>); 7] = [
     ("truths", TRUTHS, 64, 0, None),
     ("truths but one", TRUTHS, 64, 1, Some(268_435_456)),
@@ -46,7 +46,7 @@ static CASES: [(&str, Piece, usize, usize, Option<u64>); 7] = [
     ("large texts", LARGE_TEXTS, 512, 0, Some(2_147_491_848)),
 ];
 
-// What an array is loaded of.
+/// What an array is loaded from.
 #[derive(Drop)]
 struct Loading {
     fields: Vec<Field>,
@@ -78,7 +78,7 @@ impl Loading {
     }
 }
 
-// The first bytes, and so many letters.
+/// The first bytes, followed by `LETTERS` letters.
 fn body_of(rt: &(impl Abort + AllocGlobal), front: &[u8]) -> Bytes {
     let letters = Vec::from_elem(rt.alloc(), b'n', LETTERS).expect(rt, "memory");
     let mut body = Vec::from_slice(rt.alloc(), front).expect(rt, "memory");
@@ -98,7 +98,7 @@ fn places(rt: &(impl Abort + AllocGlobal), ends: &[i64]) -> Vec<Buffer> {
     buffers
 }
 
-// The array is loaded as often as it is put in.
+/// The array is loaded as often as it is put into the dictionary.
 fn again_and_again(rt: &(impl Abort + AllocGlobal), piece: &Piece, times: usize) -> Dictionary {
     let loading = Loading::of(rt, piece);
     let mut whole = dictionary(rt, loading.array(rt));
@@ -116,7 +116,7 @@ fn the_most_values_and_bytes(rt: HostRuntime) {
         if size.is_none() {
             let mut room = Body::new(rt.alloc());
             let stored = store_rest_in(&mut room, &whole, *from, Align::Eight);
-            holds(&rt, name, stored == Err(StoreFault::TooLarge));
+            holds(&rt, name, stored == Err(BodyStoreFault::TooLarge));
         }
     }
 }

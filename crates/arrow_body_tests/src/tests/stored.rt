@@ -1,11 +1,12 @@
-// Columns, and the rest of dictionaries, laid out as a body: what stood under a null is gone.
-//
-// Each row names it, the types of its columns, their nodes and buffers, and behind an arrow the body
-// that is stored: its alignment, its nodes, its buffers with their places, and how many bytes it has,
-// which are 0 where no buffer is.
+//! Columns, and the ends of dictionaries from a value on, laid out as a body: bytes under nulls are
+//! gone.
+//!
+//! Each row has its name, the types of its columns, their nodes and buffers, and after an arrow the
+//! body that is stored: its alignment, its nodes, its buffers with their offsets, and its number of
+//! bytes; bytes that lie in no buffer are 0.
 
 use super::bodies::{append, buffer, dictionary, loaded, nodes_in, put};
-use super::told::holds;
+use super::reported::holds;
 use arrow_body_writer::{
     Align, Body, body_size, rest_size, store, store_in, store_rest, store_rest_in,
 };
@@ -19,10 +20,10 @@ static COLUMNS: [&str; 12] = [
     "a validity of no nulls: int32 | 2/0 | #255, 1 2 => 64 | 2/0 | # @0, 1 2 @0 | 64",
     "an item under a null: list int32 | 3/1 4/0 | #5, 0 2 3 4, #, 1 2 7 3 \
     => 8 | 3/1 3/0 | #5 @0, 0 2 2 3 @8, # @24, 1 2 3 @24 | 40",
-    // The null list hides 7 and 3, and no list has 6: two nulls are sent in place of its items.
+    // The null list hides 7 and 3, and no list has 6: two nulls are stored in place of its items.
     "items under a null fixed-size list: fixed_size_list[2] int32 | 3/1 7/0 | #5, #, 1 2 7 3 4 5 6 \
     => 8 | 3/1 6/2 | #5 @0, #51 @8, 1 2 0 0 4 5 @16 | 40",
-    "a null beside them: fixed_size_list[2] int32 | 2/1 4/1 | #2, #11, 1 2 7 3 \
+    "a null next_to them: fixed_size_list[2] int32 | 2/1 4/1 | #2, #11, 1 2 7 3 \
     => 8 | 2/1 4/3 | #2 @0, #8 @8, 0 0 0 3 @16 | 32",
     "fixed-size lists without nulls: fixed_size_list[2] int32 | 2/0 4/0 | #, #, 1 2 7 3 \
     => 8 | 2/0 4/0 | # @0, # @0, 1 2 7 3 @0 | 16",
@@ -38,14 +39,14 @@ static COLUMNS: [&str; 12] = [
     => 8 | 2/1 2/1 | #1 @0, #1 @8, 0 1 1 @16, 'a' @32 | 40",
     "a number under a null struct: struct[1] int32 | 3/1 4/0 | #5, #, 1 9 3 7 \
     => 8 | 3/1 3/1 | #5 @0, #5 @8, 1 0 3 @16 | 32",
-    "a null number beside it: struct[1] int32 | 3/1 3/1 | #5, #6, 1 9 3 \
+    "a null number next_to it: struct[1] int32 | 3/1 3/1 | #5, #6, 1 9 3 \
     => 8 | 3/1 3/2 | #5 @0, #4 @8, 0 0 3 @16 | 32",
 ];
 
-// Dictionaries of one segment or of two, and from which value on they are stored. The texts are "a",
-// "b", "c", "d" and "e", where the second segment has a byte before its first value.
+/// Dictionaries with one segment or two, and the value from which on they are stored. The texts are
+/// "a", "b", "c", "d" and "e"; the second segment has a byte before its first value.
 static RESTS: [&str; 10] = [
-    "behind the third: utf8 | 5/0 | #, 0 1 2 3 4 5, 'abcde' from 3 \
+    "after the third: utf8 | 5/0 | #, 0 1 2 3 4 5, 'abcde' from 3 \
     => 8 | 2/0 | # @0, 0 1 2 @0, 'de' @16 | 24",
     "all of one segment: utf8 | 5/0 | #, 0 1 2 3 4 5, 'abcde' from 0 \
     => 8 | 5/0 | # @0, 0 1 2 3 4 5 @0, 'abcde' @24 | 32",
@@ -57,11 +58,11 @@ static RESTS: [&str; 10] = [
     => 64 | 2/0 | # @0, 0 1 2 @0, 'de' @64 | 128",
     "all of both segments: utf8 | 3/0 | #, 0 1 2 3, 'abc' + 2/0 | #, 1 2 3, 'xde' from 0 \
     => 8 | 5/0 | # @0, 0 1 2 3 4 5 @0, 'abcde' @24 | 32",
-    // "a", none with "z" under it, and "bc": the rest from none on.
+    // "a", a null with "z" under it, and "bc": stored from the null on.
     "from a null on: utf8 | 2/1 | #1, 0 1 2, 'az' + 1/0 | #, 0 2, 'bc' from 1 \
     => 8 | 2/1 | #2 @0, 0 0 2 @8, 'bc' @24 | 32",
     "numbers: int32 | 2/0 | #, 1 2 + 1/0 | #, 3 from 1 => 8 | 2/0 | # @0, 2 3 @0 | 8",
-    // The lists [1, 2] and none, then [3], from none on.
+    // The lists [1, 2] and a null, then [3], from the null on.
     "lists: list int32 | 2/1 3/0 | #1, 0 2 3, #, 1 2 7 + 1/0 1/0 | #, 0 1, #, 3 from 1 \
     => 8 | 2/1 1/0 | #2 @0, 0 0 1 @8, # @24, 3 @24 | 32",
     "nulls have no buffer: null | 3/3 + 4/4 from 2 => 8 | 5/5 |  | 0",
@@ -75,7 +76,7 @@ fn align_in(rt: &impl Abort, word: &str) -> Align {
     }
 }
 
-// A body that is to be stored.
+/// A body that is expected.
 #[derive(Drop)]
 struct Wanted {
     align: Align,
@@ -85,7 +86,7 @@ struct Wanted {
 }
 
 impl Wanted {
-    // The body of a text.
+    /// The body of a text.
     fn of(rt: &(impl Abort + AllocGlobal), words: &str) -> Wanted {
         let (align, words) = words.split_once(" | ").expect(rt, "nodes");
         let (nodes, words) = words.split_once(" | ").expect(rt, "buffers");
@@ -105,7 +106,7 @@ impl Wanted {
         wanted
     }
 
-    // Puts a buffer in its place.
+    /// Puts a buffer at its offset.
     fn put(&mut self, rt: &(impl Abort + AllocGlobal), words: &str, place: usize) {
         let mut held = Vec::new(rt.alloc());
         put(rt, &mut held, words);
@@ -117,13 +118,13 @@ impl Wanted {
         self.buffers.push(buffer).expect(rt, "memory");
     }
 
-    // Whether the body is as it should be.
+    /// Whether the body is the expected one.
     fn is(&self, body: &Body) -> bool {
         body.nodes == self.nodes && body.buffers == self.buffers && body.bytes == self.bytes
     }
 }
 
-// Stores the columns in new room and in this one: None where a body is not as it should be.
+/// Stores the columns in a new body and in this one: `None` if a body is not the expected one.
 fn store_twice(alloc: Global, room: &mut Body, columns: &[Array], wanted: &Wanted) -> Option<()> {
     let size = body_size(columns, wanted.align)?;
     let first = store(alloc, columns, wanted.align).ok()?;
@@ -133,7 +134,7 @@ fn store_twice(alloc: Global, room: &mut Body, columns: &[Array], wanted: &Wante
     is_so.then_some(())
 }
 
-// That the columns of rows are stored as these say.
+/// Asserts that the columns of rows are stored as the rows say.
 pub(super) fn are_stored(rt: &(impl Abort + AllocGlobal), rows: &[&str]) {
     let mut room = Body::new(rt.alloc());
     for row in rows {
@@ -151,7 +152,7 @@ fn columns_are_laid_out_again(rt: HostRuntime) {
     are_stored(&rt, &COLUMNS);
 }
 
-// The dictionary of segments.
+/// The dictionary with these segments.
 fn of_segments(rt: &(impl Abort + AllocGlobal), of: &str, segments: &str) -> Dictionary {
     let mut whole: Option<Dictionary> = None;
     for parts in segments.split(" + ") {
@@ -164,7 +165,7 @@ fn of_segments(rt: &(impl Abort + AllocGlobal), of: &str, segments: &str) -> Dic
     whole.expect(rt, "a segment")
 }
 
-// The same of the rest of a dictionary.
+/// The same for a dictionary from a value on.
 fn store_rest_twice(
     alloc: Global,
     room: &mut Body,
@@ -179,7 +180,7 @@ fn store_rest_twice(
     is_so.then_some(())
 }
 
-// The same of the rests of dictionaries.
+/// The same for dictionaries from a value on.
 pub(super) fn are_rests(rt: &(impl Abort + AllocGlobal), rows: &[&str]) {
     let mut room = Body::new(rt.alloc());
     for row in rows {

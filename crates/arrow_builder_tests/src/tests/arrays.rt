@@ -1,7 +1,7 @@
-// Arrays of the same values with other dictionaries.
+//! Arrays of the same values with other dictionaries.
 
 use super::building::{array, builder, dictionary, fault_of, listed, push_all, pushed};
-use super::told::{is_number, is_text, told};
+use super::reported::{is_number, is_text, reported};
 use super::values::value;
 use arrow_builder::{ArrayBuilder, ArrayFault, PushFault};
 use arrow_data::{Array, Buffers, Dictionary};
@@ -15,10 +15,10 @@ const AB: &str = "7 utf8 = 'a' 'b'";
 
 const A: &str = "7 utf8 = 'a'";
 
-// The dictionaries that are listed, and what the array shows, or the number of the fault.
+/// The dictionaries that are listed, and the content of the array, or the number of the fault.
 type Finish = (&'static str, &'static str);
 
-// The type of a column and its values; how it is finished, again and again.
+/// The type of a column and its values; how it is finished, again and again.
 static FINISHES: [(&str, &str, &[Finish]); 9] = [
     (
         "by:7:uint8 utf8",
@@ -104,10 +104,10 @@ static FINISHES: [(&str, &str, &[Finish]); 9] = [
     ),
 ];
 
-// What an array shows, or the number of the fault.
+/// The content of an array, or the number of the fault.
 fn answered(rt: &(impl Abort + AllocGlobal), answer: Result<Array, ArrayFault>) -> String {
     match answer {
-        Ok(array) => told(rt, &array),
+        Ok(array) => reported(rt, &array),
         Err(fault) => format!(in rt.alloc(); "fault {}", fault.number()).expect(rt, MEMORY),
     }
 }
@@ -116,14 +116,14 @@ fn answered(rt: &(impl Abort + AllocGlobal), answer: Result<Array, ArrayFault>) 
 fn finished_again_and_again(rt: HostRuntime) {
     for (words, values, finishes) in &FINISHES {
         let column = pushed(&rt, words, values);
-        for (all, want) in *finishes {
+        for (all, expected) in *finishes {
             let answer = column.finish(rt.alloc(), &listed(&rt, all));
-            is_text(&rt, all, &answered(&rt, answer), want);
+            is_text(&rt, all, &answered(&rt, answer), expected);
         }
     }
 }
 
-// Whether the slots of two arrays are the same, one by one.
+/// Whether the slots of two arrays are the same, one by one.
 fn are_same(array: &Array, other: &Array) -> bool {
     if array.len() != other.len() {
         return false;
@@ -136,10 +136,10 @@ fn are_same(array: &Array, other: &Array) -> bool {
     true
 }
 
-// That the array which a builder now makes has the same slots as another one, or that it has not.
-fn is_same(rt: &(impl Abort + AllocGlobal), before: &Array, column: &ArrayBuilder, want: bool) {
+/// That the array that a builder now makes has the same slots as another one, or does not.
+fn is_same(rt: &(impl Abort + AllocGlobal), before: &Array, column: &ArrayBuilder, expected: bool) {
     let is_same = are_same(before, &array(rt, column));
-    assert_eq!(rt; is_same, want);
+    assert_eq!(rt; is_same, expected);
 }
 
 #[test]
@@ -149,11 +149,11 @@ fn grown_after_an_array_was_made(rt: HostRuntime) {
     is_same(&rt, &before, &column, true);
     push_all(&rt, &mut column, "[ 3 ]");
     is_same(&rt, &before, &column, false);
-    is_text(&rt, "before", &told(&rt, &before), "[ 1 2 ], null");
+    is_text(&rt, "before", &reported(&rt, &before), "[ 1 2 ], null");
     is_text(
         &rt,
         "after",
-        &told(&rt, &array(&rt, &column)),
+        &reported(&rt, &array(&rt, &column)),
         "[ 1 2 ], null, [ 3 ]",
     );
 }
@@ -164,7 +164,7 @@ fn offsets_are_one_more_than_slots(rt: HostRuntime) {
     assert!(rt; matches!(texts.buffers(), Buffers::Texts(of) if of.offsets.len() == 12));
 }
 
-// An index, how many values there are, and the number of the fault or 0.
+/// An index, how many values there are, and the number of the fault or 0.
 static AMONG_MANY: [(&str, &str, usize, u8); 6] = [
     ("by:7:uint8 utf8", "255", 256, 0),
     ("by:7:uint8 utf8", "255", 255, 2),
@@ -174,7 +174,7 @@ static AMONG_MANY: [(&str, &str, usize, u8); 6] = [
     ("by:7:int8 utf8", "-128", 300, 2),
 ];
 
-// The dictionary 7 of so many texts.
+/// The dictionary 7 of `count` texts.
 fn letters(rt: &(impl Abort + AllocGlobal), count: usize) -> Vec<(i64, Dictionary)> {
     let letter = value(rt, "'a'", 0);
     let mut column = builder(rt, "utf8");
@@ -190,14 +190,14 @@ fn letters(rt: &(impl Abort + AllocGlobal), count: usize) -> Vec<(i64, Dictionar
 
 #[test]
 fn indices_of_8_bits_with_and_without_a_sign(rt: HostRuntime) {
-    for (words, index, count, want) in &AMONG_MANY {
+    for (words, index, count, expected) in &AMONG_MANY {
         let column = pushed(&rt, words, index);
         let fault = fault_of(column.finish(rt.alloc(), &letters(&rt, *count)));
-        is_number(&rt, index, usize::from(fault), usize::from(*want));
+        is_number(&rt, index, usize::from(fault), usize::from(*expected));
     }
 }
 
-// The faults, and their numbers and words.
+/// The faults, and their numbers and texts.
 const PUSH_FAULTS: [PushFault; 3] = [PushFault::DoesNotFit, PushFault::TooLong, PushFault::Memory];
 
 static PUSH_WORDS: [&str; 3] = [
@@ -219,13 +219,13 @@ static ARRAY_WORDS: [&str; 3] = [
 ];
 
 #[test]
-fn faults_are_told(rt: HostRuntime) {
-    for (&fault, want) in PUSH_FAULTS.iter().zip(&PUSH_WORDS) {
+fn faults_are_reported(rt: HostRuntime) {
+    for (&fault, expected) in PUSH_FAULTS.iter().zip(&PUSH_WORDS) {
         let got = format!(in rt.alloc(); "{} {fault}", fault.number()).expect(&rt, MEMORY);
-        is_text(&rt, "a value's fault", &got, want);
+        is_text(&rt, "a value's fault", &got, expected);
     }
-    for (&fault, want) in ARRAY_FAULTS.iter().zip(&ARRAY_WORDS) {
+    for (&fault, expected) in ARRAY_FAULTS.iter().zip(&ARRAY_WORDS) {
         let got = format!(in rt.alloc(); "{} {fault}", fault.number()).expect(&rt, MEMORY);
-        is_text(&rt, "an array's fault", &got, want);
+        is_text(&rt, "an array's fault", &got, expected);
     }
 }

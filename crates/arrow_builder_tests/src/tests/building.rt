@@ -1,4 +1,4 @@
-// Builders, and the arrays that they make.
+//! Builders, and the arrays that they make.
 
 use super::values::values;
 use arrow_builder::{ArrayBuilder, ArrayFault};
@@ -9,7 +9,7 @@ use std::process::Abort;
 
 const MEMORY: &str = "memory";
 
-// The builder of a field of these words.
+/// The builder of a field that these words describe.
 pub(super) fn builder(rt: &(impl Abort + AllocGlobal), words: &str) -> ArrayBuilder {
     of_schema(rt, &schema_of(rt.alloc(), words).expect(rt, "schema"))
 }
@@ -20,32 +20,32 @@ fn of_schema(rt: &(impl Abort + AllocGlobal), schema: &Schema) -> ArrayBuilder {
     ArrayBuilder::new(rt.alloc(), &fields[0]).expect(rt, MEMORY)
 }
 
-// Puts the values of a text behind the others.
+/// Puts the values of a text after the others.
 pub(super) fn push_all(rt: &(impl Abort + AllocGlobal), column: &mut ArrayBuilder, text: &str) {
     for value in &values(rt, text, 0) {
         column.push(value).expect(rt, "a value that fits");
     }
 }
 
-// The column of these values.
+/// The column of these values.
 pub(super) fn pushed(rt: &(impl Abort + AllocGlobal), words: &str, text: &str) -> ArrayBuilder {
     let mut column = builder(rt, words);
     push_all(rt, &mut column, text);
     column
 }
 
-// The array of a column without dictionaries.
+/// The array of a column without dictionaries.
 pub(super) fn array(rt: &(impl Abort + AllocGlobal), column: &ArrayBuilder) -> Array {
     column.finish(rt.alloc(), &[]).expect(rt, "an array")
 }
 
-// The dictionary of an array that refers to no dictionary.
+/// The dictionary of an array that refers to no dictionary.
 pub(super) fn dictionary(rt: &(impl Abort + AllocGlobal), values: Array) -> Dictionary {
     assert!(rt; values.encoding().is_none() && !values.data_type().has_encoding_below());
     Dictionary::from_array(rt.alloc(), values).expect(rt, MEMORY)
 }
 
-// Dictionaries out of text, each by its id, its type and its values: `7 utf8 = 'a' 'b'; 8 bool =`.
+/// Dictionaries from a text, each by its id, its type and its values: `7 utf8 = 'a' 'b'; 8 bool =`.
 pub(super) fn listed(rt: &(impl Abort + AllocGlobal), text: &str) -> Vec<(i64, Dictionary)> {
     let mut listed = Vec::new(rt.alloc());
     if text.is_empty() {
@@ -61,7 +61,7 @@ pub(super) fn listed(rt: &(impl Abort + AllocGlobal), text: &str) -> Vec<(i64, D
     listed
 }
 
-// The number of the fault, or 0.
+/// The number of the fault, or 0.
 pub(super) fn fault_of(answer: Result<Array, ArrayFault>) -> u8 {
     match answer {
         Ok(_) => 0,

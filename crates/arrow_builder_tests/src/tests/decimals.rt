@@ -1,18 +1,18 @@
-// Decimals that are pushed, and read back out of the column.
+//! Decimals that are pushed, and read back from the column.
 
 use super::building::{array, builder};
-use super::told::is_number;
+use super::reported::is_number;
 use arrow_builder::{ArrayBuilder, PushFault};
 use arrow_data::{Array, Decimal, Value};
 use std::process::Abort;
 
 const MEMORY: &str = "memory";
 
-// What is above the lowest 128 bits of a whole number, and these bits without a sign.
+/// The bits of a whole number above its lowest 128 bits, and these as an unsigned number.
 type Halves = (i128, u128);
 
-// The type of a column of at most 128 bits and its scale; whole numbers, and the parts of the decimals
-// of them. That a number has more digits than the precision is looked at nowhere.
+/// The type of a column of at most 128 bits and its scale; whole numbers, and the parts of the
+/// decimals of them. No check rejects a number that has more digits than the precision.
 static NUMBERS: [(&str, i8, &[(i128, Halves)]); 4] = [
     (
         "decimal[32:9:2]",
@@ -67,7 +67,7 @@ static NUMBERS: [(&str, i8, &[(i128, Halves)]); 4] = [
     ),
 ];
 
-// Puts a null after the numbers.
+/// Puts a null after the numbers.
 fn push_numbers(rt: &impl Abort, column: &mut ArrayBuilder, rows: &[(i128, Halves)]) {
     for (number, _) in rows {
         column
@@ -77,22 +77,22 @@ fn push_numbers(rt: &impl Abort, column: &mut ArrayBuilder, rows: &[(i128, Halve
     column.push(&Value::Null).expect(rt, "a null fits");
 }
 
-// The decimal in slot `i`.
+/// The decimal in slot `i`.
 fn decimal_in(rt: &impl Abort, column: &Array, i: usize) -> Option<Decimal> {
     assert!(rt; i < column.len());
     column.decimal_at(i)
 }
 
-// That the slots have the decimals of these numbers, and the last is null.
+/// That the slots have the decimals of these numbers, and the last is null.
 fn have_numbers(rt: &impl Abort, column: &Array, scale: i8, rows: &[(i128, Halves)]) {
     is_number(rt, "slots", column.len(), rows.len().saturating_add(1));
     for (i, (number, (high, low))) in rows.iter().enumerate() {
-        let want = Decimal {
+        let expected = Decimal {
             high: *high,
             low: *low,
             scale,
         };
-        assert_eq!(rt; decimal_in(rt, column, i), Some(want), "{number}");
+        assert_eq!(rt; decimal_in(rt, column, i), Some(expected), "{number}");
     }
     assert!(rt; decimal_in(rt, column, rows.len()).is_none(), "{scale}");
 }
@@ -106,8 +106,8 @@ fn numbers_come_back(rt: HostRuntime) {
     }
 }
 
-// The halves of whole numbers of 256 bits: of 1.25, of -1.25, of 10^57, of the greatest number of 76
-// digits, and of the greatest and the least number.
+/// The halves of whole numbers of 256 bits: of 1.25, of -1.25, of 10^57, of the greatest number of 76
+/// digits, and of the greatest and the least number.
 static WIDE: [Halves; 6] = [
     (0, 125),
     (-1, 340_282_366_920_938_463_463_374_607_431_768_211_331),
@@ -134,7 +134,7 @@ fn wide((high, low): Halves) -> Decimal {
     }
 }
 
-// A value of 256 bits for each, and a null after them.
+/// A value of 256 bits for each, and a null after them.
 fn push_wide(rt: &(impl Abort + AllocGlobal), column: &mut ArrayBuilder) {
     for halves in &WIDE {
         let value = Value::wide_decimal(rt.alloc(), wide(*halves)).expect(rt, MEMORY);
@@ -155,7 +155,7 @@ fn numbers_of_256_bits_come_back(rt: HostRuntime) {
     assert!(rt; decimal_in(&rt, &column, 6).is_none());
 }
 
-// Types of fewer bits.
+/// Types of fewer bits.
 static NARROW: [&str; 3] = ["decimal[32:9:2]", "decimal[64:18:2]", "decimal[128:38:2]"];
 
 #[test]

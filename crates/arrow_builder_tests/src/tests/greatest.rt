@@ -1,14 +1,14 @@
-// Columns of just as many bytes as offsets of 32 bits lead to, and of more behind wider ones.
+//! Columns of exactly as many bytes as 32-bit offsets can address, and of more with wider ones.
 
 use super::building::{builder, push_all};
-use super::told::is_number;
+use super::reported::is_number;
 use arrow_builder::ArrayBuilder;
 use arrow_data::Value;
 use std::process::Abort;
 
 const MEMORY: &str = "memory";
 
-// So many letters, as a text or as bytes.
+/// That many letters, as a text or as bytes.
 fn letters(rt: &(impl Abort + AllocGlobal), words: &str, count: usize) -> Value {
     let mut bytes = Vec::new(rt.alloc());
     bytes.resize(count, b'n').expect(rt, MEMORY);
@@ -18,10 +18,10 @@ fn letters(rt: &(impl Abort + AllocGlobal), words: &str, count: usize) -> Value 
     }
 }
 
-// How often so many letters are pushed, one after the other: the first two make 2^31 - 1.
+/// How often how many letters are pushed, one after another: the first two make 2^31 - 1.
 const PUSHES: [(usize, usize); 4] = [(31, 1 << 26), (1, (1 << 26) - 1), (1, 1), (1, 0)];
 
-// That each of so many pushes is answered with the number of this fault, or 0.
+/// That each of that many pushes returns the number of this fault, or 0.
 fn are_answered(
     rt: &impl Abort,
     column: &mut ArrayBuilder,
@@ -30,15 +30,15 @@ fn are_answered(
     wanted: u8,
 ) {
     for _ in 0..times {
-        let told = match column.push(value) {
+        let reported = match column.push(value) {
             Ok(()) => 0,
             Err(fault) => fault.number(),
         };
-        is_number(rt, "a push", usize::from(told), usize::from(wanted));
+        is_number(rt, "a push", usize::from(reported), usize::from(wanted));
     }
 }
 
-// What is answered to each in a column of this type.
+/// What each push returns in a column of this type.
 fn grow(rt: &(impl Abort + AllocGlobal), words: &str, wanted: [u8; 4]) {
     let mut column = builder(rt, words);
     for ((times, count), number) in PUSHES.iter().zip(&wanted) {
@@ -67,7 +67,7 @@ fn large_byte_strings_of_2147483648_bytes(rt: HostRuntime) {
     grow(&rt, "large_binary", [0, 0, 0, 0]);
 }
 
-// Two nulls of 2^30 bytes.
+/// Two nulls of 2^30 bytes.
 #[test]
 fn a_column_of_2147483648_bytes_of_a_fixed_width(rt: HostRuntime) {
     let mut column = builder(&rt, "list fixed_size_binary[1073741824]");

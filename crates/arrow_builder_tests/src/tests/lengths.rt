@@ -1,9 +1,9 @@
-// Columns of each kind at each length, with nulls in each place, built and stored: how they are laid
-// out, against sums over the layout by another program.
+//! Columns of each kind at each length, with nulls at each position, built and stored: how they are
+//! laid out, compared with sums over the layout by another program.
 
 use super::building::{array, builder};
+use super::reported::is_text;
 use super::sums::SUMS;
-use super::told::is_text;
 use super::values::value;
 use arrow_body_writer::{Align, Body, body_size, store};
 use arrow_data::Array;
@@ -13,7 +13,7 @@ const MEMORY: &str = "memory";
 
 const LENGTHS: [usize; 8] = [0, 1, 7, 8, 9, 63, 64, 65];
 
-// Types, and the values that stand in the slots in turn; `#` is the number of the slot.
+/// Types, and the values that the slots hold in turn; `#` is the number of the slot.
 static KINDS: [&str; 23] = [
     "null => null",
     "bool => true, false, false",
@@ -41,7 +41,7 @@ static KINDS: [&str; 23] = [
      [ { null '' } { 1 'bc' } ]",
 ];
 
-// Which slots are null: none, the first, the last, all, each third.
+/// Which slots are null: none, the first, the last, all, each third.
 fn is_null(nulls: usize, slot: usize, length: usize) -> bool {
     match nulls {
         0 => false,
@@ -80,7 +80,7 @@ fn sum(so_far: u32, number: u32) -> u32 {
         .wrapping_add(1)
 }
 
-// Numbers that are too large for the sum, which none is, make another one.
+/// Numbers that are too large for the sum would make another sum; none is.
 fn narrow(number: i64) -> u32 {
     u32::try_from(number).unwrap_or(u32::MAX)
 }
@@ -105,7 +105,7 @@ fn sum_stored(rt: &(impl Abort + AllocGlobal), so_far: u32, align: Align, column
     sum_of(so_far, &body)
 }
 
-// The sum over how the columns of a kind and a length are laid out.
+/// The sum over how the columns of a kind and a length are laid out.
 fn laid_out(rt: &(impl Abort + AllocGlobal), kind: (&str, &[&str]), length: usize) -> u32 {
     let mut total = 1;
     for nulls in 0..5 {
@@ -117,7 +117,7 @@ fn laid_out(rt: &(impl Abort + AllocGlobal), kind: (&str, &[&str]), length: usiz
     total
 }
 
-// The sums of all lengths.
+/// The sums of all lengths.
 fn sums(rt: &(impl Abort + AllocGlobal), kind: &str) -> String {
     let (words, texts) = kind.split_once(" => ").expect(rt, "values");
     let mut all = Vec::new(rt.alloc());
@@ -135,7 +135,7 @@ fn sums(rt: &(impl Abort + AllocGlobal), kind: &str) -> String {
 
 #[test]
 fn columns_of_each_kind_and_length(rt: HostRuntime) {
-    for (kind, want) in KINDS.iter().zip(&SUMS) {
-        is_text(&rt, kind, &sums(&rt, kind), want);
+    for (kind, expected) in KINDS.iter().zip(&SUMS) {
+        is_text(&rt, kind, &sums(&rt, kind), expected);
     }
 }

@@ -1,8 +1,8 @@
-// Values that would make a column too long. A null of a fixed width takes its bytes too, so a list
-// of some hundred nulls passes 2^40 bytes of data, and is refused before it takes any.
+//! Values that would make a column too long. A null of a fixed width takes its bytes too, so a list
+//! of some hundred nulls passes 2^40 bytes of data, and is rejected before any are allocated.
 
 use super::building::{array, builder, push_all};
-use super::told::{is_number, is_text, told};
+use super::reported::{is_number, is_text, reported};
 use super::values::{value, values};
 use arrow_builder::ArrayBuilder;
 use arrow_data::Value;
@@ -10,7 +10,8 @@ use std::process::Abort;
 
 const MEMORY: &str = "memory";
 
-// The type of the column; so many nulls, and the item behind them; the fault that is told, or 0.
+/// The type of the column; how many nulls there are, and the item after them; the fault that is
+/// returned, or 0.
 type Limit = (&'static str, (usize, &'static str), u8);
 
 const WIDE: &str = "list fixed_size_binary[1202966770]";
@@ -21,8 +22,8 @@ const SMALL_PAIRS: &str = "list struct[2] int8 fixed_size_binary[3]";
 
 const PAIR: &str = "struct[2] int8 list fixed_size_binary[1202966770]";
 
-// 914 * 1202966770 is 2^40 + 4, 513 * 2147483647 is 2^40 + 2147483135. In a struct the list stands
-// behind a number.
+/// 914 * 1202966770 is 2^40 + 4, 513 * 2147483647 is 2^40 + 2147483135. In a struct the list comes
+/// after a number.
 static LIMITS: [Limit; 12] = [
     (WIDE, (913, "null"), 2),
     (WIDE, (913, "1"), 1),
@@ -38,7 +39,7 @@ static LIMITS: [Limit; 12] = [
     ("struct[2] int8 list fixed_size_binary[3]", (913, "null"), 0),
 ];
 
-// The list of so many nulls and an item.
+/// The list of `count` nulls and an item.
 fn list(rt: &(impl Abort + AllocGlobal), (count, last): (usize, &str)) -> Value {
     let mut items = Vec::new(rt.alloc());
     for _ in 0..count {
@@ -48,7 +49,7 @@ fn list(rt: &(impl Abort + AllocGlobal), (count, last): (usize, &str)) -> Value 
     Value::List(items)
 }
 
-// The value of a column of lists, or of structs whose second field is one.
+/// The value of a column of lists, or of structs whose second field is one.
 fn row_of(rt: &(impl Abort + AllocGlobal), words: &str, items: (usize, &str)) -> Value {
     let list = list(rt, items);
     if words.starts_with("list") {
@@ -59,7 +60,7 @@ fn row_of(rt: &(impl Abort + AllocGlobal), words: &str, items: (usize, &str)) ->
     Value::Struct(parts)
 }
 
-// That a push is answered with the number of this fault or 0, and that there are so many slots.
+/// That a push returns the number of this fault or 0, and that there are that many slots.
 fn is_answered(
     rt: &impl Abort,
     name: &str,
@@ -67,11 +68,11 @@ fn is_answered(
     value: &Value,
     (fault, len): (u8, usize),
 ) {
-    let told = match column.push(value) {
+    let reported = match column.push(value) {
         Ok(()) => 0,
         Err(fault) => fault.number(),
     };
-    is_number(rt, name, usize::from(told), usize::from(fault));
+    is_number(rt, name, usize::from(reported), usize::from(fault));
     is_number(rt, name, column.len(), len);
 }
 
@@ -80,12 +81,18 @@ fn columns_that_would_be_too_long(rt: HostRuntime) {
     for (words, items, fault) in &LIMITS {
         let mut column = builder(&rt, words);
         push_all(&rt, &mut column, "null");
-        let want = (*fault, if *fault == 0 { 2 } else { 1 });
-        is_answered(&rt, words, &mut column, &row_of(&rt, words, *items), want);
+        let expected = (*fault, if *fault == 0 { 2 } else { 1 });
+        is_answered(
+            &rt,
+            words,
+            &mut column,
+            &row_of(&rt, words, *items),
+            expected,
+        );
     }
 }
 
-// What was counted of a refused value counts no more.
+/// What was counted of a rejected value no longer counts.
 #[test]
 fn refused_values_leave_no_count(rt: HostRuntime) {
     let mut column = builder(&rt, WIDE);
@@ -94,11 +101,16 @@ fn refused_values_leave_no_count(rt: HostRuntime) {
         is_answered(&rt, "refused", &mut column, &refused, (2, 0));
     }
     push_all(&rt, &mut column, "[ ] null");
-    is_text(&rt, "taken", &told(&rt, &array(&rt, &column)), "[ ], null");
+    is_text(
+        &rt,
+        "taken",
+        &reported(&rt, &array(&rt, &column)),
+        "[ ], null",
+    );
 }
 
-// 2^18 * 2^22 is 2^40: all items but the last are counted before the list is refused. What is taken
-// next would be too much behind them.
+/// 2^18 * 2^22 is 2^40: all items but the last are counted before the list is rejected. What is
+/// taken next would be too much after them.
 #[test]
 fn refused_items_leave_no_count(rt: HostRuntime) {
     let mut column = builder(&rt, "list fixed_size_binary[4194304]");

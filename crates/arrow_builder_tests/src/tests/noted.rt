@@ -1,14 +1,14 @@
-// Types that differ in their custom metadata alone are the same: a dictionary and a column of the
-// one serve a field of the other.
+//! Types that differ only in their custom metadata are the same: a dictionary and a column of the
+//! one can be used for a field of the other.
 
 use super::building::{array, dictionary, pushed};
-use super::told::is_number;
+use super::reported::is_number;
 use arrow_data::{Array, Batch};
 use arrow_test_fields::schema_of;
 use std::process::Abort;
 use std::rc::Rc;
 
-// Types of lists whose items have pairs of other keys, and an encoding of the first.
+/// Types of lists whose items have pairs of other keys, and a field that encodes the first.
 static TYPES: [(&str, &str, &str); 4] = [
     ("list bool~a", "list bool~a", "by:7:int8 list bool~a"),
     ("list bool~a", "list bool~b", "by:7:int8 list bool~a"),
@@ -16,7 +16,7 @@ static TYPES: [(&str, &str, &str); 4] = [
     ("list bool~a", "list bool", "by:7:int8 list bool~a"),
 ];
 
-// The column of one null.
+/// The column of one null.
 fn null(rt: &(impl Abort + AllocGlobal), words: &str) -> Array {
     array(rt, &pushed(rt, words, "null"))
 }

@@ -1,13 +1,13 @@
-// Values that are pushed one after another, and what is answered to each: the column shows those that
-// fit.
+//! Values that are pushed one after another, and what each push returns: the column holds those that
+//! fit.
 
 use super::building::{array, builder};
-use super::told::{is_number, is_text, told};
+use super::reported::{is_number, is_text, reported};
 use super::values::value;
 use arrow_builder::{ArrayBuilder, PushFault};
 use std::process::Abort;
 
-// The type of a column, and the values that are pushed; a `!` stands before one that does not fit.
+/// The type of a column, and the values that are pushed; a `!` precedes one that does not fit.
 static PUSHES: [(&str, &str); 43] = [
     ("null", "null, !0, !false, !x, !'', ![ ], !{ }"),
     ("int8!", "1, null, !''"),
@@ -33,7 +33,7 @@ static PUSHES: [(&str, &str); 43] = [
     ("float", "4294967295, !4294967296, null, !-1"),
     ("double", "18446744073709551615, !18446744073709551616, !-1"),
     ("duration[s]", "-1, !9223372036854775808"),
-    // Ten digits of a decimal of nine are taken: digits are not counted.
+    // Ten digits are taken for a decimal of nine: digits are not counted.
     (
         "decimal[32:9:2]",
         "1000000000, 2147483647, !2147483648, null, -2147483648, !-2147483649, !x1,0,0,0, !'1'",
@@ -84,7 +84,7 @@ static PUSHES: [(&str, &str); 43] = [
         "struct[2] int8 list int8",
         "{ 1 [ 2 3 ] }, !{ 1 [ 2 300 ] }, null, { 4 null }, { null [ 5 ] }",
     ),
-    // Fixed-size lists: of another number of items none fits, and a null takes its slots below.
+    // Fixed-size lists: none with another number of items fits, and a null takes its slots below.
     (
         "fixed_size_list[2] int8",
         "[ 1 2 ], null, ![ 3 ], ![ 3 4 5 ], ![ ], ![ 3 300 ], [ null 5 ], !6, !{ 6 7 }, !''",
@@ -128,20 +128,25 @@ static PUSHES: [(&str, &str); 43] = [
     ("by:7:uint8 utf8", "null, !256, !'a'"),
 ];
 
-// That a push is answered like this, and counted where it is taken.
+/// That a push returns this, and is counted if the value is taken.
 fn is_pushed(
     rt: &(impl Abort + AllocGlobal),
     column: &mut ArrayBuilder,
     text: &str,
-    want: Result<(), PushFault>,
+    expected: Result<(), PushFault>,
 ) {
     let before = column.len();
     let answer = column.push(&value(rt, text, 0));
-    assert!(rt; answer == want, "{text}");
-    is_number(rt, text, column.len(), before + usize::from(want.is_ok()));
+    assert!(rt; answer == expected, "{text}");
+    is_number(
+        rt,
+        text,
+        column.len(),
+        before + usize::from(expected.is_ok()),
+    );
 }
 
-// Pushes each value, and tells those that fit.
+/// Pushes each value, and returns those that fit.
 fn all_pushed(rt: &(impl Abort + AllocGlobal), column: &mut ArrayBuilder, texts: &str) -> String {
     let mut fitting = String::new(rt.alloc());
     for text in texts.split(", ") {
@@ -160,7 +165,7 @@ fn all_pushed(rt: &(impl Abort + AllocGlobal), column: &mut ArrayBuilder, texts:
 fn columns_value_by_value(rt: HostRuntime) {
     for (words, texts) in &PUSHES {
         let mut column = builder(&rt, words);
-        let want = all_pushed(&rt, &mut column, texts);
-        is_text(&rt, words, &told(&rt, &array(&rt, &column)), &want);
+        let expected = all_pushed(&rt, &mut column, texts);
+        is_text(&rt, words, &reported(&rt, &array(&rt, &column)), &expected);
     }
 }

@@ -1,14 +1,14 @@
-// Fixed-size lists: what their child has in its slots, and nulls that would make a column too long
-// by what they take below them.
+//! Fixed-size lists: what their child has in its slots, and nulls that would make a column too long
+//! by the slots that they take below them.
 
 use super::building::{array, builder, push_all, pushed};
-use super::told::{is_number, is_text, told};
+use super::reported::{is_number, is_text, reported};
 use super::values::value;
 use arrow_data::{Array, Buffers};
 use std::process::Abort;
 
-// The type of a column, its values, and what its child has: the items of each list, and as many
-// nulls for a null (Columnar Format, "Fixed-Size List Layout").
+/// The type of a column, its values, and what its child has: the items of each list, and as many
+/// nulls for a null (Columnar Format, "Fixed-Size List Layout").
 static CHILDREN: [(&str, &str, &str); 7] = [
     ("fixed_size_list[2] int8", "", ""),
     ("fixed_size_list[2] int8", "[ 1 2 ]", "1, 2"),
@@ -35,20 +35,20 @@ static CHILDREN: [(&str, &str, &str); 7] = [
     ),
 ];
 
-// The child of a column of lists.
+/// The child of a column of lists.
 fn items<'a>(rt: &impl Abort, column: &'a Array) -> &'a Array {
     column.items().expect(rt, "items")
 }
 
 #[test]
 fn children_have_slots_under_nulls(rt: HostRuntime) {
-    for (words, texts, want) in &CHILDREN {
+    for (words, texts, expected) in &CHILDREN {
         let column = array(&rt, &pushed(&rt, words, texts));
-        is_text(&rt, words, &told(&rt, items(&rt, &column)), want);
+        is_text(&rt, words, &reported(&rt, items(&rt, &column)), expected);
     }
 }
 
-// Below two levels a null takes the product of both sizes, and in a struct as much as by itself.
+/// Below two levels a null takes the product of both sizes, and in a struct as much as by itself.
 #[test]
 fn nulls_take_slots_on_every_level(rt: HostRuntime) {
     let column = array(
@@ -63,12 +63,12 @@ fn nulls_take_slots_on_every_level(rt: HostRuntime) {
     is_text(
         &rt,
         "two levels",
-        &told(&rt, inner),
+        &reported(&rt, inner),
         "null, null, null, null, null, null, null, null, null, 1, 2, 3",
     );
 }
 
-// No offsets are stored.
+/// No offsets are stored.
 #[test]
 fn lists_of_one_size_have_no_offsets(rt: HostRuntime) {
     let column = array(&rt, &pushed(&rt, "fixed_size_list[2] int8", "[ 1 2 ] null"));
@@ -86,8 +86,8 @@ fn lists_of_one_size_have_no_offsets(rt: HostRuntime) {
     is_number(&rt, "child", child.len(), 4);
 }
 
-// A type; a value that is refused, or taken after a null or an empty list; the fault's number, or 0.
-// 914 * 1202966770 is 2^40 + 4.
+/// A type; a value that is rejected, or taken after a null or an empty list; the fault's number, or
+/// 0. 914 * 1202966770 is 2^40 + 4.
 static LIMITS: [(&str, &str, u8); 12] = [
     (
         "fixed_size_list[914] fixed_size_binary[1202966770]",
@@ -148,39 +148,44 @@ static LIMITS: [(&str, &str, u8); 12] = [
     ),
 ];
 
-// What was counted of a refused value counts no more, and no slot of it is there.
+/// What was counted of a rejected value no longer counts, and no slot of it is there.
 #[test]
 fn nulls_that_would_be_too_long(rt: HostRuntime) {
-    for (words, text, want) in &LIMITS {
+    for (words, text, expected) in &LIMITS {
         let mut column = builder(&rt, words);
         for _ in 0..2 {
-            let told = match column.push(&value(&rt, text, 0)) {
+            let reported = match column.push(&value(&rt, text, 0)) {
                 Ok(()) => 0,
                 Err(fault) => fault.number(),
             };
-            is_number(&rt, words, usize::from(told), usize::from(*want));
+            is_number(&rt, words, usize::from(reported), usize::from(*expected));
         }
-        is_number(&rt, words, column.len(), if *want == 0 { 2 } else { 0 });
+        is_number(&rt, words, column.len(), if *expected == 0 { 2 } else { 0 });
     }
 }
 
-// A builder that has made an array takes more.
+/// A builder that has made an array takes more.
 #[test]
 fn lists_of_one_size_grow(rt: HostRuntime) {
     let mut column = pushed(&rt, "fixed_size_list[2] int8", "[ 1 2 ] null");
     is_text(
         &rt,
         "before",
-        &told(&rt, &array(&rt, &column)),
+        &reported(&rt, &array(&rt, &column)),
         "[ 1 2 ], null",
     );
     push_all(&rt, &mut column, "[ 3 4 ]");
     let after = array(&rt, &column);
-    is_text(&rt, "after", &told(&rt, &after), "[ 1 2 ], null, [ 3 4 ]");
+    is_text(
+        &rt,
+        "after",
+        &reported(&rt, &after),
+        "[ 1 2 ], null, [ 3 4 ]",
+    );
     is_text(
         &rt,
         "child",
-        &told(&rt, items(&rt, &after)),
+        &reported(&rt, items(&rt, &after)),
         "1, 2, null, null, 3, 4",
     );
 }

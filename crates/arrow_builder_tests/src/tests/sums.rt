@@ -1,4 +1,4 @@
-// Sums over how columns are laid out: for each kind one for each length.
+//! Sums over how columns are laid out: for each kind one for each length.
 
 pub(super) static SUMS: [&str; 23] = [
     "10199eb9 6de59821 a0ad7091 fe7969f9 5c456361 254bff51 8317f8b9 e0e3f221",

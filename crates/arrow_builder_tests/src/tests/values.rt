@@ -1,17 +1,17 @@
-// Values out of text, with a blank between all words: `null true -5 'abc' x0,255 [ 1 2 ] { 1 'a' }` are
-// a null, a truth value, a number, a text, two bytes, a list and a struct.
+//! Values from a text, with a blank between all words: `null true -5 'abc' x0,255 [ 1 2 ] { 1 'a' }`
+//! are a null, a truth value, a number, a text, two bytes, a list and a struct.
 
 use arrow_data::Value;
 use std::process::Abort;
 
 const MEMORY: &str = "memory";
 
-// The one value of a text, in which `#` is this number.
+/// The one value of a text, in which `#` is this number.
 pub(super) fn value(rt: &(impl Abort + AllocGlobal), text: &str, number: usize) -> Value {
     values(rt, text, number).pop().expect(rt, "a value")
 }
 
-// All values of a text.
+/// All values of a text.
 pub(super) fn values(rt: &(impl Abort + AllocGlobal), text: &str, number: usize) -> Vec<Value> {
     let mut pile = Vec::new(rt.alloc());
     let mut marks = Vec::new(rt.alloc());
@@ -30,7 +30,7 @@ pub(super) fn values(rt: &(impl Abort + AllocGlobal), text: &str, number: usize)
     pile
 }
 
-// The values of the pile behind a mark, in their order.
+/// The values of the pile from a mark on, in their order.
 fn taken(
     rt: &(impl Abort + AllocGlobal),
     pile: &mut Vec<Value>,

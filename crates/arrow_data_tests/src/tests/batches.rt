@@ -1,7 +1,7 @@
-// Batches, and why columns make none; the body that columns share.
+//! Batches, and why columns make none; the body that columns share.
 
 use super::making::plain;
-use super::told::is_text;
+use super::reported::is_text;
 use arrow_data::BatchFault::{ColumnCount, ColumnLength, ColumnType, IndexRange, Memory};
 use arrow_data::{Array, Batch, BatchFault, SharedBody};
 use arrow_test_fields::schema_of;
@@ -30,11 +30,11 @@ const THREE: &str = "int32; 3; / i 0 0 0";
 
 const NULL_INDEX: &str = "by:0:int8 utf8; 1; 0 / 0";
 
-fn is_count(rt: &impl Abort, count: usize, want: usize) {
-    assert_eq!(rt; count, want);
+fn is_count(rt: &impl Abort, count: usize, expected: usize) {
+    assert_eq!(rt; count, expected);
 }
 
-// That a batch has this schema and three rows, of so many columns.
+/// Asserts that a batch has this schema, three rows and `count` columns.
 fn is_of(rt: &impl Abort, batch: &Batch, schema: &Schema, count: usize) {
     is_count(rt, batch.rows(), 3);
     assert!(rt; *batch.schema() == *schema);
@@ -71,7 +71,7 @@ fn a_batch_of_columns_that_are_known_to_fit(rt: HostRuntime) {
     );
 }
 
-// The schema, the columns, the rows that are asked for, and the fault.
+/// The schema, the columns, the requested number of rows, and the fault.
 type Fault = (
     &'static str,
     &'static [&'static str],
@@ -97,19 +97,19 @@ static FAULTS: [Fault; 15] = [
     ("by:0:int8 binary", &[NULL_INDEX], 1, Some(ColumnType)),
 ];
 
-fn is_fault(rt: &impl Abort, row: usize, fault: Option<BatchFault>, want: Option<BatchFault>) {
-    assert_eq!(rt; fault, want, "row {row}");
+fn is_fault(rt: &impl Abort, row: usize, fault: Option<BatchFault>, expected: Option<BatchFault>) {
+    assert_eq!(rt; fault, expected, "row {row}");
 }
 
 #[test]
-fn the_least_fault_is_told(rt: HostRuntime) {
-    for (row, (words, texts, rows, want)) in FAULTS.iter().enumerate() {
+fn the_least_fault_is_reported(rt: HostRuntime) {
+    for (row, (words, texts, rows, expected)) in FAULTS.iter().enumerate() {
         let fault = Batch::new(shared(&rt, words), columns(&rt, texts), *rows).err();
-        is_fault(&rt, row, fault, *want);
+        is_fault(&rt, row, fault, *expected);
     }
 }
 
-// The faults with their numbers and words.
+/// The faults with their numbers and words.
 static FAULT_WORDS: [(BatchFault, &str); 5] = [
     (ColumnCount, "1 not one column for each field"),
     (ColumnType, "2 a column of another type than its field"),
@@ -123,9 +123,9 @@ static FAULT_WORDS: [(BatchFault, &str); 5] = [
 
 #[test]
 fn faults_have_their_numbers(rt: HostRuntime) {
-    for &(fault, want) in &FAULT_WORDS {
+    for &(fault, expected) in &FAULT_WORDS {
         let words = format!(in rt.alloc(); "{} {fault}", fault.number()).expect(&rt, "memory");
-        is_text(&rt, "fault", &words, want);
+        is_text(&rt, "fault", &words, expected);
     }
 }
 

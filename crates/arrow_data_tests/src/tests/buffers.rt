@@ -1,14 +1,14 @@
-// The buffers that columns hand out, by their layouts.
+//! The buffers that columns return, by their layouts.
 
 use super::making::{column, dictionary, halves, listed, plain};
-use super::told::is_text;
+use super::reported::is_text;
 use arrow_data::form::{ListForm, OffsetWidth};
 use arrow_data::{Array, Buffers, NumberBuffers, StringBuffers};
 use std::process::Abort;
 
 const MEMORY: &str = "memory";
 
-// Columns, and their buffers; of children what they are of themselves.
+/// Columns, and their buffers; for children only their own.
 static COLUMNS: [&str; 25] = [
     "null; 4 => nulls",
     "bool; 4; 251 / 249 => truths [251] [249]",
@@ -52,8 +52,8 @@ static COLUMNS: [&str; 25] = [
 #[test]
 fn buffers_of_columns(rt: HostRuntime) {
     for row in &COLUMNS {
-        let (text, want) = halves(&rt, row);
-        are_told(&rt, &plain(&rt, text), want);
+        let (text, expected) = halves(&rt, row);
+        are_reported(&rt, &plain(&rt, text), expected);
     }
 }
 
@@ -61,12 +61,12 @@ fn buffers_of_columns(rt: HostRuntime) {
 fn buffers_of_indices(rt: HostRuntime) {
     let listed = listed(&rt, dictionary(&rt, &["utf8; 3; 5 / i 0 1 1 3 / 'abc'"]));
     let column = column(&rt, "by:0:int8 utf8; 3; 3 / 2 0 9", &listed);
-    let want = "1 signed bytes [3] [2, 0, 9] into 3 values";
-    are_told(&rt, &column.expect(&rt, "a column"), want);
+    let expected = "1 signed bytes [3] [2, 0, 9] into 3 values";
+    are_reported(&rt, &column.expect(&rt, "a column"), expected);
 }
 
-// That the buffers of the column are these.
-fn are_told(rt: &(impl Abort + AllocGlobal), column: &Array, want: &str) {
+/// Asserts that the buffers of the column are these.
+fn are_reported(rt: &(impl Abort + AllocGlobal), column: &Array, expected: &str) {
     let mut text = String::new(rt.alloc());
     push_own(rt, &mut text, column.buffers());
     if let Buffers::Lists { child, .. } = column.buffers() {
@@ -77,7 +77,7 @@ fn are_told(rt: &(impl Abort + AllocGlobal), column: &Array, want: &str) {
             push_child(rt, &mut text, child);
         }
     }
-    is_text(rt, want, &text, want);
+    is_text(rt, expected, &text, expected);
 }
 
 fn push_child(rt: &impl Abort, text: &mut String, child: &Array) {

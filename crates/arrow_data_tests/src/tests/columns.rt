@@ -1,10 +1,10 @@
-// Columns of every type, without dictionaries.
+//! Columns of every type, without dictionaries.
 
 use super::making::{column, halves, plain};
-use super::told::{has_same, shows};
+use super::reported::{has_same, shows};
 
-// Columns, and what they show. A validity of 253 has a null in the second slot, and all spare bits are
-// set.
+/// Columns, and what they show. A validity of 253 has a null in the second slot, and all spare bits are
+/// set.
 static COLUMNS: [&str; 63] = [
     "int32; 3; 5 / i 1 0 3 => 3: 1, null, 3",
     "utf8; 3; 5 / i 0 1 1 3 / 'abc' => 3: 'a', null, 'bc'",
@@ -23,7 +23,7 @@ static COLUMNS: [&str; 63] = [
     "utf8; 0; / 0 0 / => no column",
     "large_binary; 0; / l 0 / => 0:",
     "large_binary; 0; / i 0 / => no column",
-    // Under the null are two bytes that are no UTF-8.
+    // Under the null are two bytes that are not UTF-8.
     "binary; 3; 253 / i 0 1 3 4 / 97 255 255 100 => 3: [97], null, [100]",
     "utf8; 3; 253 / i 0 1 3 4 / 97 255 255 100 => 3: 'a', null, 'd'",
     "large_utf8; 3; 5 / l 0 1 1 3 / 'abc' => 3: 'a', null, 'bc'",
@@ -31,7 +31,7 @@ static COLUMNS: [&str; 63] = [
     "large_utf8; 2; / l 0 1 2 / 255 97 => no column",
     // From the second byte on.
     "large_binary; 3; / l 1 4 4 7 / 5 0 1 255 9 9 9 6 => 3: [0, 1, 255], [], [9, 9, 9]",
-    // In the last of these the lower half of an offset alone would do.
+    // In the last of these the lower half of an offset by itself would be valid.
     "large_binary; 1; / l 0 2 / 'ab' => 1: [97, 98]",
     "large_binary; 1; / l 1 2 / 'ab' => 1: [98]",
     "large_binary; 1; / l -1 2 / 'ab' => no column",
@@ -47,7 +47,7 @@ static COLUMNS: [&str; 63] = [
     "fixed_size_binary[2147483647]; 1; / l 0 0 => no column",
     "duration[s]; 2; / l -9223372036854775808 9223372036854775807 => \
      2: -9223372036854775808, 9223372036854775807",
-    // A byte short of two numbers.
+    // One byte short of two numbers.
     "duration[ns]; 2; / 0 0 0 0 0 0 0 0 0 0 0 0 0 0 0 => no column",
     "list int32; 3 2; 5 / i 0 2 2 2 / / i 1 2 => 3: 0..2 [1 2], null, 2..2 [] | items 2: 1, 2",
     // The null list hides 2 and 3, and no list has the last items; the null struct hides 2.
@@ -64,7 +64,7 @@ static COLUMNS: [&str; 63] = [
     "fixed_size_list[1] int32; 2 2; / 1 / i 5 6 => 2: 0..1 [5], 1..2 [null] | items 2: 5, null",
     "fixed_size_list[0] int32; 3 0; 253 / / => 3: 0..0 [], null, 0..0 [] | items 0:",
     "fixed_size_list[3] int32; 0 0; / / => 0: | items 0:",
-    // A slot short of two lists, and more slots than can be counted.
+    // One slot short of two lists, and more slots than can be counted.
     "fixed_size_list[2] int32; 2 3; / / i 1 2 3 => no column",
     "fixed_size_list[2147483647] null; 2 2147483647; 3 => no column",
     "fixed_size_list[2147483647] null; 1 2147483646; 1 => no column",
@@ -82,7 +82,7 @@ static COLUMNS: [&str; 63] = [
     "decimal[128:38:0]; 2; / l -1 9223372036854775807 -1 -1 => \
      2: 170141183460469231731687303715884105727, -1",
     "decimal[128:38:0]; 0; / => 0:",
-    // A byte short of a number, and of two.
+    // One byte short of a number, and of two.
     "decimal[32:9:2]; 1; / 1 2 3 => no column",
     "decimal[64:18:2]; 1; / 1 2 3 4 5 6 7 => no column",
     "decimal[128:38:0]; 1; / 1 2 3 4 5 6 7 8 9 10 11 12 13 14 15 => no column",
@@ -98,17 +98,17 @@ static COLUMNS: [&str; 63] = [
 #[test]
 fn columns_of_each_type(rt: HostRuntime) {
     for row in &COLUMNS {
-        let (text, want) = halves(&rt, row);
-        shows(&rt, text, &column(&rt, text, &[]), want);
+        let (text, expected) = halves(&rt, row);
+        shows(&rt, text, &column(&rt, text, &[]), expected);
     }
 }
 
-// Behind the validity, all spare bits of which are set, stand the bytes F1 to F8 and 9 to 24.
+/// After the validity, all spare bits of which are set, come the bytes F1 to F8 and 9 to 24.
 const NUMBERS: &str = "; 3; 253 / 241 242 243 244 245 246 247 248 9 10 11 12 13 14 15 16 17 18 19 \
                        20 21 22 23 24";
 
-// Types of numbers, and what three slots show, of which the second is null: how wide they are, and
-// whether they have a sign.
+/// Types of numbers, and what three slots show, the second of which is null: how wide they are, and
+/// whether they are signed.
 static TYPES: [&str; 27] = [
     "uint8 => 3: 241, null, 243",
     "int8 => 3: -15, null, -13",
@@ -142,9 +142,9 @@ static TYPES: [&str; 27] = [
 #[test]
 fn numbers_beside_a_null(rt: HostRuntime) {
     for row in &TYPES {
-        let (word, want) = halves(&rt, row);
+        let (word, expected) = halves(&rt, row);
         let text = format!(in rt.alloc(); "{word}{NUMBERS}").expect(&rt, "memory");
-        shows(&rt, word, &column(&rt, &text, &[]), want);
+        shows(&rt, word, &column(&rt, &text, &[]), expected);
     }
 }
 
@@ -176,9 +176,9 @@ const DECIMALS: &str = "decimal[128:38:2]; 4; 253 / l 5 0 9 9 5 1 -5 0";
 
 const TWO_STRUCTS: &str = "struct[1] int32; 2 2; 253 / / i 1 1";
 
-// Two columns, and a word for each slot of the first: which slots of the second are equal to it.
-// Values are the same whatever the width of the offsets, or whether they have any; what a null hides
-// makes no difference, and a null is equal to another one alone.
+/// Two columns, and a word for each slot of the first: which slots of the second are equal to it.
+/// Values are the same whatever the width of the offsets, or whether they have any; the bytes under
+/// a null make no difference, and a null is equal only to another null.
 static SAME: [(&str, &str, &str); 14] = [
     (TEXTS, TEXTS, "=-- -=- --="),
     ("null; 4", "bool; 4; 251 / 249", "--=- --=- --=- --=-"),
@@ -192,7 +192,7 @@ static SAME: [(&str, &str, &str); 14] = [
     (LATER, HIDDEN_TRIPLES, "=-- --- --="),
     (LARGE_LISTS, SMALL_LISTS, "=-- -=- --="),
     (DECIMALS, DECIMALS, "=--- -=-- --=- ---="),
-    // A number is a number in each width, and what is above 64 bits counts.
+    // A number is the same number in each width, and the bits above 64 count.
     (DECIMALS, "int64; 3; 253 / l 5 9 -5", "=-- -=- --- ---"),
     (
         DECIMALS,
@@ -203,7 +203,7 @@ static SAME: [(&str, &str, &str); 14] = [
 
 #[test]
 fn equal_slots(rt: HostRuntime) {
-    for (column, other, want) in &SAME {
-        has_same(&rt, &plain(&rt, column), &plain(&rt, other), want);
+    for (column, other, expected) in &SAME {
+        has_same(&rt, &plain(&rt, column), &plain(&rt, other), expected);
     }
 }

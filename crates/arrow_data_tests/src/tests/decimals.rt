@@ -1,4 +1,4 @@
-// Decimals, by bytes that are written out. Their numbers are those of Python.
+//! Decimals, by bytes that are written out. Their numbers are those of Python.
 
 use super::making::{column, dictionary, listed, plain};
 use arrow_data::{Array, Decimal, Value, decimals};
@@ -6,21 +6,22 @@ use std::process::Abort;
 
 const MEMORY: &str = "memory";
 
-// What is above the lowest 128 bits of a whole number, these bits without a sign, and the scale.
+/// The bits above the lowest 128 bits of a whole number, these bits as an unsigned number, and the
+/// scale.
 type Parts = (i128, u128, i8);
 
 fn decimal((high, low, scale): Parts) -> Decimal {
     Decimal { high, low, scale }
 }
 
-// The decimal in slot `i`.
+/// The decimal in slot `i`.
 fn decimal_in(rt: &impl Abort, column: &Array, i: usize) -> Option<Decimal> {
     assert!(rt; i < column.len());
     column.decimal_at(i)
 }
 
-// Types of at most 128 bits, the bytes of one slot, and the decimal there: its whole number, and its
-// parts.
+/// Types of at most 128 bits, the bytes of one slot, and the decimal there: its whole number, and its
+/// parts.
 static NUMBERS: [(&str, &str, i128, Parts); 20] = [
     ("decimal[32:9:2]", "125 0 0 0", 125, (0, 125, 2)),
     (
@@ -124,14 +125,14 @@ static NUMBERS: [(&str, &str, i128, Parts); 20] = [
     ),
 ];
 
-// That the first slot has the decimal, as a number.
-fn is_number(rt: &impl Abort, column: &Array, number: i128, want: Decimal) {
-    assert_eq!(rt; decimal_in(rt, column, 0), Some(want), "{number}");
+/// Asserts that the first slot has the decimal, as a number.
+fn is_number(rt: &impl Abort, column: &Array, number: i128, expected: Decimal) {
+    assert_eq!(rt; decimal_in(rt, column, 0), Some(expected), "{number}");
     assert!(rt; column.len() > 0);
     assert_eq!(rt; column.int_at(0), Some(number));
     assert!(rt; column.bytes_at(0).is_none(), "{number}");
-    assert_eq!(rt; decimals::of_number(want.scale, number), want);
-    assert_eq!(rt; want.unscaled(), Some(number));
+    assert_eq!(rt; decimals::of_number(expected.scale, number), expected);
+    assert_eq!(rt; expected.unscaled(), Some(number));
 }
 
 #[test]
@@ -142,8 +143,8 @@ fn decimals_of_at_most_128_bits(rt: HostRuntime) {
     }
 }
 
-// The bytes of one slot of 256 bits, the decimal there by its parts, and its whole number where 128
-// bits have it.
+/// The bytes of one slot of 256 bits, the decimal there by its parts, and its whole number if it
+/// fits 128 bits.
 static WIDE: [(&str, Parts, Option<i128>); 17] = [
     (
         "0 0 0 0 0 0 0 0 0 0 0 0 0 0 0 0 0 0 0 0 0 0 0 0 0 0 0 0 0 0 0 0",
@@ -272,18 +273,23 @@ static WIDE: [(&str, Parts, Option<i128>); 17] = [
     ),
 ];
 
-// That the first slot has the decimal, as bytes: those of the value that is made of it.
-fn is_wide(rt: &(impl Abort + AllocGlobal), column: &Array, want: Decimal, unscaled: Option<i128>) {
-    assert_eq!(rt; decimal_in(rt, column, 0), Some(want));
+/// Asserts that the first slot has the decimal, as bytes: those of the value that is made of it.
+fn is_wide(
+    rt: &(impl Abort + AllocGlobal),
+    column: &Array,
+    expected: Decimal,
+    unscaled: Option<i128>,
+) {
+    assert_eq!(rt; decimal_in(rt, column, 0), Some(expected));
     assert!(rt; column.len() > 0);
-    assert!(rt; column.int_at(0).is_none(), "{want:?}");
-    match Value::wide_decimal(rt.alloc(), want).expect(rt, MEMORY) {
+    assert!(rt; column.int_at(0).is_none(), "{expected:?}");
+    match Value::wide_decimal(rt.alloc(), expected).expect(rt, MEMORY) {
         Value::Bytes(bytes) => {
-            assert_eq!(rt; column.bytes_at(0), Some(bytes.as_slice()), "{want:?}");
+            assert_eq!(rt; column.bytes_at(0), Some(bytes.as_slice()), "{expected:?}");
         }
-        _ => panic!(rt; "{want:?}"),
+        _ => panic!(rt; "{expected:?}"),
     }
-    assert_eq!(rt; want.unscaled(), unscaled, "{want:?}");
+    assert_eq!(rt; expected.unscaled(), unscaled, "{expected:?}");
 }
 
 #[test]
@@ -296,7 +302,7 @@ fn decimals_of_256_bits(rt: HostRuntime) {
     }
 }
 
-// 1.25, a null with nines under it, and -1.25, in each width.
+/// 1.25, a null with nines under it, and -1.25, in each width.
 static BESIDE_A_NULL: [&str; 4] = [
     "decimal[32:9:2]; 3; 253 / 125 0 0 0 9 9 9 9 131 255 255 255",
     "decimal[64:18:2]; 3; 253 / 125 0 0 0 0 0 0 0 9 9 9 9 9 9 9 9 131 255 255 255 255 255 255 255",
@@ -339,7 +345,7 @@ fn decimals_beside_a_null(rt: HostRuntime) {
     }
 }
 
-// Columns whose first slot has no decimal.
+/// Columns whose first slot has no decimal.
 static OTHERS: [&str; 13] = [
     "decimal[32:9:2]; 1; 254 / i 125",
     "decimal[64:18:2]; 1; 254 / l 125",
@@ -363,7 +369,7 @@ fn slots_without_a_decimal(rt: HostRuntime) {
     }
 }
 
-// The decimals 0.01 and 1.25 of each width.
+/// The decimals 0.01 and 1.25 of each width.
 static VALUES: [&str; 4] = [
     "decimal[32:9:2]; 2; / i 1 125",
     "decimal[64:18:2]; 2; / l 1 125",
@@ -371,13 +377,13 @@ static VALUES: [&str; 4] = [
     "decimal[256:76:2]; 2; / l 1 0 0 0 125 0 0 0",
 ];
 
-// That an index has no decimal, and the value that it refers to is this one.
-fn refers_to(rt: &impl Abort, column: &Array, want: Decimal) {
+/// Asserts that an index has no decimal, and that the value to which it refers is this one.
+fn refers_to(rt: &impl Abort, column: &Array, expected: Decimal) {
     assert!(rt; decimal_in(rt, column, 0).is_none());
     assert!(rt; column.len() > 0);
     assert_eq!(rt; column.int_at(0), Some(1));
     let (values, place) = column.resolved(0).expect(rt, "a value");
-    assert_eq!(rt; decimal_in(rt, values, place), Some(want));
+    assert_eq!(rt; decimal_in(rt, values, place), Some(expected));
 }
 
 #[test]
@@ -391,7 +397,8 @@ fn decimals_of_a_dictionary(rt: HostRuntime) {
     }
 }
 
-// How many bytes of 255 there are, and the whole number of the decimal that they are, if it is one.
+/// How many bytes of 255 there are, and the whole number of the decimal that they form, if they form
+/// one.
 static COUNTS: [(usize, Option<i128>); 6] = [
     (0, None),
     (16, None),
@@ -401,7 +408,7 @@ static COUNTS: [(usize, Option<i128>); 6] = [
     (64, None),
 ];
 
-// The whole number of the decimal of this scale that bytes are.
+/// The whole number of the decimal of this scale that the bytes form.
 fn number_of(rt: &impl Abort, scale: i8, bytes: &[u8]) -> Option<i128> {
     let found = decimals::of_bytes(scale, bytes)?;
     assert_eq!(rt; found.scale, scale);
@@ -410,14 +417,14 @@ fn number_of(rt: &impl Abort, scale: i8, bytes: &[u8]) -> Option<i128> {
 
 #[test]
 fn decimals_of_so_many_bytes(rt: HostRuntime) {
-    for (count, want) in &COUNTS {
+    for (count, expected) in &COUNTS {
         let bytes = vec![in rt.alloc(); 255; *count].expect(&rt, MEMORY);
-        assert_eq!(rt; number_of(&rt, -5, &bytes), *want, "{count} bytes");
+        assert_eq!(rt; number_of(&rt, -5, &bytes), *expected, "{count} bytes");
         assert_eq!(rt; decimals::of_bytes(2, &bytes).is_some(), *count == 32);
     }
 }
 
-// The scale comes back as it is given, whether a type may have it or not.
+/// The scale is returned as it is given, whether a type may have it or not.
 static SCALES: [i8; 5] = [-128, -1, 0, 76, 127];
 
 #[test]

@@ -1,13 +1,13 @@
-// Dictionaries of one and of several segments, and the columns that refer to them.
+//! Dictionaries of one and of several segments, and the columns that refer to them.
 
 use super::making::{append, column, dictionary, halves, listed};
-use super::told::{has_same, has_value, has_values, shows};
+use super::reported::{has_same, has_value, has_values, shows};
 use arrow_data::{Array, Dictionary};
 use std::process::Abort;
 
 const MEMORY: &str = "memory";
 
-// The column of texts of one letter each, six at most.
+/// The column of texts of one letter each, at most six.
 fn letters(rt: &(impl Abort + AllocGlobal), letters: &str) -> String {
     let count = letters.len();
     let offsets = "0 1 2 3 4 5 6";
@@ -20,7 +20,7 @@ fn add(rt: &(impl Abort + AllocGlobal), dictionary: &mut Dictionary, segment: &s
     append(rt, dictionary, &letters(rt, segment));
 }
 
-// A dictionary of letters, with a bar between its segments.
+/// A dictionary of letters, with a bar between its segments.
 fn spelled(rt: &(impl Abort + AllocGlobal), segments: &str) -> Dictionary {
     let (first, rest) = segments.split_once('|').unwrap_or((segments, ""));
     let mut all = dictionary(rt, &[&letters(rt, first)]);
@@ -32,8 +32,8 @@ fn spelled(rt: &(impl Abort + AllocGlobal), segments: &str) -> Dictionary {
     all
 }
 
-// The letters of each segment of a dictionary, and its values. Segments without values stand between
-// others, and at both ends.
+/// The letters of each segment of a dictionary, and its values. Segments without values are between
+/// others, and at both ends.
 static SPELLED: [(&str, &str); 4] = [
     ("abc|de", "5: 0/3 'a', 1/3 'b', 2/3 'c', 0/2 'd', 1/2 'e'"),
     (
@@ -46,12 +46,12 @@ static SPELLED: [(&str, &str); 4] = [
 
 #[test]
 fn values_of_segments(rt: HostRuntime) {
-    for (segments, want) in &SPELLED {
-        has_values(&rt, &spelled(&rt, segments), want);
+    for (segments, expected) in &SPELLED {
+        has_values(&rt, &spelled(&rt, segments), expected);
     }
 }
 
-// The segments of two dictionaries, and whether they are equal.
+/// The segments of two dictionaries, and whether they are equal.
 static EQUAL: [(&str, &str, bool); 12] = [
     ("abcde", "abc|de", true),
     ("abcde", "a|bcde", true),
@@ -67,21 +67,27 @@ static EQUAL: [(&str, &str, bool); 12] = [
     ("a", "", false),
 ];
 
-fn is_answered(rt: &impl Abort, name: &str, answer: bool, want: bool) {
-    assert_eq!(rt; answer, want, "{name}");
+fn is_answered(rt: &impl Abort, name: &str, answer: bool, expected: bool) {
+    assert_eq!(rt; answer, expected, "{name}");
 }
 
-// That two dictionaries are equal, or that they are not.
-fn are_equal(rt: &impl Abort, name: &str, one: &Dictionary, other: &Dictionary, want: bool) {
-    is_answered(rt, name, *one == *other, want);
-    is_answered(rt, name, *other == *one, want);
-    is_answered(rt, name, *one != *other, !want);
+/// Asserts that two dictionaries are equal, or that they are not.
+fn are_equal(rt: &impl Abort, name: &str, one: &Dictionary, other: &Dictionary, expected: bool) {
+    is_answered(rt, name, *one == *other, expected);
+    is_answered(rt, name, *other == *one, expected);
+    is_answered(rt, name, *one != *other, !expected);
 }
 
 #[test]
 fn equality_of_values(rt: HostRuntime) {
-    for (one, other, want) in &EQUAL {
-        are_equal(&rt, other, &spelled(&rt, one), &spelled(&rt, other), *want);
+    for (one, other, expected) in &EQUAL {
+        are_equal(
+            &rt,
+            other,
+            &spelled(&rt, one),
+            &spelled(&rt, other),
+            *expected,
+        );
     }
 }
 
@@ -92,7 +98,7 @@ fn an_empty_dictionary_of_another_type(rt: HostRuntime) {
     are_equal(&rt, "no nulls", &other, &spelled(&rt, ""), true);
 }
 
-// Values of two columns of the most slots that a column can have, and where they stand.
+/// Values of two columns of the most slots that a column can have, and their positions.
 static MANY: [(usize, &str); 4] = [
     (0, "0/2147483647 null"),
     (2147483646, "2147483646/2147483647 null"),
@@ -100,23 +106,23 @@ static MANY: [(usize, &str); 4] = [
     (4294967293, "2147483646/2147483647 null"),
 ];
 
-// The nulls of type Null lie in no body.
+/// The nulls of type Null take no bytes of a body.
 const NULLS: &str = "null; 2147483647";
 
-fn has_len(rt: &impl Abort, dictionary: &Dictionary, want: usize) {
-    assert_eq!(rt; dictionary.len(), want);
+fn has_len(rt: &impl Abort, dictionary: &Dictionary, expected: usize) {
+    assert_eq!(rt; dictionary.len(), expected);
 }
 
 #[test]
 fn nulls_without_bytes(rt: HostRuntime) {
     let all = dictionary(&rt, &[NULLS, NULLS]);
     has_len(&rt, &all, 4294967294);
-    for (i, want) in &MANY {
-        has_value(&rt, &all, *i, want);
+    for (i, expected) in &MANY {
+        has_value(&rt, &all, *i, expected);
     }
 }
 
-// The letters of three segments, again and again, `count` segments in all.
+/// The letters of three segments, again and again, `count` segments in all.
 fn again(rt: &(impl Abort + AllocGlobal), parts: [&str; 3], count: usize) -> Dictionary {
     let mut all = spelled(rt, parts[0]);
     for k in 1..count {
@@ -125,9 +131,9 @@ fn again(rt: &(impl Abort + AllocGlobal), parts: [&str; 3], count: usize) -> Dic
     all
 }
 
-// Values of 200 segments, of which each three are `ab`, none and `c`, and where they stand. Lists
-// of segments are shared 64 at a time, so the first 64 have the values 0 to 64, and the first 128
-// those up to 128.
+/// Values of 200 segments, which repeat `ab`, none and `c`, and their positions. Lists of segments
+/// are shared 64 at a time, so the first 64 have the values 0 to 64, and the first 128 those up to
+/// 128.
 static LETTERS: [(usize, &str); 10] = [
     (0, "0/2 'a'"),
     (1, "1/2 'b'"),
@@ -143,12 +149,12 @@ static LETTERS: [(usize, &str); 10] = [
 
 fn has_letters(rt: &(impl Abort + AllocGlobal), all: &Dictionary, len: usize) {
     has_len(rt, all, len);
-    for (i, want) in &LETTERS {
-        has_value(rt, all, *i, want);
+    for (i, expected) in &LETTERS {
+        has_value(rt, all, *i, expected);
     }
 }
 
-// Also that a copy has the same values, and that what is appended to one is not in the other.
+/// Also that a copy has the same values, and that values appended to one are not in the other.
 #[test]
 fn values_of_many_segments(rt: HostRuntime) {
     let mut many = again(&rt, ["ab", "", "c"], 200);
@@ -161,20 +167,20 @@ fn values_of_many_segments(rt: HostRuntime) {
     are_equal(&rt, "a copy", &copy, &many, false);
 }
 
-// What is appended to one of two copies is not in the other.
+/// Values appended to one of two copies are not in the other.
 #[test]
 fn a_copy_stays_as_it_was(rt: HostRuntime) {
     let mut grown = spelled(&rt, "abc");
     let copy = grown.copy(rt.alloc()).expect(&rt, MEMORY);
     are_equal(&rt, "at first", &copy, &grown, true);
     add(&rt, &mut grown, "de");
-    let want = "5: 0/3 'a', 1/3 'b', 2/3 'c', 0/2 'd', 1/2 'e'";
-    has_values(&rt, &grown, want);
+    let expected = "5: 0/3 'a', 1/3 'b', 2/3 'c', 0/2 'd', 1/2 'e'";
+    has_values(&rt, &grown, expected);
     has_values(&rt, &copy, "3: 0/3 'a', 1/3 'b', 2/3 'c'");
     are_equal(&rt, "grown", &copy, &grown, false);
 }
 
-// The letters of a dictionary, where one is given, and a column of indices with what it shows.
+/// The letters of a dictionary, if there is one, and a column of indices with what it shows.
 static INDICES: [(Option<&str>, &str); 8] = [
     (
         Some("abc|de"),
@@ -189,7 +195,7 @@ static INDICES: [(Option<&str>, &str); 8] = [
     (Some("|ab||c"), "1; / 2 => 1: 2='c' | 3 values of 0"),
 ];
 
-// A column of signed indices of 8 bits into the dictionary of these letters.
+/// A column of signed indices of 8 bits into the dictionary of these letters.
 fn by_letters(
     rt: &(impl Abort + AllocGlobal),
     segments: Option<&str>,
@@ -205,12 +211,12 @@ fn by_letters(
 #[test]
 fn indices_of_letters(rt: HostRuntime) {
     for (segments, row) in &INDICES {
-        let (parts, want) = halves(&rt, row);
-        shows(&rt, row, &by_letters(&rt, *segments, parts), want);
+        let (parts, expected) = halves(&rt, row);
+        shows(&rt, row, &by_letters(&rt, *segments, parts), expected);
     }
 }
 
-// Slots by indices are equal where their indices are, whatever the dictionaries say.
+/// Slots with indices are equal if their indices are, whatever the dictionaries hold.
 #[test]
 fn equal_indices(rt: HostRuntime) {
     let column = by_letters(&rt, Some("ab"), "4; 251 / 1 0 9 1");
@@ -219,7 +225,7 @@ fn equal_indices(rt: HostRuntime) {
     has_same(&rt, &column.expect(&rt, "a column"), &other, "-= =- -- -=");
 }
 
-// The lists of 1, of none, and of 2 and 3; then those of 4, and of 5 and 6.
+/// The lists of 1, of none, and of 2 and 3; then those of 4, and of 5 and 6.
 const LISTS: &[&str] = &[
     "list int32; 3 3; / i 0 1 1 3 / / i 1 2 3",
     "list int32; 2 3; / i 0 1 3 / / i 4 5 6",
@@ -227,12 +233,12 @@ const LISTS: &[&str] = &[
 
 #[test]
 fn lists_of_two_segments(rt: HostRuntime) {
-    let want = "5: 0/3 0..1 [1], 1/3 1..1 [], 2/3 1..3 [2 3], 0/2 0..1 [4], 1/2 1..3 [5 6]";
-    has_values(&rt, &dictionary(&rt, LISTS), want);
+    let expected = "5: 0/3 0..1 [1], 1/3 1..1 [], 2/3 1..3 [2 3], 0/2 0..1 [4], 1/2 1..3 [5 6]";
+    has_values(&rt, &dictionary(&rt, LISTS), expected);
 }
 
-// The values of a dictionary, a column of indices, and what it shows. A value may be null: the index
-// is there all the same.
+/// The values of a dictionary, a column of indices, and what it shows. A value may be null: the index
+/// is there all the same.
 static REFERRING: [(&[&str], &str, &str); 3] = [
     (
         &["int32; 2; 2 / i 0 7"],
@@ -253,14 +259,14 @@ static REFERRING: [(&[&str], &str, &str); 3] = [
 
 #[test]
 fn indices_of_other_values(rt: HostRuntime) {
-    for (values, text, want) in &REFERRING {
+    for (values, text, expected) in &REFERRING {
         let listed = listed(&rt, dictionary(&rt, values));
-        shows(&rt, text, &column(&rt, text, &listed), want);
+        shows(&rt, text, &column(&rt, text, &listed), expected);
     }
 }
 
-// Lists in one segment, and whether their dictionary is equal to that of the five lists, whatever
-// the segments that hold them.
+/// Lists in one segment, and whether their dictionary is equal to that of the five lists, whatever
+/// the segments that hold them.
 static FIVE_LISTS: [(&str, bool); 3] = [
     ("list int32; 5 6; / i 0 1 1 3 4 6 / / i 1 2 3 4 5 6", true),
     ("list int32; 5 6; / i 0 1 1 3 4 6 / / i 1 2 3 4 5 7", false),
@@ -270,7 +276,7 @@ static FIVE_LISTS: [(&str, bool); 3] = [
 #[test]
 fn equal_dictionaries_of_lists(rt: HostRuntime) {
     let parts = dictionary(&rt, LISTS);
-    for (text, want) in &FIVE_LISTS {
-        are_equal(&rt, text, &dictionary(&rt, &[text]), &parts, *want);
+    for (text, expected) in &FIVE_LISTS {
+        are_equal(&rt, text, &dictionary(&rt, &[text]), &parts, *expected);
     }
 }

@@ -1,4 +1,4 @@
-// Floating-point numbers, against those that another program reads out of their bits.
+//! Floating-point numbers, against those that another program reads from their bits.
 
 use super::making::{column, dictionary, listed, plain};
 use arrow_data::{Array, Value, half};
@@ -8,7 +8,7 @@ use std::process::Abort;
 
 const MEMORY: &str = "memory";
 
-// A type, the bits in its one slot, and those of the number of 64 bits that they say.
+/// A type, the bits in its one slot, and those of the number of 64 bits that they mean.
 static NUMBERS: [(&str, u64, u64); 38] = [
     ("halffloat", 0x0, 0x0000000000000000),
     ("halffloat", 0x8000, 0x8000000000000000),
@@ -50,7 +50,7 @@ static NUMBERS: [(&str, u64, u64); 38] = [
     ("double", 0xffffffffffffffff, 0x7ff8000000000000),
 ];
 
-// The bits of the number in the first slot, all those of what is no number as one.
+/// The bits of the number in the first slot, the same bits for every NaN.
 fn first_number(rt: &impl Abort, column: &Array) -> Option<u64> {
     assert!(rt; column.len() > 0);
     match column.float_at(0) {
@@ -61,16 +61,20 @@ fn first_number(rt: &impl Abort, column: &Array) -> Option<u64> {
 
 #[test]
 fn numbers_of_bits(rt: HostRuntime) {
-    for (word, bits, want) in &NUMBERS {
+    for (word, bits, expected) in &NUMBERS {
         let text = format!(in rt.alloc(); "{word}; 1; / l {}", bits.cast_signed());
         let column = plain(&rt, &text.expect(&rt, MEMORY));
-        assert_eq!(rt; first_number(&rt, &column), Some(*want), "{word} {bits}");
+        assert_eq!(rt;
+            first_number(&rt, &column),
+            Some(*expected),
+            "{word} {bits}"
+        );
         assert!(rt; column.len() > 0);
         assert_eq!(rt; column.int_at(0), Some(i128::from(*bits)), "{word} {bits}");
     }
 }
 
-// Columns whose first slot has no floating-point number.
+/// Columns whose first slot has no floating-point number.
 static OTHERS: [&str; 4] = [
     "double; 1; 254 / l 1",
     "uint64; 1; / l 4607182418800017408",
@@ -92,7 +96,7 @@ fn slots_without_a_number(rt: HostRuntime) {
     assert!(rt; values.float_at(place) == Some(1.0));
 }
 
-// Numbers by their bits, and the bits of those of 16 and 32 bits that are nearest.
+/// Numbers by their bits, and the bits of the nearest numbers of 16 and 32 bits.
 static NEAREST: [(u64, u16, u32); 26] = [
     (0x0000000000000000, 0x0000, 0x00000000),
     (0x8000000000000000, 0x8000, 0x80000000),
@@ -122,11 +126,11 @@ static NEAREST: [(u64, u16, u32); 26] = [
     (0x7ff8000000000000, 0x7e00, 0x7fc00000),
 ];
 
-fn has_bits(rt: &impl Abort, precision: Precision, number: f64, want: u64) {
+fn has_bits(rt: &impl Abort, precision: Precision, number: f64, expected: u64) {
     let value = Value::float(precision, number);
     assert!(rt;
-        value == Value::Int(i128::from(want)),
-        "{want} {precision:?}"
+        value == Value::Int(i128::from(expected)),
+        "{expected} {precision:?}"
     );
 }
 

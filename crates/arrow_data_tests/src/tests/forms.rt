@@ -1,4 +1,4 @@
-// The forms of types, and what is said of each form.
+//! The forms of types, and the properties of each form.
 
 use arrow_data::form::{Form, ListForm, NumberForm, OffsetWidth, form_of, int_width, node_form};
 use arrow_test_fields::fields_of;
@@ -21,7 +21,7 @@ const UNSIGNED_16: Form = Form::Numbers(NumberForm::Int {
     signed: false,
 });
 
-// Types, the form of their values, how many buffers that has, and whether no child is below it.
+/// Types, the form of their values, how many buffers that has, and whether no child is below it.
 static FORMS: [(&str, Form, usize, bool); 14] = [
     ("decimal[32:9:2]", SIGNED_32, 2, true),
     ("decimal[64:18:0]", SIGNED_64, 2, true),
@@ -59,7 +59,7 @@ static FORMS: [(&str, Form, usize, bool); 14] = [
     ("struct[1] decimal[256:76:2]", Form::Structs, 1, false),
 ];
 
-// That the values of a field have this form.
+/// Asserts that the values of a field have this form.
 fn is_formed(rt: &impl Abort, field: &Field, form: Form, name: &str) {
     assert_eq!(rt; form_of(&field.data_type), form, "{name}");
     assert_eq!(rt;
@@ -81,7 +81,7 @@ fn types_have_their_forms(rt: HostRuntime) {
     }
 }
 
-// Encoded fields, the form of their values, and that of their indices.
+/// Encoded fields, the form of their values, and that of their indices.
 static ENCODED: [(&str, Form, Form); 3] = [
     (
         "by:0:int32 decimal[256:76:2]",
@@ -96,7 +96,7 @@ static ENCODED: [(&str, Form, Form); 3] = [
     ("by:0:uint16 decimal[64:18:2]", SIGNED_64, UNSIGNED_16),
 ];
 
-// That the values of a field have the first form, and its indices the second.
+/// Asserts that the values of a field have the first form, and its indices the second.
 fn is_encoded(rt: &impl Abort, field: &Field, forms: (Form, Form), name: &str) {
     assert_eq!(rt; form_of(&field.data_type), forms.0, "{name}");
     assert_eq!(rt;
@@ -115,7 +115,7 @@ fn indices_have_the_forms_of_numbers(rt: HostRuntime) {
     }
 }
 
-// Widths of numbers in bits, and in bytes.
+/// Widths of numbers in bits, and in bytes.
 static WIDTHS: [(BitWidth, usize); 4] = [(Eight, 1), (Sixteen, 2), (ThirtyTwo, 4), (SixtyFour, 8)];
 
 #[test]

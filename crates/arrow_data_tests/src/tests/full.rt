@@ -1,10 +1,10 @@
-// Slots between two nulls, and the bytes of their values.
+//! Slots between two nulls, and the bytes of their values.
 
 use super::making::plain;
 use arrow_data::Array;
 use std::process::Abort;
 
-// The first null after each null, at last the end, and the bytes of the values before it.
+/// The first null after each null, at last the end, and the bytes of the values before it.
 type Runs = &'static [(usize, &'static [u8])];
 
 static COLUMNS: [(&str, Runs); 9] = [
@@ -26,7 +26,7 @@ static COLUMNS: [(&str, Runs); 9] = [
             (3, &[1, 0, 0, 0, 0, 0, 0, 0, 3, 0, 0, 0, 0, 0, 0, 0]),
         ],
     ),
-    // Without a bitmap there is no null.
+    // Without a bitmap there are no nulls.
     ("uint8; 3; / 7 8 255 9", &[(3, &[7, 8, 255])]),
     ("utf8; 3; 5 / i 0 1 1 3 / 'abc'", &[(1, b"a"), (3, b"bc")]),
     // Byte strings that begin at the second byte and end before the last.
@@ -41,7 +41,7 @@ static COLUMNS: [(&str, Runs); 9] = [
     ("utf8; 0; / /", &[(0, &[])]),
 ];
 
-// Whether the slots between nulls are these.
+/// Whether the slots between nulls are these.
 fn has_runs(column: &Array, runs: &[(usize, &[u8])]) -> bool {
     let len = column.len();
     let mut start = 0;

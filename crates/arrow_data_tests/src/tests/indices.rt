@@ -1,11 +1,11 @@
-// Indices of each width and sign, by themselves.
+//! Indices of each width and sign, by themselves.
 
 ghost use Rattle.std.specs.Prelude.{◌≡◌};
 ghost use Rattle.arrow_bits.specs.Numbers.{IsWidth};
 ghost use Rattle.arrow_data.specs.Slots.{index_width};
 
 use super::making::{column, dictionary, listed};
-use super::told::shows;
+use super::reported::shows;
 use arrow_data::NumberBuffers;
 use arrow_data::form::{Form, NumberForm, node_form};
 use arrow_data::layout::{are_indices, has_fixed};
@@ -14,8 +14,8 @@ use arrow_types::BitWidth::{self, Eight, Sixteen, SixtyFour, ThirtyTwo};
 use arrow_types::{Field, IndexType};
 use std::process::Abort;
 
-// The width of an index, whether it is signed, the index, how many values there are, and whether it
-// leads to one.
+/// The width of an index, whether it is signed, the index, how many values there are, and whether it
+/// refers to one.
 static INDICES: [(BitWidth, bool, i128, usize, bool); 30] = [
     (Eight, false, 0, 1, true),
     (Eight, false, 0, 0, false),
@@ -49,7 +49,7 @@ static INDICES: [(BitWidth, bool, i128, usize, bool); 30] = [
     (SixtyFour, true, -1, usize::MAX, false),
 ];
 
-// How many bytes an index takes.
+/// The number of bytes of an index.
 fn index_width(index: IndexType) -> usize
     ensures same { result ≡ index_width index }
     ensures whole { IsWidth result }
@@ -57,13 +57,13 @@ fn index_width(index: IndexType) -> usize
     (index.bits.bits() / 8) as usize
 }
 
-// That all of so many indices lead to a value, or that one does not.
+/// Asserts that all of `len` indices refer to a value, or that one does not.
 fn all_lead(
     rt: &impl Abort,
     index: IndexType,
     (len, validity, bytes): (usize, &[u8], &[u8]),
     count: usize,
-    want: bool,
+    expected: bool,
 ) {
     let width = index_width(index);
     assert!(rt; has_fixed(len, width, validity, bytes));
@@ -74,16 +74,16 @@ fn all_lead(
         values: bytes,
     };
     let lead = are_indices(len, indices, count);
-    assert_eq!(rt; lead, want, "{index:?} {bytes:?} of {count}");
+    assert_eq!(rt; lead, expected, "{index:?} {bytes:?} of {count}");
 }
 
-// Bits of 130 slots that are valid but for the last.
+/// Bits of 130 slots that are all valid except the last.
 static LAST_NULL: [u8; 17] = [
     255, 255, 255, 255, 255, 255, 255, 255, 255, 255, 255, 255, 255, 255, 255, 255, 1,
 ];
 
-// The index behind 129 that are 0, at whose places they lead to the first value, where there is one.
-fn behind_zeros(rt: &(impl Abort + AllocGlobal), bytes: &[u8]) -> Vec<u8> {
+/// The index after 129 indices that are 0 and refer to the first value, if there is one.
+fn after_zeros(rt: &(impl Abort + AllocGlobal), bytes: &[u8]) -> Vec<u8> {
     let mut all = Vec::new(rt.alloc());
     all.resize(bytes.len().wrapping_mul(129), 0)
         .expect(rt, "memory");
@@ -91,39 +91,39 @@ fn behind_zeros(rt: &(impl Abort + AllocGlobal), bytes: &[u8]) -> Vec<u8> {
     all
 }
 
-// Whether the one index leads to a value, alone and as the last of 130, without a bitmap and with
-// one; under a null it always does.
+/// Asserts whether the index refers to a value, by itself and as the last of 130, without a bitmap
+/// and with one; a null index is always accepted.
 fn leads(
     rt: &(impl Abort + AllocGlobal),
     index: IndexType,
     bytes: &[u8],
     count: usize,
-    want: bool,
+    expected: bool,
 ) {
-    for (validity, want) in [(&[] as &[u8], want), (&[1], want), (&[0], true)] {
-        all_lead(rt, index, (1, validity, bytes), count, want);
+    for (validity, expected) in [(&[] as &[u8], expected), (&[1], expected), (&[0], true)] {
+        all_lead(rt, index, (1, validity, bytes), count, expected);
     }
-    let all = behind_zeros(rt, bytes);
-    for (validity, want) in [
-        (&[] as &[u8], want),
-        (&[255; 17], want),
+    let all = after_zeros(rt, bytes);
+    for (validity, expected) in [
+        (&[] as &[u8], expected),
+        (&[255; 17], expected),
         (&LAST_NULL, count > 0),
     ] {
-        all_lead(rt, index, (130, validity, &all), count, want);
+        all_lead(rt, index, (130, validity, &all), count, expected);
     }
 }
 
 #[test]
 fn an_index_by_its_width_and_sign(rt: HostRuntime) {
-    for &(bits, signed, number, count, want) in &INDICES {
+    for &(bits, signed, number, count, expected) in &INDICES {
         let index = IndexType { bits, signed };
         let bytes = number.to_le_bytes();
         let width = index_width(index);
-        leads(&rt, index, &bytes[..width], count, want);
+        leads(&rt, index, &bytes[..width], count, expected);
     }
 }
 
-// An index of 8 bits to one of 300 nulls, with a sign or without one, and what it shows.
+/// An index of 8 bits into 300 nulls, signed or unsigned, and what it shows.
 static SIGNS: [(&str, &str); 4] = [
     ("by:0:uint8 null; 1; / 200", "1: 200=null | 300 values of 0"),
     ("by:0:uint8 null; 1; / 100", "1: 100=null | 300 values of 0"),
@@ -133,13 +133,13 @@ static SIGNS: [(&str, &str); 4] = [
 
 #[test]
 fn an_index_is_shown_with_its_sign(rt: HostRuntime) {
-    for (text, want) in &SIGNS {
+    for (text, expected) in &SIGNS {
         let listed = listed(&rt, dictionary(&rt, &["null; 300"]));
-        shows(&rt, text, &column(&rt, text, &listed), want);
+        shows(&rt, text, &column(&rt, text, &listed), expected);
     }
 }
 
-// Fields of indices, and the form of their nodes: that of the numbers.
+/// Fields of indices, and the form of their nodes: that of the numbers.
 static FORMS: [(&str, BitWidth, bool); 8] = [
     ("by:0:int8 utf8", Eight, true),
     ("by:0:uint8 utf8", Eight, false),
@@ -151,10 +151,10 @@ static FORMS: [(&str, BitWidth, bool); 8] = [
     ("by:0:uint64 utf8", SixtyFour, false),
 ];
 
-fn has_form(rt: &impl Abort, name: &str, fields: &[Field], want: Form) {
+fn has_form(rt: &impl Abort, name: &str, fields: &[Field], expected: Form) {
     for field in fields {
         let form = node_form(&field.data_type, field.dictionary);
-        assert_eq!(rt; form, want, "{name}");
+        assert_eq!(rt; form, expected, "{name}");
     }
 }
 

@@ -1,4 +1,4 @@
-// Intervals, by bytes that are written out.
+//! Intervals, by bytes that are written out.
 
 use super::making::{column, dictionary, listed, plain};
 use arrow_data::{Array, Interval, Value};
@@ -23,13 +23,13 @@ fn nano(months: i32, days: i32, nanoseconds: i64) -> Interval {
     }
 }
 
-// The interval in the first slot, which is the value that is made of it.
-fn is_interval(rt: &(impl Abort + AllocGlobal), text: &str, want: Interval) {
+/// Asserts that the first slot has the interval, which is the value that is made of it.
+fn is_interval(rt: &(impl Abort + AllocGlobal), text: &str, expected: Interval) {
     let column = plain(rt, text);
     assert!(rt; column.len() > 0);
-    assert_eq!(rt; column.interval_at(0), Some(want), "{text}");
+    assert_eq!(rt; column.interval_at(0), Some(expected), "{text}");
     assert!(rt; column.len() > 0);
-    match Value::interval(rt.alloc(), want).expect(rt, MEMORY) {
+    match Value::interval(rt.alloc(), expected).expect(rt, MEMORY) {
         Value::Int(number) => assert_eq!(rt; column.int_at(0), Some(number), "{text}"),
         Value::Bytes(bytes) => {
             assert_eq!(rt; column.bytes_at(0), Some(bytes.as_slice()), "{text}");
@@ -47,8 +47,8 @@ fn months_of_numbers(rt: HostRuntime) {
         ("interval[year_month]; 1; / 255 255 255 127", i32::MAX),
         ("interval[year_month]; 1; / 0 0 0 128", i32::MIN),
     ];
-    for (text, want) in &rows {
-        is_interval(&rt, text, months(*want));
+    for (text, expected) in &rows {
+        is_interval(&rt, text, months(*expected));
     }
     assert!(rt; months(1).unit() == IntervalUnit::YearMonth);
 }
@@ -89,15 +89,15 @@ fn months_days_and_nanoseconds_of_bytes(rt: HostRuntime) {
             nano(i32::MAX, i32::MIN, i64::MAX),
         ),
     ];
-    for (bytes, want) in &rows {
+    for (bytes, expected) in &rows {
         let text = format!(in rt.alloc(); "interval[month_day_nano]; 1; / {bytes}");
         let text = text.expect(&rt, MEMORY);
-        is_interval(&rt, &text, *want);
+        is_interval(&rt, &text, *expected);
     }
     assert!(rt; nano(1, 2, 3).unit() == IntervalUnit::MonthDayNano);
 }
 
-// Columns whose first slot has no interval.
+/// Columns whose first slot has no interval.
 static OTHERS: [&str; 9] = [
     "interval[year_month]; 1; 254 / 14 0 0 0",
     "interval[day_time]; 1; 254 / 2 0 0 0 244 1 0 0",

@@ -1,5 +1,5 @@
-// Columns and dictionaries out of text: the types of the nodes, how many slots each has, and the
-// buffers, as in `list int32; 3 2; 5 / i 0 2 2 2 / / i 1 2`.
+//! Makes columns and dictionaries from text: the types of the nodes, how many slots each has, and
+//! the buffers, as in `list int32; 3 2; 5 / i 0 2 2 2 / / i 1 2`.
 
 use arrow_body_reader::{are_fit, load};
 use arrow_data::{Array, Dictionary};
@@ -10,13 +10,13 @@ use std::process::Abort;
 
 const MEMORY: &str = "memory";
 
-// What a row asks, and its answer.
+/// The input of a row, and its expected result.
 pub(super) fn halves<'a>(rt: &impl Abort, row: &'a str) -> (&'a str, &'a str) {
     row.split_once(" => ").expect(rt, "an answer")
 }
 
-// Puts a buffer behind the others: letters in quotes, or numbers, of 4 bytes each behind an `i`, of
-// 8 behind an `l`, of one without a letter.
+/// Appends a buffer to the others: letters in quotes, or numbers, of 4 bytes each after an `i`, of 8
+/// after an `l`, of one without a letter.
 fn put(rt: &impl Abort, body: &mut Vec<u8>, words: &str) {
     if let Some(rest) = words.strip_prefix('\'') {
         let letters = rest.strip_suffix('\'').expect(rt, "a quote at the end");
@@ -40,7 +40,7 @@ fn put_numbers(rt: &impl Abort, body: &mut Vec<u8>, words: &str, width: usize) {
     }
 }
 
-// Where the buffers stand in the body, and the body: they stand one after the other.
+/// The positions of the buffers in the body, and the body: they lie one after the other.
 fn laid(rt: &(impl Abort + AllocGlobal), parts: &str) -> (Vec<Buffer>, Bytes) {
     let mut buffers = Vec::new(rt.alloc());
     let mut body = Vec::new(rt.alloc());
@@ -56,7 +56,7 @@ fn laid(rt: &(impl Abort + AllocGlobal), parts: &str) -> (Vec<Buffer>, Bytes) {
     (buffers, Bytes::from_vec(body).expect(rt, MEMORY))
 }
 
-// Nodes of so many slots, of which it is not said how many are null.
+/// Nodes with these numbers of slots, which do not say how many are null.
 fn nodes_of(rt: &(impl Abort + AllocGlobal), words: &str) -> Vec<FieldNode> {
     let mut nodes = Vec::new(rt.alloc());
     for word in words.split_ascii_whitespace() {
@@ -69,8 +69,8 @@ fn nodes_of(rt: &(impl Abort + AllocGlobal), words: &str) -> Vec<FieldNode> {
     nodes
 }
 
-// The column, which refers to the dictionaries that are listed; none where its buffers are no
-// column's.
+/// The column, which refers to the dictionaries that are listed; none if its buffers do not make a
+/// column.
 pub(super) fn column(
     rt: &(impl Abort + AllocGlobal),
     text: &str,
@@ -88,12 +88,12 @@ pub(super) fn column(
     }
 }
 
-// The column of a text that is one, without dictionaries.
+/// The column of a text that makes one, without dictionaries.
 pub(super) fn plain(rt: &(impl Abort + AllocGlobal), text: &str) -> Array {
     column(rt, text, &[]).expect(rt, "a column")
 }
 
-// The dictionary of the values of these columns, one after another.
+/// The dictionary of the values of these columns, one after another.
 pub(super) fn dictionary(rt: &(impl Abort + AllocGlobal), texts: &[&str]) -> Dictionary {
     assert!(rt; !texts.is_empty());
     let values = plain(rt, texts[0]);
@@ -105,7 +105,7 @@ pub(super) fn dictionary(rt: &(impl Abort + AllocGlobal), texts: &[&str]) -> Dic
     dictionary
 }
 
-// Puts the values of one column more into the dictionary.
+/// Appends the values of one more column to the dictionary.
 pub(super) fn append(rt: &(impl Abort + AllocGlobal), dictionary: &mut Dictionary, text: &str) {
     let values = plain(rt, text);
     assert!(rt; values.encoding().is_none() && values.data_type().same(dictionary.data_type()));
@@ -113,7 +113,7 @@ pub(super) fn append(rt: &(impl Abort + AllocGlobal), dictionary: &mut Dictionar
     dictionary.append(rt.alloc(), values).expect(rt, MEMORY);
 }
 
-// The list of one dictionary, of id 0.
+/// The list of one dictionary, of id 0.
 pub(super) fn listed(
     rt: &(impl Abort + AllocGlobal),
     dictionary: Dictionary,

@@ -1,11 +1,11 @@
-// Whether slots are texts: bytes that all are one, and bytes that are not.
+//! Whether slots are texts: bytes that together are one, and bytes that are not.
 
 use arrow_data::StringBuffers;
 use arrow_data::form::OffsetWidth;
 use arrow_data::layout::{are_texts, has_strings};
 use std::process::Abort;
 
-// Whether the slots between these offsets are texts, where they are slots at all.
+/// Whether the slots between these offsets are texts, if they are slots at all.
 fn are_utf8(
     rt: &(impl Abort + AllocGlobal),
     width: OffsetWidth,
@@ -39,13 +39,13 @@ fn put_offset(rt: &impl Abort, offsets: &mut Vec<u8>, width: OffsetWidth, place:
     added.expect(rt, "memory");
 }
 
-// U+00E9, U+20AC and U+1F600: two, three and four bytes.
+/// U+00E9, U+20AC and U+1F600: two, three and four bytes.
 const LETTERS: &[u8] = &[0xc3, 0xa9, 0xe2, 0x82, 0xac, 0xf0, 0x9f, 0x98, 0x80];
 
-// A text, bytes that are none, a text, and a byte that is none.
+/// A text, bytes that are not a text, a text, and a byte that is not a text.
 const OTHERS: &[u8] = &[0x61, 0xff, 0xfe, 0xc3, 0xa9, 0x80];
 
-// A bitmap, offsets and bytes, and whether the slots are texts.
+/// A bitmap, offsets and bytes, and whether the slots are texts.
 static SLOTS: [(&[u8], &[u8], &[u8], bool); 36] = [
     // Letters of one byte.
     (&[], &[0, 1, 3, 3, 6], b"abcdef", true),
@@ -75,15 +75,15 @@ static SLOTS: [(&[u8], &[u8], &[u8], bool); 36] = [
     (&[], &[0, 8, 9], LETTERS, false),
     (&[], &[8, 9], LETTERS, false),
     (&[], &[0, 8], LETTERS, false),
-    // The null slot alone begins or ends inside a letter, or a slot of no bytes stands there.
+    // Only the null slot begins or ends inside a letter, or a slot of no bytes is there.
     (&[0b1001], &[0, 2, 3, 5, 9], LETTERS, true),
     (&[0b1011], &[0, 2, 3, 5, 9], LETTERS, false),
     (&[0b1101], &[0, 2, 3, 5, 9], LETTERS, false),
     (&[0b1001], &[0, 2, 3, 3, 9], LETTERS, false),
     (&[0b010], &[0, 3, 3, 9], LETTERS, true),
     (&[0b101], &[3, 3, 5, 9], LETTERS, true),
-    // Under the null are bytes that are no text, and before the first slot and behind the last are
-    // such.
+    // Under the null are bytes that are not a text, and there are such before the first slot and
+    // after the last.
     (&[0b101], &[0, 1, 3, 5], OTHERS, true),
     (&[0b111], &[0, 1, 3, 5], OTHERS, false),
     (&[0b101], &[0, 1, 3, 4], OTHERS, false),
@@ -91,21 +91,21 @@ static SLOTS: [(&[u8], &[u8], &[u8], bool); 36] = [
     (&[], &[3, 6], OTHERS, false),
 ];
 
-// That the slots of a row are texts, or that they are not.
-fn are_told(
+/// Asserts that the slots of a row are texts, or that they are not.
+fn are_reported(
     rt: &(impl Abort + AllocGlobal),
     row: usize,
     width: OffsetWidth,
-    (validity, places, bytes, want): (&[u8], &[u8], &[u8], bool),
+    (validity, places, bytes, expected): (&[u8], &[u8], &[u8], bool),
 ) {
     let are_texts = are_utf8(rt, width, validity, places, bytes);
-    assert_eq!(rt; are_texts, Some(want), "row {row}");
+    assert_eq!(rt; are_texts, Some(expected), "row {row}");
 }
 
 #[test]
 fn texts_and_other_bytes(rt: HostRuntime) {
     for (row, slots) in SLOTS.iter().enumerate() {
-        are_told(&rt, row, OffsetWidth::Small, *slots);
-        are_told(&rt, row, OffsetWidth::Large, *slots);
+        are_reported(&rt, row, OffsetWidth::Small, *slots);
+        are_reported(&rt, row, OffsetWidth::Large, *slots);
     }
 }

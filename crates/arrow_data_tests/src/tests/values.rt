@@ -1,14 +1,14 @@
-// Values by themselves.
+//! Values by themselves.
 
 use arrow_data::Value;
 use std::process::Abort;
 
-// The values one and none.
+/// The values 1 and null.
 fn one_and_none(rt: &(impl Abort + AllocGlobal)) -> Vec<Value> {
     vec![in rt.alloc(); Value::Int(1), Value::Null].expect(rt, "memory")
 }
 
-// One value of each kind; the last two hold others.
+/// One value of each kind; the last two hold others.
 fn one_of_each(rt: &(impl Abort + AllocGlobal)) -> Vec<Value> {
     let bytes = Vec::from_slice(rt.alloc(), b"a").expect(rt, "memory");
     let text = String::from_str(rt.alloc(), "a").expect(rt, "memory");
@@ -24,7 +24,7 @@ fn one_of_each(rt: &(impl Abort + AllocGlobal)) -> Vec<Value> {
     values.expect(rt, "memory")
 }
 
-// A list of these numbers.
+/// A list of these numbers.
 fn list_of(rt: &(impl Abort + AllocGlobal), numbers: &[i128]) -> Value {
     let mut items = Vec::new(rt.alloc());
     for number in numbers {
@@ -33,19 +33,19 @@ fn list_of(rt: &(impl Abort + AllocGlobal), numbers: &[i128]) -> Value {
     Value::List(items)
 }
 
-// That values of these numbers are equal, where it is one number.
+/// Asserts that values `i` and `j` compare equal exactly if `i` is `j`.
 fn is_answered(rt: &impl Abort, (i, j): (usize, usize), answer: bool) {
     assert_eq!(rt; answer, i == j, "{i} and {j}");
 }
 
-// That a value is equal to the one of number `i` alone.
+/// Asserts that a value is equal only to value number `i`.
 fn is_equal_to_one(rt: &impl Abort, value: &Value, values: &[Value], i: usize) {
     for (j, other) in values.iter().enumerate() {
         is_answered(rt, (i, j), *value == *other);
     }
 }
 
-// That a copy of a value is equal to the one of number `i` alone.
+/// Asserts that a copy of a value is equal only to value number `i`.
 fn is_copied(rt: &(impl Abort + AllocGlobal), value: &Value, values: &[Value], i: usize) {
     let copy = value.copy(rt.alloc()).expect(rt, "memory");
     is_equal_to_one(rt, &copy, values, i);

@@ -1,5 +1,5 @@
-// Columns, and dictionaries of their values, as their texts say: `[1 2]` are numbers of 8 bits,
-// `[1][2 3]` these of two segments, and `nulls 7` so many nulls.
+//! Columns, and dictionaries of their values, from texts: `[1 2]` are numbers of 8 bits, `[1][2 3]`
+//! are such numbers in two segments, and `nulls 7` is that number of nulls.
 
 ghost use Rattle.std.specs.Prelude.{◌≡◌, ◌≤◌, ℕ, IsTrue, List, None, Some};
 ghost use Rattle.arrow_types.specs.Field.{none};
@@ -16,20 +16,20 @@ use bytes::Bytes;
 use std::alloc::Global;
 use std::process::Abort;
 
-// Signed numbers of 8 bits.
+/// Signed numbers of 8 bits.
 const INT8: DataType = DataType::Int {
     bits: BitWidth::Eight,
     signed: true,
 };
 
-// A nullable field without a name and an encoding.
+/// A nullable field without a name and an encoding.
 fn field(alloc: Global, data_type: DataType) -> Field
     ensures { (result.dictionary ≡ None) × (type_view result.data_type ≡ type_view data_type) }
 {
     Field::new(alloc, String::new(alloc), data_type, true)
 }
 
-// Whether the type is one of numbers or of nothing.
+/// Whether the type is one of integers or the null type.
 fn is_simple(data_type: &DataType) -> bool
     ensures childless { IsTrue result → (type_view data_type.now).children ≡ none }
     ensures texts { IsTrue result → (len : ℕ) (b : List (List ℕ)) → IsText (type_view data_type.now).tag None len b }
@@ -38,7 +38,7 @@ fn is_simple(data_type: &DataType) -> bool
     matches!(data_type, DataType::Null | DataType::Int { .. })
 }
 
-// A column of `len` slots without nulls.
+/// A column of `len` slots without nulls.
 fn column(rt: &impl Abort, alloc: Global, data_type: DataType, len: usize, bytes: &[u8]) -> Array {
     let field = field(alloc, data_type);
     let copy = Bytes::copy_from_slice(alloc, bytes).expect(rt, "memory");
@@ -63,7 +63,7 @@ fn column(rt: &impl Abort, alloc: Global, data_type: DataType, len: usize, bytes
     Array::from_parts(alloc, &field, node, below).expect(rt, "memory")
 }
 
-// The column of a text: numbers between brackets, or nulls, which lie in no body.
+/// The column of a text: numbers between brackets, or nulls, which take no bytes of a body.
 pub(super) fn values(rt: &impl Abort, alloc: Global, text: &str) -> Array {
     if let Some(count) = text.strip_prefix("nulls ") {
         let len = count.parse::<usize>().ok().expect(rt, "a count");
@@ -77,7 +77,7 @@ pub(super) fn values(rt: &impl Abort, alloc: Global, text: &str) -> Array {
     column(rt, alloc, INT8, numbers.len(), &numbers)
 }
 
-// The dictionary of a text, with a second segment where there is one.
+/// The dictionary of a text, with a second segment if there is one.
 pub(super) fn dictionary(rt: &impl Abort, alloc: Global, text: &str) -> Dictionary {
     let (first, second) = text.split_once("][").unwrap_or((text, ""));
     let values = values(rt, alloc, first);
@@ -98,7 +98,7 @@ fn append(rt: &impl Abort, alloc: Global, dictionary: &mut Dictionary, text: &st
     dictionary.append(alloc, values).expect(rt, "memory");
 }
 
-// Whether values may be appended to what the id has.
+/// Whether values may be appended to what the id has.
 fn may_append(store: &Store, id: i64, values: &Array) -> bool
     ensures plain { IsTrue result → values.now.encoding ≡ None }
     ensures typed { IsTrue result
@@ -111,7 +111,7 @@ fn may_append(store: &Store, id: i64, values: &Array) -> bool
         }
 }
 
-// The fault of values that are appended, if there is one.
+/// The fault when values are appended, if there is one.
 pub(super) fn appended(
     rt: &impl Abort,
     alloc: Global,
@@ -123,7 +123,7 @@ pub(super) fn appended(
     store.append(alloc, id, values).err()
 }
 
-// The number that value `i` is.
+/// The number that value `i` is.
 pub(super) fn number(dictionary: &Dictionary, i: usize) -> Option<i128> {
     if i >= dictionary.len() {
         return None;

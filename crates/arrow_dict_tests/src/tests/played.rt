@@ -1,4 +1,4 @@
-// Calls of a store and of a tracker, one after the other, each with what is answered to it.
+//! Calls of a store and of a tracker, one after the other, each with its result.
 
 use super::making::{appended, dictionary, number, values};
 use arrow_data::Dictionary;
@@ -6,7 +6,7 @@ use arrow_dict::{Store, Tracker, Updates};
 use std::alloc::Global;
 use std::process::Abort;
 
-// What the calls of a script are made of, and the copy that one of them took.
+/// The objects that the calls of a script are made on, and the copy that one of the calls took.
 #[derive(Drop)]
 struct Played {
     store: Store,
@@ -15,7 +15,7 @@ struct Played {
 }
 
 impl Played {
-    // Makes a call, with what it names behind the id, and appends what it answers.
+    /// Makes a call, with what it names after the id, and appends its result.
     fn call(&mut self, rt: &impl Abort, alloc: Global, call: &str, text: &mut String) {
         let (name, more) = call.split_once(' ').unwrap_or((call, ""));
         let (id, of) = more.split_once(' ').unwrap_or((more, ""));
@@ -40,7 +40,7 @@ impl Played {
         }
     }
 
-    // The same of a call of the tracker.
+    /// The same for a call of the tracker.
     fn call_tracker(
         &mut self,
         rt: &impl Abort,
@@ -71,7 +71,7 @@ impl Played {
     }
 }
 
-// The id of a word, 0 where there is none.
+/// The id of a word, 0 if there is none.
 fn id_in(word: &str) -> i64 {
     match word {
         "MIN" => i64::MIN,
@@ -111,7 +111,7 @@ fn push_all(rt: &impl Abort, text: &mut String, entries: &[(i64, Dictionary)]) {
     }
 }
 
-// The numbers that the values of a dictionary are, between brackets.
+/// The numbers that the values of a dictionary are, between brackets.
 fn push_numbers(rt: &impl Abort, text: &mut String, dictionary: &Dictionary) {
     text.push('[').expect(rt, "memory");
     for i in 0..dictionary.len() {
@@ -126,7 +126,8 @@ fn push_numbers(rt: &impl Abort, text: &mut String, dictionary: &Dictionary) {
     text.push(']').expect(rt, "memory");
 }
 
-// That what the calls of a script answer, from a new store and a new tracker on, stands behind them.
+/// Asserts that the calls of a script, made on a new store and a new tracker, return what the script
+/// has after each call.
 pub(super) fn is_played(rt: &(impl Abort + AllocGlobal), script: &str) {
     let mut played = Played {
         store: Store::new(rt.alloc()),

@@ -1,4 +1,4 @@
-// What a store has for an id, and in which order.
+//! What a store has for an id, and in which order.
 
 use super::played::is_played;
 use arrow_dict::StoreFault::{self, Memory, NoBase, TooLong};
@@ -6,10 +6,10 @@ use arrow_dict::StoreFault::{self, Memory, NoBase, TooLong};
 static SCRIPTS: [&str; 14] = [
     // A new store has nothing.
     "all ->; get 0 -> none; get -1 -> none; get MIN -> none; get MAX -> none",
-    // What is replaced is what is got.
+    // What replaces a dictionary is what `get` returns.
     "put 7 [70]; put 8 [80]; get 7 -> [70]; put 7 [71 72]; get 7 -> [71 72]; get 8 -> [80]; \
     get 9 -> none; all -> 7=[71 72] 8=[80]",
-    // Also by equal values of another type: by none.
+    // A dictionary may also be replaced by equal values of another type: here, by none.
     "put 7 []; type 7 -> Some(Int { bits: Eight, signed: true }); put 7 nulls 0; \
     type 7 -> Some(Null); put 7 []; type 7 -> Some(Int { bits: Eight, signed: true })",
     // Ids far apart.
@@ -27,7 +27,7 @@ static SCRIPTS: [&str; 14] = [
     "put 3 [8]; put 9 [14]; put -5 [0]; all -> -5=[0] 3=[8] 9=[14]",
     "put 9 [14]; put -5 [0]; put 3 [8]; all -> -5=[0] 3=[8] 9=[14]",
     "put 9 [14]; put 3 [8]; put -5 [0]; all -> -5=[0] 3=[8] 9=[14]",
-    // A cleared store begins anew.
+    // A cleared store starts again without dictionaries.
     "put 7 [70]; put 8 [80]; clear; all ->; get 7 -> none; put 8 [81]; get 8 -> [81]",
     // Deltas without a base.
     "put 3 [10]; append 2 [30] -> NoBase; append 4 [30] -> NoBase; append -3 [30] -> NoBase; \
@@ -38,7 +38,7 @@ static SCRIPTS: [&str; 14] = [
     append 0 nulls 2147483647 -> TooLong; count 0 -> 2147483646; append 0 nulls 1 -> appended; \
     count 0 -> 2147483647; append 0 nulls 0 -> appended; count 0 -> 2147483647; \
     append 0 nulls 1 -> TooLong; count 0 -> 2147483647",
-    // A delta goes behind what the id has, and a copy from before does not change.
+    // A delta is appended to what the id has, and a copy from before does not change.
     "put 3 [10 20]; put 4 [99]; copy 3; append 3 [30 40 50] -> appended; append 3 [60] -> appended; \
     get 3 -> [10 20 30 40 50 60]; get 4 -> [99]; \
     type 3 -> Some(Int { bits: Eight, signed: true }); copied -> [10 20]",
@@ -51,7 +51,7 @@ fn calls_of_a_store(rt: HostRuntime) {
     }
 }
 
-// The faults, and their numbers and words.
+/// The faults, and their numbers and words.
 static FAULTS: [(StoreFault, &str); 3] = [
     (NoBase, "1 no dictionary to append to"),
     (TooLong, "2 more than 2,147,483,647 values in a dictionary"),
@@ -59,9 +59,9 @@ static FAULTS: [(StoreFault, &str); 3] = [
 ];
 
 #[test]
-fn faults_are_told(rt: HostRuntime) {
-    for (fault, want) in &FAULTS {
+fn faults_are_reported(rt: HostRuntime) {
+    for (fault, expected) in &FAULTS {
         let got = format!(in rt.alloc(); "{} {fault}", fault.number()).expect(&rt, "memory");
-        assert_eq!(rt; got.as_str(), *want);
+        assert_eq!(rt; got.as_str(), *expected);
     }
 }

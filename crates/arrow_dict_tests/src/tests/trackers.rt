@@ -1,9 +1,9 @@
-// What a tracker plans, by deltas or by sending again, and what was sent once it has committed.
+//! What a tracker plans, with deltas or by resending, and what was sent once it has committed.
 
 use super::played::is_played;
 
 static SCRIPTS: [&str; 8] = [
-    // A dictionary that grows, and then changes.
+    // A dictionary that is extended, and then changes.
     "delta 1 [1 2 3] -> New; stage 1 [1 2 3]; commit; delta 1 [1 2 3] -> None; \
     delta 1 [1 2 3 4 5] -> Delta(3); stage 1 [1 2 3 4 5]; commit; delta 1 [1 3 4 5] -> Replace; \
     delta 1 [1 2 3 4 5] -> None; discard",
@@ -13,7 +13,7 @@ static SCRIPTS: [&str; 8] = [
     // An empty list is sent too, and what comes after it is a delta.
     "delta 1 [] -> New; stage 1 []; commit; delta 1 [] -> None; delta 1 [5] -> Delta(0); \
     sent 1 -> []",
-    // A list that is cut off, and one that differs in a value alone.
+    // A list that is cut off, and one that differs in only one value.
     "stage 1 [1 2 3]; commit; delta 1 [1 2] -> Replace; delta 1 [1 2 4] -> Replace; \
     delta 1 [0 2 3 4] -> Replace; delta 1 [] -> Replace; delta 2 [1 2 3] -> New",
     // Segments make no difference.

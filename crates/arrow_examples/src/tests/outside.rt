@@ -1,4 +1,4 @@
-//! Streams that another program laid out, which the callers read and write.
+//! Streams that another program wrote, which the callers read and write.
 
 /// One column `d` of floating-point numbers of 64 bits: 1.5 and a null, then 0.25 and -8.
 pub(crate) const DOUBLES: [u8; 496] = [
@@ -72,7 +72,8 @@ pub(crate) const NUMBERS: [u8; 520] = [
     0xff, 0xff, 0xff, 0xff, 0x00, 0x00, 0x00, 0x00,
 ];
 
-/// One column `k` of texts by a dictionary that grows: `a`, `ef`, a null, `lm` and `bcd`.
+/// One column `k` of texts by a dictionary that is extended by a delta: `a`, `ef`, a null, `lm` and
+/// `bcd`.
 pub(crate) const WORDS: [u8; 992] = [
     0xff, 0xff, 0xff, 0xff, 0xc0, 0x00, 0x00, 0x00, 0x10, 0x00, 0x00, 0x00, 0x0c, 0x00, 0x18, 0x00,
     0x04, 0x00, 0x06, 0x00, 0x08, 0x00, 0x10, 0x00, 0x0c, 0x00, 0x00, 0x00, 0x04, 0x00, 0x01, 0x00,

@@ -1,20 +1,20 @@
-// How many fields, pairs and bytes of names, zones, keys and values are read, and limits of them.
+//! How many fields, pairs and bytes of names, zones, keys and values are read, and limits on them.
 
-use super::reading::{Edits, edited, told};
+use super::reading::{Edits, edited, reported};
 use crate::foreign;
 use crate::vectors::{
     ABSENT, AT_BOTH, AT_COLUMN, AT_MESSAGE, AT_SCHEMA, FILLED, LEVELS, NO_PAIRS, PLAIN, ROWS,
     SHARED, WORDS,
 };
-use arrow_meta_reader::{Work, decode_counted, tree_counted};
+use arrow_meta_reader::{DecodeCost, decode_counted, tree_counted};
 use arrow_types::Limits;
 use std::process::Abort;
 
-// Bytes of metadata that are changed, the number of the fault, and what was counted.
+/// Bytes of metadata that are changed, the number of the fault, and what was counted.
 type Row = (Edits, u8, [u64; 3]);
 
-// Metadata, and rows of each: of the ten fields of `LEVELS` the names have 19 bytes and the zone 3,
-// and of the twelve pairs the keys have 33 and the values 20. What is absent is not counted.
+/// Metadata, and rows for each: of the ten fields of `LEVELS` the names have 19 bytes and the zone
+/// 3, and of the twelve pairs the keys have 33 and the values 20. What is absent is not counted.
 static COUNTS: [(&[u8], &[Row]); 14] = [
     (PLAIN, &[("", 0, [1, 0, 1])]),
     (ROWS, &[("", 0, [0, 0, 0])]),
@@ -32,7 +32,7 @@ static COUNTS: [(&[u8], &[Row]); 14] = [
     ),
     (AT_COLUMN, &[("", 0, [1, 1, 3])]),
     (AT_BOTH, &[("", 0, [1, 2, 5])]),
-    // The pairs of a message are not looked at.
+    // The pairs of a message are not inspected.
     (AT_MESSAGE, &[("", 0, [1, 0, 1]), ("167=255", 0, [1, 0, 1])]),
     (NO_PAIRS, &[("", 0, [1, 0, 1])]),
     (ABSENT, &[("", 0, [1, 3, 3])]),
@@ -44,7 +44,8 @@ static COUNTS: [(&[u8], &[Row]); 14] = [
             // The second pair of three is the first one, and the last one is not there.
             ("424=16", 0, [10, 12, 75]),
             ("416=2", 0, [10, 11, 70]),
-            // All was read before a fault that comes behind what is not readable.
+            // Everything was read before a fault whose kind comes after that of unreadable
+            // metadata.
             ("20=2", 4, [10, 12, 75]),
             ("39=128", 6, [10, 12, 75]),
             ("60=1", 8, [10, 12, 75]),
@@ -69,10 +70,10 @@ static COUNTS: [(&[u8], &[Row]); 14] = [
 ];
 
 fn are_counted(rt: &(impl Abort + AllocGlobal), bytes: &[u8], rows: &[Row]) {
-    for (edits, fault, want) in rows {
+    for (edits, fault, expected) in rows {
         let bytes = edited(rt, rt.alloc(), bytes, edits);
-        let answer = told(rt.alloc(), &bytes, &Limits::standard());
-        assert_eq!(rt; answer, (*fault, *want), "{edits:?}");
+        let answer = reported(rt.alloc(), &bytes, &Limits::standard());
+        assert_eq!(rt; answer, (*fault, *expected), "{edits:?}");
     }
 }
 
@@ -83,11 +84,12 @@ fn what_is_read_is_counted(rt: HostRuntime) {
     }
 }
 
-// The schema's own pairs stand behind all else: the last value ends at 1449, and zero bytes follow.
+/// The schema's own pairs come after everything else: the last value ends at 1449, and zero bytes
+/// follow.
 #[test]
 fn metadata_that_are_cut_off(rt: HostRuntime) {
     for end in 0..LEVELS.len() {
-        let (fault, work) = told(rt.alloc(), &LEVELS[..end], &Limits::standard());
+        let (fault, work) = reported(rt.alloc(), &LEVELS[..end], &Limits::standard());
         assert_eq!(rt; fault, if end < 1449 { 3 } else { 0 }, "{end} bytes");
         assert!(rt;
             work[0] <= 10 && work[1] <= 12 && work[2] <= 75,
@@ -96,10 +98,10 @@ fn metadata_that_are_cut_off(rt: HostRuntime) {
     }
 }
 
-// A work that begins with these numbers comes to the same.
+/// Counts that begin with these numbers end up the same.
 fn is_anew(rt: &(impl Abort + AllocGlobal), begun: u64) {
     let limits = Limits::standard();
-    let mut work = Work {
+    let mut work = DecodeCost {
         fields: begun,
         pairs: begun,
         bytes: begun,
@@ -107,11 +109,11 @@ fn is_anew(rt: &(impl Abort + AllocGlobal), begun: u64) {
     assert!(rt; decode_counted(rt.alloc(), LEVELS, &limits, &mut work).is_ok());
     assert_eq!(rt; [work.fields, work.pairs, work.bytes], [10, 12, 75]);
     assert!(rt; decode_counted(rt.alloc(), ROWS, &limits, &mut work).is_ok());
-    assert!(rt; work == Work::NONE);
+    assert!(rt; work == DecodeCost::NONE);
     assert!(rt; tree_counted(rt.alloc(), AT_BOTH, &limits, &mut work).is_ok());
     assert_eq!(rt; [work.fields, work.pairs, work.bytes], [1, 2, 5]);
     assert!(rt; decode_counted(rt.alloc(), &[], &limits, &mut work).is_err());
-    assert!(rt; work == Work::NONE);
+    assert!(rt; work == DecodeCost::NONE);
 }
 
 #[test]
@@ -121,7 +123,7 @@ fn the_work_begins_at_nothing(rt: HostRuntime) {
     }
 }
 
-// How many bytes names, zones, keys and values have together.
+/// How many bytes names, zones, keys and values have together.
 static BYTES: [(&[u8], u64); 9] = [
     (PLAIN, 1),
     (AT_MESSAGE, 1),
@@ -134,12 +136,12 @@ static BYTES: [(&[u8], u64); 9] = [
     (foreign::LEVELS, 75),
 ];
 
-// With so many bytes allowed, these are read or not.
+/// With this many bytes allowed, these are read or not.
 fn is_limited(rt: &(impl Abort + AllocGlobal), bytes: &[u8], most: u64, count: u64) {
     let limits = Limits::new(most, 0, 0).expect(rt, "within the ceilings");
-    let (fault, work) = told(rt.alloc(), bytes, &limits);
-    let want = if count <= most { 0 } else { 3 };
-    assert_eq!(rt; fault, want, "of {most} bytes");
+    let (fault, work) = reported(rt.alloc(), bytes, &limits);
+    let expected = if count <= most { 0 } else { 3 };
+    assert_eq!(rt; fault, expected, "of {most} bytes");
     assert!(rt;
         work[2] <= most && (fault > 0 || work[2] == count),
         "of {most} bytes"
@@ -155,8 +157,8 @@ fn names_zones_keys_and_values_keep_to_the_limit(rt: HostRuntime) {
     }
 }
 
-// Metadata, the most bytes of metadata and of a body, the number of the fault, and what was counted:
-// two bytes let the name and the key be read, and not the value.
+/// Metadata, the greatest numbers of bytes of metadata and of a body, the number of the fault, and
+/// what was counted: a limit of two bytes lets the name and the key be read, but not the value.
 static LIMITED: [(&[u8], [u64; 2], u8, [u64; 3]); 3] = [
     (AT_SCHEMA, [2, 0], 3, [1, 1, 2]),
     (ROWS, [1, 24], 0, [0, 0, 0]),
@@ -165,8 +167,8 @@ static LIMITED: [(&[u8], [u64; 2], u8, [u64; 3]); 3] = [
 
 #[test]
 fn limits_are_kept(rt: HostRuntime) {
-    for &(bytes, [most, most_body], fault, want) in &LIMITED {
+    for &(bytes, [most, most_body], fault, expected) in &LIMITED {
         let limits = Limits::new(most, most_body, 0).expect(&rt, "within the ceilings");
-        assert_eq!(rt; told(rt.alloc(), bytes, &limits), (fault, want));
+        assert_eq!(rt; reported(rt.alloc(), bytes, &limits), (fault, expected));
     }
 }

@@ -1,21 +1,21 @@
-// Columns of decimals: which widths, precisions and scales are read, and as what.
+//! Columns of decimals: which widths, precisions and scales are read, and as what.
 
-use super::reading::{Edits, edited, told};
+use super::reading::{Edits, edited, reported};
 use arrow_meta_reader::{Header, decode};
 use arrow_types::DecimalWidth::{OneHundredTwentyEight, SixtyFour, ThirtyTwo, TwoHundredFiftySix};
 use arrow_types::{DataType, DecimalWidth, Limits, TypeSet};
 use std::alloc::Global;
 
-// One column `n` of decimals of 128 bits, of precision 38 and scale 10. The precision is at byte 132,
-// the scale at 136 and the number of bits at 140, each in four bytes; where they stand is said at
-// 118, 120 and 122.
+/// One column `n` of decimals of 128 bits, of precision 38 and scale 10. The precision is at byte
+/// 132, the scale at 136 and the number of bits at 140, each in four bytes; their offsets in the
+/// table are given at 118, 120 and 122.
 const DECIMAL: &[u8; 152] = b"\x10\0\0\0\x0c\0\x18\0\x04\0\x06\0\x08\0\x10\0\x0c\0\0\0\x04\0\x01\0\
     \x18\0\0\0\0\0\0\0\0\0\0\0\0\0\0\0\x08\0\x0c\0\x04\0\x08\0\x08\0\0\0\0\0\0\0\x04\0\0\0\x01\0\0\
     \0\x18\0\0\0\x10\0\x14\0\x04\0\x08\0\t\0\x0c\0\0\0\x10\0\0\0\0\0\x14\0\0\0\x10\0\0\0\x01\x07\0\
     \0\x1c\0\0\0(\0\0\0\x01\0\0\0n\0\n\0\x10\0\x04\0\x08\0\x0c\0\0\0\0\0\x0e\0\0\0&\0\0\0\n\0\0\0\
     \x80\0\0\0\0\0\0\0\0\0\0\0";
 
-// The same with 32 bits, precision 9 and scale 2, and a column `c` of nulls below it.
+/// The same with 32 bits, precision 9 and scale 2, and a column `c` of nulls below it.
 const WITH_CHILD: &[u8; 208] = b"\x10\0\0\0\x0c\0\x18\0\x04\0\x06\0\x08\0\x10\0\x0c\0\0\0\x04\0\
     \x01\0\x18\0\0\0\0\0\0\0\0\0\0\0\0\0\0\0\x08\0\x0c\0\x04\0\x08\0\x08\0\0\0\0\0\0\0\x04\0\0\0\
     \x01\0\0\0\x18\0\0\0\x10\0\x14\0\x04\0\x08\0\t\0\x0c\0\0\0\x10\0\0\0\0\0\x14\0\0\0\x10\0\0\0\
@@ -23,10 +23,10 @@ const WITH_CHILD: &[u8; 208] = b"\x10\0\0\0\x0c\0\x18\0\x04\0\x06\0\x08\0\x10\0\
     \0\x02\0\0\0\x20\0\0\0\x01\0\0\0\x14\0\0\0\x10\0\x14\0\x04\0\x08\0\t\0\x0c\0\0\0\x10\0\x10\0\0\
     \0\x10\0\0\0\x01\x01\0\0\x14\0\0\0\x14\0\0\0\x01\0\0\0c\0\x04\0\x04\0\0\0\x06\0\0\0\0\0\0\0";
 
-// A width, a precision and a scale.
+/// A width, a precision and a scale.
 type Numbers = (DecimalWidth, u8, i8);
 
-// Other bytes of the first, and the decimals that they are; none where no decimals are such.
+/// Other bytes of the first, and the decimals that they give; none if there are no such decimals.
 static DECIMALS: [(Edits, Option<Numbers>); 36] = [
     ("", Some((OneHundredTwentyEight, 38, 10))),
     // The least and the greatest precision of each width, and those next to them.
@@ -59,12 +59,12 @@ static DECIMALS: [(Edits, Option<Numbers>); 36] = [
         Some((OneHundredTwentyEight, 38, -76)),
     ),
     ("136=179 137=255 138=255 139=255", None),
-    // The last byte of -76 alone, and scales of which it is only the others that are too great.
+    // Only the lowest byte of -76, and scales in which only the other bytes are too great.
     ("136=180", None),
     ("137=1", None),
     ("139=1", None),
     ("139=128", None),
-    // Other numbers of bits, of a precision that each width allows.
+    // Other numbers of bits, with a precision that each width allows.
     ("140=0 132=1", None),
     ("140=16 132=1", None),
     ("140=127 132=1", None),
@@ -78,7 +78,7 @@ static DECIMALS: [(Edits, Option<Numbers>); 36] = [
     ("118=0 120=0 122=0", None),
 ];
 
-// The decimals of the first column of a schema.
+/// The decimals of the first column of a schema.
 fn numbers(header: &Header) -> Option<Numbers> {
     let Header::Schema(schema) = header else {
         return None;
@@ -93,7 +93,7 @@ fn numbers(header: &Header) -> Option<Numbers> {
     }
 }
 
-// The same of the schema that bytes mean to a reader of all types.
+/// The same for the schema that the bytes mean to a reader of all types.
 fn read(alloc: Global, bytes: &[u8]) -> Option<Numbers> {
     let limits = Limits::standard().with_types(TypeSet::All);
     match decode(alloc, bytes, &limits) {
@@ -105,12 +105,12 @@ fn read(alloc: Global, bytes: &[u8]) -> Option<Numbers> {
 #[test]
 fn widths_precisions_and_scales_of_decimals(rt: HostRuntime) {
     let all = Limits::standard().with_types(TypeSet::All);
-    for (edits, want) in &DECIMALS {
+    for (edits, expected) in &DECIMALS {
         let bytes = edited(&rt, rt.alloc(), DECIMAL, edits);
-        assert!(rt; read(rt.alloc(), &bytes) == *want, "{edits}");
-        let (fault, _) = told(rt.alloc(), &bytes, &all);
-        assert_eq!(rt; fault, if want.is_some() { 0 } else { 9 }, "{edits}");
-        let (fault, _) = told(rt.alloc(), &bytes, &Limits::standard());
+        assert!(rt; read(rt.alloc(), &bytes) == *expected, "{edits}");
+        let (fault, _) = reported(rt.alloc(), &bytes, &all);
+        assert_eq!(rt; fault, if expected.is_some() { 0 } else { 9 }, "{edits}");
+        let (fault, _) = reported(rt.alloc(), &bytes, &Limits::standard());
         assert_eq!(rt; fault, 8, "{edits} by a reader of the core");
     }
 }
@@ -118,6 +118,6 @@ fn widths_precisions_and_scales_of_decimals(rt: HostRuntime) {
 #[test]
 fn decimals_have_no_children(rt: HostRuntime) {
     let all = Limits::standard().with_types(TypeSet::All);
-    let (fault, _) = told(rt.alloc(), WITH_CHILD, &all);
+    let (fault, _) = reported(rt.alloc(), WITH_CHILD, &all);
     assert_eq!(rt; fault, 9);
 }

@@ -1,13 +1,13 @@
-// Columns of fixed-size lists: which sizes and which children are read, and as what.
+//! Columns of fixed-size lists: which sizes and which children are read, and as what.
 
-use super::reading::{Edits, edited, told};
+use super::reading::{Edits, edited, reported};
 use arrow_meta_reader::{Header, decode};
 use arrow_types::{DataType, Field, Limits, TypeSet};
 use std::alloc::Global;
 
-// One column `l` of fixed-size lists of 3 values of the field `c`, which are nulls. The size is at
-// byte 124, in four bytes, and where it is in its table is said at 118; the number of children is at
-// 128, and where they are in the table of the field is said at 82.
+/// One column `l` of fixed-size lists of 3 values of the field `c`, which are nulls. The size is at
+/// byte 124, in four bytes, and its offset in its table is given at 118; the number of children is
+/// at 128, and the offset of the children in the table of the field is given at 82.
 const LISTS: &[u8; 192] = b"\x10\0\0\0\x0c\0\x18\0\x04\0\x06\0\x08\0\x10\0\x0c\0\0\0\x04\0\x01\0\
     \x18\0\0\0\0\0\0\0\0\0\0\0\0\0\0\0\x08\0\x0c\0\x04\0\x08\0\x08\0\0\0\0\0\0\0\x04\0\0\0\x01\0\0\
     \0\x18\0\0\0\x10\0\x14\0\x04\0\x08\0\t\0\x0c\0\0\0\x10\0\0\0\0\0\x14\0\0\0\x10\0\0\0\x01\x10\0\
@@ -15,7 +15,7 @@ const LISTS: &[u8; 192] = b"\x10\0\0\0\x0c\0\x18\0\x04\0\x06\0\x08\0\x10\0\x0c\0
     \x10\0\x14\0\x04\0\x08\0\t\0\x0c\0\0\0\x10\0\x10\0\0\0\x10\0\0\0\x01\x01\0\0\x14\0\0\0\x14\0\0\
     \0\x01\0\0\0c\0\x04\0\x04\0\0\0\x06\0\0\0\0\0\0\0";
 
-// The same with two children, `c` and `d`.
+/// The same with two children, `c` and `d`.
 const WITH_TWO: &[u8; 256] = b"\x10\0\0\0\x0c\0\x18\0\x04\0\x06\0\x08\0\x10\0\x0c\0\0\0\x04\0\x01\0\
     \x18\0\0\0\0\0\0\0\0\0\0\0\0\0\0\0\x08\0\x0c\0\x04\0\x08\0\x08\0\0\0\0\0\0\0\x04\0\0\0\x01\0\0\
     \0\x18\0\0\0\x10\0\x14\0\x04\0\x08\0\t\0\x0c\0\0\0\x10\0\0\0\0\0\x14\0\0\0\x10\0\0\0\x01\x10\0\
@@ -25,7 +25,8 @@ const WITH_TWO: &[u8; 256] = b"\x10\0\0\0\x0c\0\x18\0\x04\0\x06\0\x08\0\x10\0\x0
     \0\0\0\x10\0\x10\0\0\0\x10\0\0\0\x01\x01\0\0\x14\0\0\0\x14\0\0\0\x01\0\0\0d\0\x04\0\x04\0\0\0\
     \x06\0\0\0\0\0\0\0";
 
-// Other bytes of the first, and the size that they say; none where no fixed-size lists are such.
+/// Other bytes of the first, and the size that they give; none if there are no such fixed-size
+/// lists.
 static SIZES: [(Edits, Option<u32>); 15] = [
     ("", Some(3)),
     ("124=0", Some(0)),
@@ -47,12 +48,12 @@ static SIZES: [(Edits, Option<u32>); 15] = [
     ("128=0", None),
 ];
 
-// Whether it is the field `c` of nulls.
+/// Whether it is the field `c` of nulls.
 fn is_child(child: &Field) -> bool {
     child.name.as_str() == "c" && matches!(child.data_type, DataType::Null)
 }
 
-// The size of the lists of the first column of a schema, where their child is `c`.
+/// The size of the lists of the first column of a schema, if their child is `c`.
 fn size(header: &Header) -> Option<u32> {
     let Header::Schema(schema) = header else {
         return None;
@@ -63,7 +64,7 @@ fn size(header: &Header) -> Option<u32> {
     }
 }
 
-// The same of the schema that bytes mean to a reader of all types.
+/// The same for the schema that the bytes mean to a reader of all types.
 fn read(alloc: Global, bytes: &[u8]) -> Option<u32> {
     let limits = Limits::standard().with_types(TypeSet::All);
     match decode(alloc, bytes, &limits) {
@@ -75,12 +76,12 @@ fn read(alloc: Global, bytes: &[u8]) -> Option<u32> {
 #[test]
 fn sizes_of_fixed_size_lists(rt: HostRuntime) {
     let all = Limits::standard().with_types(TypeSet::All);
-    for (edits, want) in &SIZES {
+    for (edits, expected) in &SIZES {
         let bytes = edited(&rt, rt.alloc(), LISTS, edits);
-        assert!(rt; read(rt.alloc(), &bytes) == *want, "{edits}");
-        let (fault, _) = told(rt.alloc(), &bytes, &all);
-        assert_eq!(rt; fault, if want.is_some() { 0 } else { 9 }, "{edits}");
-        let (fault, _) = told(rt.alloc(), &bytes, &Limits::standard());
+        assert!(rt; read(rt.alloc(), &bytes) == *expected, "{edits}");
+        let (fault, _) = reported(rt.alloc(), &bytes, &all);
+        assert_eq!(rt; fault, if expected.is_some() { 0 } else { 9 }, "{edits}");
+        let (fault, _) = reported(rt.alloc(), &bytes, &Limits::standard());
         assert_eq!(rt; fault, 8, "{edits} by a reader of the core");
     }
 }
@@ -88,14 +89,14 @@ fn sizes_of_fixed_size_lists(rt: HostRuntime) {
 #[test]
 fn fixed_size_lists_have_no_two_children(rt: HostRuntime) {
     let all = Limits::standard().with_types(TypeSet::All);
-    let (fault, _) = told(rt.alloc(), WITH_TWO, &all);
+    let (fault, _) = reported(rt.alloc(), WITH_TWO, &all);
     assert_eq!(rt; fault, 9);
-    let (fault, _) = told(rt.alloc(), WITH_TWO, &Limits::standard());
+    let (fault, _) = reported(rt.alloc(), WITH_TWO, &Limits::standard());
     assert_eq!(rt; fault, 8);
 }
 
-// Columns `a` and `b` of fixed-size lists of 3 values by dictionary 7. Their sizes are at 132 and
-// 324, and where they are in their tables is said at 122 and 314.
+/// Columns `a` and `b` of fixed-size lists of 3 values by dictionary 7. Their sizes are at 132 and
+/// 324, and their offsets in their tables are given at 122 and 314.
 const SHARED: &[u8; 456] = b"\x10\0\0\0\x0c\0\x18\0\x04\0\x06\0\x08\0\x10\0\x0c\0\0\0\x04\0\x01\0\
     \x18\0\0\0\0\0\0\0\0\0\0\0\0\0\0\0\x08\0\x0c\0\x04\0\x08\0\x08\0\0\0\0\0\0\0\x04\0\0\0\x02\0\0\
     \0\x18\0\0\0\xd4\0\0\0\x10\0\x18\0\x04\0\x08\0\t\0\x0c\0\x10\0\x14\0\x10\0\0\0\x14\0\0\0\x01\
@@ -110,14 +111,14 @@ const SHARED: &[u8; 456] = b"\x10\0\0\0\x0c\0\x18\0\x04\0\x06\0\x08\0\x10\0\x0c\
     \x04\0\x08\0\t\0\x0c\0\0\0\x10\0\0\0\0\0\x14\0\0\0\x10\0\0\0\x01\x01\0\0\x14\0\0\0\x14\0\0\0\
     \x01\0\0\0c\0\x04\0\x04\0\0\0\x06\0\0\0\0\0\0\0";
 
-// Other bytes of it, and whether the two are of one type.
+/// Other bytes of it, and whether the two columns have one type.
 static ONE_TYPE: [(Edits, bool); 7] = [
     ("", true),
     ("132=2 324=2", true),
     ("132=2", false),
     ("324=2", false),
     ("135=1", false),
-    // No size is as one of 0.
+    // A missing size counts as a size of 0.
     ("122=0", false),
     ("122=0 324=0", true),
 ];
@@ -127,7 +128,7 @@ fn sizes_of_one_dictionary_are_the_same(rt: HostRuntime) {
     let all = Limits::standard().with_types(TypeSet::All);
     for (edits, is_one) in &ONE_TYPE {
         let bytes = edited(&rt, rt.alloc(), SHARED, edits);
-        let (fault, _) = told(rt.alloc(), &bytes, &all);
+        let (fault, _) = reported(rt.alloc(), &bytes, &all);
         assert_eq!(rt; fault, if *is_one { 0 } else { 9 }, "{edits}");
     }
 }

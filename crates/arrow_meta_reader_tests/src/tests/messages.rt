@@ -1,4 +1,5 @@
-// What a message is read as beside its schema, and what a fault tells beside its kind.
+//! What a message is read as in addition to its schema, and what a fault reports in addition to its
+//! kind.
 
 use super::reading::{Edits, MEMORY, edited};
 use crate::foreign::NOTHING;
@@ -8,8 +9,8 @@ use arrow_types::Limits;
 use std::alloc::Global;
 use std::process::Abort;
 
-// A batch: its rows, each node by its length and its nulls, each buffer by its place and its
-// length.
+/// A batch: its rows, each node with its length and its nulls, each buffer with its offset and its
+/// length.
 fn push_batch(rt: &impl Abort, text: &mut String, batch: &RecordBatch) {
     write!(text, "{},", batch.length).expect(rt, MEMORY);
     for node in &batch.nodes {
@@ -21,7 +22,7 @@ fn push_batch(rt: &impl Abort, text: &mut String, batch: &RecordBatch) {
     }
 }
 
-// A message: its version, the length of its body, and its header.
+/// A message: its version, the length of its body, and its header.
 fn push_message(rt: &impl Abort, text: &mut String, message: &Message) {
     write!(text, "{:?} {} ", message.version, message.body_len).expect(rt, MEMORY);
     match &message.header {
@@ -34,7 +35,7 @@ fn push_message(rt: &impl Abort, text: &mut String, message: &Message) {
     }
 }
 
-// What bytes mean, or their fault.
+/// What bytes mean, or their fault.
 fn text_of(rt: &(impl Abort + AllocGlobal), meant: Result<Message, MetaFault>) -> String {
     let mut text = String::new(rt.alloc());
     match meant {
@@ -44,7 +45,7 @@ fn text_of(rt: &(impl Abort + AllocGlobal), meant: Result<Message, MetaFault>) -
     text
 }
 
-// The same by the tree that lies in the bytes.
+/// The same by the tree that is in the bytes.
 fn judged(alloc: Global, bytes: &[u8], limits: &Limits) -> Result<Message, MetaFault> {
     judge(alloc, tree(alloc, bytes, limits)?, limits)
 }
@@ -58,8 +59,8 @@ const LEAST: Edits = "14=0 44=0 48=0 64=5 76=1 82=0 84=0 86=0";
 const ONE_FIELD: &str = "V5 0 [Field { name: \"n\", nullable: true, data_type: \
     Int { bits: ThirtyTwo, signed: true }, dictionary: None, metadata: [] }]";
 
-// Of metadata of a batch, of a dictionary and of a schema, the bytes that are changed, and what they
-// mean then.
+/// For metadata of a batch, of a dictionary and of a schema: the bytes that are changed, and what
+/// they mean then.
 static OF_ROWS: [(Edits, &str); 14] = [
     ("", ALL_ROWS),
     ("20=3", "V4 24 3, 3/1, 0+1 8+12"),
@@ -107,12 +108,12 @@ static OF_SCHEMA: [(Edits, &str); 5] = [
 
 fn all_mean(rt: &(impl Abort + AllocGlobal), bytes: &[u8], rows: &[(Edits, &str)]) {
     let limits = Limits::standard();
-    for (edits, want) in rows {
+    for (edits, expected) in rows {
         let edited = edited(rt, rt.alloc(), bytes, edits);
         let text = text_of(rt, decode(rt.alloc(), &edited, &limits));
-        assert_eq!(rt; text.as_str(), *want, "{edits:?}");
+        assert_eq!(rt; text.as_str(), *expected, "{edits:?}");
         let text = text_of(rt, judged(rt.alloc(), &edited, &limits));
-        assert_eq!(rt; text.as_str(), *want, "{edits:?} by its tree");
+        assert_eq!(rt; text.as_str(), *expected, "{edits:?} by its tree");
     }
 }
 
@@ -125,7 +126,7 @@ fn messages_are_read(rt: HostRuntime) {
     all_mean(&rt, &[], &[("", "Metadata")]);
 }
 
-// The faults, and each with its number and words.
+/// The faults, and each with its number and words.
 static FAULTS: [MetaFault; 8] = [
     MetaFault::Metadata,
     MetaFault::Version,

@@ -1,17 +1,17 @@
-// Metadata with some bytes changed, and what was counted as they were read.
+//! Metadata with some bytes changed, and what was counted when they were read.
 
-use arrow_meta_reader::{Work, decode_counted};
+use arrow_meta_reader::{DecodeCost, decode_counted};
 use arrow_types::Limits;
 use std::alloc::Global;
 use std::process::Abort;
 
-// Why a test stops that finds no room.
+/// The message of a test that stops because an allocation failed.
 pub(super) const MEMORY: &str = "memory";
 
-// Bytes that are put at places of a metadata: `14=0 64=5` puts 0 at 14, and 5 at 64.
+/// Bytes that are put at offsets of metadata: `14=0 64=5` puts 0 at 14, and 5 at 64.
 pub(super) type Edits = &'static str;
 
-// The bytes with some changed.
+/// The bytes with some changed.
 pub(super) fn edited(rt: &impl Abort, alloc: Global, bytes: &[u8], edits: Edits) -> Vec<u8> {
     let mut edited = Vec::from_slice(alloc, bytes).expect(rt, MEMORY);
     for edit in edits.split_whitespace() {
@@ -23,10 +23,10 @@ pub(super) fn edited(rt: &impl Abort, alloc: Global, bytes: &[u8], edits: Edits)
     edited
 }
 
-// The number of the fault of bytes, 0 where they are read, and how many fields, pairs and bytes of
-// names, zones, keys and values were. What was counted before is left out.
-pub(super) fn told(alloc: Global, bytes: &[u8], limits: &Limits) -> (u8, [u64; 3]) {
-    let mut work = Work {
+/// The number of the fault of bytes, 0 if they are read, and how many fields, pairs and bytes of
+/// names, zones, keys and values were read. What was counted before is left out.
+pub(super) fn reported(alloc: Global, bytes: &[u8], limits: &Limits) -> (u8, [u64; 3]) {
+    let mut work = DecodeCost {
         fields: 7,
         pairs: u64::MAX,
         bytes: 1,

@@ -1,15 +1,15 @@
-// Metadata that are made here, whose offsets lead to one and the same field, vector of pairs, pair,
-// name or key: each time it counts.
+//! Metadata that are made here, whose offsets lead to one and the same field, vector of pairs, pair,
+//! name or key: it counts each time.
 
-use super::reading::{MEMORY, told};
+use super::reading::{MEMORY, reported};
 use crate::vectors::AT_SCHEMA;
 use arrow_types::Limits;
 use std::process::Abort;
 
-// How many columns of nulls metadata have, how many offsets their one vector of pairs, which all lead
-// to one pair, and how many bytes their one text; and marks: `a` where all columns are one table, `o`
-// where the vector is that of the schema too, `n` where the text is the name of each column, `k` where
-// it is the key of the pair.
+/// How many columns of nulls the metadata have, how many offsets their one vector of pairs has,
+/// which all lead to one pair, and how many bytes their one text has; and marks: `a` if all columns
+/// are one table, `o` if the vector is also that of the schema, `n` if the text is the name of each
+/// column, `k` if it is the key of the pair.
 #[derive(Clone, Copy, Debug)]
 pub(super) struct Shared(pub(super) [u32; 3], pub(super) &'static str);
 
@@ -18,18 +18,18 @@ impl Shared {
         self.1.contains(mark)
     }
 
-    // An entry of a vtable: the place 4, or absent.
+    /// An entry of a vtable: the offset 4, or absent.
     fn entry(self, mark: char) -> u32 {
         if self.has(mark) { 4 } else { 0 }
     }
 
-    // How many tables the columns have.
+    /// How many tables the columns have.
     fn tables(self) -> u32 {
         if self.has('a') { 1 } else { self.0[0] }
     }
 }
 
-// Appends numbers of 32 bits.
+/// Appends numbers of 32 bits.
 pub(super) fn push(rt: &impl Abort, bytes: &mut Vec<u8>, numbers: &[u32]) {
     for number in numbers {
         bytes
@@ -38,13 +38,13 @@ pub(super) fn push(rt: &impl Abort, bytes: &mut Vec<u8>, numbers: &[u32]) {
     }
 }
 
-// Appends the offset to a place behind.
+/// Appends the offset to a later position.
 fn push_offset(rt: &impl Abort, bytes: &mut Vec<u8>, place: u32) {
     let from = u32::try_from(bytes.len()).expect(rt, "less than 2^32 bytes");
     push(rt, bytes, &[place.wrapping_sub(from)]);
 }
 
-// Appends a word again and again, so many bytes.
+/// Appends a word repeatedly, up to this number of bytes.
 pub(super) fn fill(
     rt: &(impl Abort + AllocGlobal),
     bytes: &mut Vec<u8>,
@@ -64,9 +64,9 @@ pub(super) fn fill(
     bytes.extend_from_slice(rest).expect(rt, MEMORY);
 }
 
-// The places of what stands behind the Schema table and the count of columns at 72, and the vtable of
-// the fields behind their offsets: the tables of the fields, the vector of pairs, the pair behind its
-// vtable, and the text.
+/// The offsets of what comes after the Schema table, the count of columns at 72 and, after the
+/// columns' offsets, the vtable of the fields: the tables of the fields, the vector of pairs, the
+/// pair after its vtable, and the text.
 #[derive(Clone, Copy)]
 struct Places {
     fields: u32,
@@ -88,8 +88,8 @@ fn places_of(shared: Shared) -> Places {
     }
 }
 
-// Appends the vector of columns, and of each its table: its way back to the vtable before all of
-// them, its name, its pairs, and the type code of nulls.
+/// Appends the vector of columns, and for each column its table: the offset back to the vtable
+/// before all of them, its name, its pairs, and the type code of nulls.
 fn push_fields(rt: &impl Abort, bytes: &mut Vec<u8>, shared: Shared, places: Places) {
     let stride = if shared.has('a') { 0 } else { 16 };
     push(rt, bytes, &[shared.0[0]]);
@@ -109,8 +109,8 @@ fn push_fields(rt: &impl Abort, bytes: &mut Vec<u8>, shared: Shared, places: Pla
     }
 }
 
-// The metadata up to the count of their vector of pairs, in which all pairs that follow can be
-// others: the front of a schema with a pair of its own, up to its Schema table, and its columns.
+/// The metadata up to and including the count of their vector of pairs, so that other pairs may
+/// follow: the start of a schema with a pair, up to its Schema table, and its columns.
 pub(super) fn front(rt: &(impl Abort + AllocGlobal), shared: Shared) -> Vec<u8> {
     let places = places_of(shared);
     let mut bytes = Vec::from_slice(rt.alloc(), &AT_SCHEMA[..68]).expect(rt, MEMORY);
@@ -121,7 +121,7 @@ pub(super) fn front(rt: &(impl Abort + AllocGlobal), shared: Shared) -> Vec<u8> 
     bytes
 }
 
-// The metadata: behind the front the one pair, whose value is absent, and the text.
+/// The metadata: after the start the one pair, whose value is absent, and the text.
 pub(super) fn metadata(rt: &(impl Abort + AllocGlobal), shared: Shared) -> Vec<u8> {
     let places = places_of(shared);
     let mut bytes = front(rt, shared);
@@ -135,28 +135,29 @@ pub(super) fn metadata(rt: &(impl Abort + AllocGlobal), shared: Shared) -> Vec<u
     bytes
 }
 
-// That metadata are read, and this was counted, or are refused as they are not readable within the
-// limit of bytes.
+/// Asserts that metadata are read, and this was counted, or that they are rejected because they are
+/// not readable within the limit of bytes.
 pub(super) fn is_counted(
     rt: &(impl Abort + AllocGlobal),
     bytes: &[u8],
     most: u64,
-    want: Option<[u64; 3]>,
+    expected: Option<[u64; 3]>,
 ) {
     let limits = Limits::new(most, 0, 0).expect(rt, "within the ceilings");
-    let (fault, work) = told(rt.alloc(), bytes, &limits);
-    assert_eq!(rt; fault, if want.is_none() { 3 } else { 0 });
-    assert_eq!(rt; work, want.unwrap_or(work));
+    let (fault, work) = reported(rt.alloc(), bytes, &limits);
+    assert_eq!(rt; fault, if expected.is_none() { 3 } else { 0 });
+    assert_eq!(rt; work, expected.unwrap_or(work));
     assert!(rt;
         work[0] <= 65_536 && work[1] <= 65_536 && work[2] <= most,
         "{work:?}"
     );
 }
 
-// What is shared, the most bytes of names, keys and values, and what was counted where it is read.
+/// What is shared, the greatest number of bytes of names, keys and values, and what was counted if
+/// it is read.
 type Row = (Shared, u64, Option<[u64; 3]>);
 
-// So many columns, of one table or each of its own.
+/// This many columns, of one table or each with its own.
 static COLUMNS: [Row; 6] = [
     (Shared([0, 0, 0], ""), 0, Some([0, 0, 0])),
     (Shared([2, 0, 0], ""), 0, Some([2, 0, 0])),
@@ -166,22 +167,22 @@ static COLUMNS: [Row; 6] = [
     (Shared([65_537, 0, 0], ""), 0, None),
 ];
 
-// One pair in as many places as the limit allows, and in one more: of the schema, of a column.
+/// One pair as many times as the limit allows, and once more: in the schema, in a column.
 static ONE_PAIR: [Row; 3] = [
     (Shared([0, 65_536, 0], "o"), 0, Some([0, 65_536, 0])),
     (Shared([0, 65_537, 0], "o"), 0, None),
     (Shared([1, 65_537, 0], ""), 0, None),
 ];
 
-// One vector of pairs of the schema and of columns.
+/// One vector of pairs of the schema and of columns.
 static ONE_VECTOR: [Row; 3] = [
     (Shared([3, 5, 0], "o"), 0, Some([3, 20, 0])),
     (Shared([255, 256, 0], "o"), 0, Some([255, 65_536, 0])),
     (Shared([256, 256, 0], "o"), 0, None),
 ];
 
-// One text: a name of two columns, and a key of two pairs, with as many bytes allowed as the metadata
-// have; then two names and nine keys of five bytes each.
+/// One text: a name of two columns, and a key of two pairs, with as many bytes allowed as the metadata
+/// have; then two names and nine keys of five bytes each.
 static ONE_TEXT: [Row; 6] = [
     (Shared([2, 0, 40], "n"), 204, Some([2, 0, 80])),
     (Shared([2, 0, 4_000], "n"), 4_164, None),
@@ -192,8 +193,8 @@ static ONE_TEXT: [Row; 6] = [
 ];
 
 fn are_counted(rt: &(impl Abort + AllocGlobal), rows: &[Row]) {
-    for (shared, most, want) in rows {
-        is_counted(rt, &metadata(rt, *shared), *most, *want);
+    for (shared, most, expected) in rows {
+        is_counted(rt, &metadata(rt, *shared), *most, *expected);
     }
 }
 

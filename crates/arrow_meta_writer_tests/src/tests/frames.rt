@@ -1,4 +1,4 @@
-// Frames around metadata that another program laid out.
+//! Frames around metadata that another program laid out.
 
 use super::written::{MEMORY, ONE_BATCH, ONE_FIELD, bytes_of, decoded};
 use arrow_meta_writer::encoded_size;
@@ -11,12 +11,12 @@ const BODY: Part = (OneBatch, 304, 328);
 
 const NO_BODY: Part = (OneBatch, 0, 0);
 
-// The zero bytes that fill up 152 bytes to a multiple of 64, and the size that the prefix tells then.
+/// The zero bytes that pad 152 bytes to a multiple of 64, and the size in the prefix then.
 const ZEROS: Part = (Bytes(&[0; 40]), 0, 40);
 
 const FILLED: &[Edit] = &[(4, &[184])];
 
-// Metadata, a body, the alignment, and the frame: parts, and what is other in them.
+/// Metadata, a body, the alignment, and the frame: parts, and the edits in them.
 static FRAMES: [(Part, Part, usize, &[Part], &[Edit]); 4] = [
     (ONE_FIELD, NO_BODY, 8, &[(OneBatch, 0, 152)], &[]),
     (ONE_FIELD, NO_BODY, 64, &[(OneBatch, 0, 152), ZEROS], FILLED),
@@ -30,7 +30,7 @@ static FRAMES: [(Part, Part, usize, &[Part], &[Edit]); 4] = [
     ),
 ];
 
-// The frame of the message that metadata mean, behind one byte.
+/// The frame of the message that metadata mean, after one byte.
 fn framed(rt: &(impl Abort + AllocGlobal), metadata: &[u8], body: &[u8], align: usize) -> Vec<u8> {
     let message = decoded(rt, metadata);
     assert!(rt; align >= 1 && align <= 64 && message.body_len == body.len() as u64);
@@ -41,7 +41,7 @@ fn framed(rt: &(impl Abort + AllocGlobal), metadata: &[u8], body: &[u8], align: 
 }
 
 #[test]
-fn frames_stand_behind_what_there_was(rt: HostRuntime) {
+fn frames_come_after_the_old_bytes(rt: HostRuntime) {
     for (metadata, body, align, parts, edits) in &FRAMES {
         let metadata = bytes_of(&rt, &[*metadata], &[]);
         let bytes = framed(&rt, &metadata, &bytes_of(&rt, &[*body], &[]), *align);
@@ -54,7 +54,7 @@ fn frames_stand_behind_what_there_was(rt: HostRuntime) {
 }
 
 #[test]
-fn the_end_marker_stands_behind_what_there_was(rt: HostRuntime) {
+fn the_end_marker_comes_after_the_old_bytes(rt: HostRuntime) {
     let mut bytes = vec![in rt.alloc(); 1].expect(&rt, MEMORY);
     put_end_marker(&mut bytes).expect(&rt, MEMORY);
     assert_eq!(rt;

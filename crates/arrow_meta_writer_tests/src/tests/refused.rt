@@ -1,11 +1,11 @@
-// Messages that have no size, beside those that have one.
+//! Messages that have no size, next to those that have one.
 
 use arrow_meta_reader::{Header, Message, MetadataVersion, RecordBatch};
 use arrow_meta_writer::encoded_size;
 use arrow_types::{BitWidth, DataType, Field, FieldNode, Schema};
 use std::alloc::Global;
 
-// The message of an empty batch.
+/// The message of an empty batch.
 fn empty_batch(alloc: Global, version: MetadataVersion, body_len: u64) -> Message {
     let batch = RecordBatch {
         length: 0,
@@ -21,7 +21,7 @@ fn empty_batch(alloc: Global, version: MetadataVersion, body_len: u64) -> Messag
 
 const MOST: u64 = 1 << 40;
 
-// The version, the body's length, and the size of the metadata.
+/// The version, the body's length, and the size of the metadata.
 static SIZES: [(MetadataVersion, u64, Option<u64>); 6] = [
     (MetadataVersion::V5, 0, Some(96)),
     (MetadataVersion::V5, MOST, Some(96)),
@@ -39,7 +39,7 @@ fn other_versions_and_longer_bodies_have_no_size(rt: HostRuntime) {
     }
 }
 
-// The size of the message of a batch with so many field nodes.
+/// The size of the message of a batch with this many field nodes.
 fn size_of_nodes(alloc: Global, count: usize) -> Option<u64> {
     let node = FieldNode {
         length: 0,
@@ -57,14 +57,14 @@ fn size_of_nodes(alloc: Global, count: usize) -> Option<u64> {
     })
 }
 
-// Sixteen bytes a node: the most that metadata may have, and one node more.
+/// Sixteen bytes a node: the most that metadata may have, and one node more.
 #[test]
 fn no_metadata_are_longer_than_a_gibibyte(rt: HostRuntime) {
     assert_eq!(rt; size_of_nodes(rt.alloc(), 67_108_858), Some(1 << 30));
     assert_eq!(rt; size_of_nodes(rt.alloc(), 67_108_859), None);
 }
 
-// 2^20 letters.
+/// 2^20 letters.
 fn piece(alloc: Global) -> Option<String> {
     let mut text = String::from_str(alloc, "n").ok()?;
     for _ in 0..20 {
@@ -74,7 +74,7 @@ fn piece(alloc: Global) -> Option<String> {
     Some(text)
 }
 
-// So many letters.
+/// This many letters.
 fn letters(alloc: Global, count: usize) -> Option<String> {
     let piece = piece(alloc)?;
     let mut text = String::with_capacity(alloc, count).ok()?;
@@ -85,7 +85,7 @@ fn letters(alloc: Global, count: usize) -> Option<String> {
     Some(text)
 }
 
-// Puts letters behind the others until there are so many.
+/// Appends letters until there are this many.
 fn fill(text: &mut String, count: usize) -> Option<()> {
     for _ in text.len()..count {
         text.push_str("n").ok()?;
@@ -93,7 +93,7 @@ fn fill(text: &mut String, count: usize) -> Option<()> {
     Some(())
 }
 
-// The size of the message of a column of numbers whose name has so many letters.
+/// The size of the message of a column of numbers whose name has this many letters.
 fn size_of_name(alloc: Global, count: usize) -> Option<u64> {
     let mut fields = Vec::new(alloc);
     let column = Field::new(
@@ -113,9 +113,10 @@ fn size_of_name(alloc: Global, count: usize) -> Option<u64> {
     })
 }
 
-// The name, which begins at place 112, and a 0 byte; the vtable of the type at the next even place,
-// 8 bytes; its table, 12 bytes with the zero bytes behind it, at the next multiple of 8, and the
-// count of its children: 144 bytes with one letter, 2^30 with 2^30 - 137, and 8 more with one more.
+/// The name, which begins at offset 112, and a 0 byte; the vtable of the type at the next even
+/// offset, 8 bytes; its table, 12 bytes with the zero bytes after it, at the next multiple of 8, and
+/// the count of its children: 144 bytes with one letter, 2^30 with 2^30 - 137, and 8 more with one
+/// more.
 #[test]
 fn names_are_as_long_as_metadata_let_them(rt: HostRuntime) {
     assert_eq!(rt; size_of_name(rt.alloc(), 1), Some(144));

@@ -1,7 +1,9 @@
-// A buffer of a table with a field of each kind, a text, a vector of tables and one of pairs, laid
-// out by hand from the FlatBuffers internals document.
+//! A buffer of a table with a field of each kind, a text, a vector of tables and one of pairs, written
+//! by hand from the FlatBuffers internals document.
 
-use arrow_flatbuf::{Root, Slot, TableWriter, Width, aligned, table_end, table_place, text_end};
+use arrow_flatbuf::{
+    FieldValue, Root, TableWriter, Width, aligned, table_end, table_place, text_end,
+};
 use std::alloc::{AllocError, Global};
 
 const LAID_OUT: &[u8] = &[
@@ -16,14 +18,14 @@ const LAID_OUT: &[u8] = &[
     0, 0, 0, 0, 0, 0, 0, 0, // an empty text at 80, and zero bytes
 ];
 
-const FIELDS: [Slot; 4] = [
-    Slot::Scalar(Width::One, 0xab),
-    Slot::Absent,
-    Slot::Target(32),
-    Slot::Scalar(Width::Two, 0x1234),
+const FIELDS: [FieldValue; 4] = [
+    FieldValue::Scalar(Width::One, 0xab),
+    FieldValue::Absent,
+    FieldValue::Target(32),
+    FieldValue::Scalar(Width::Two, 0x1234),
 ];
 
-// The buffer, one call after the other.
+/// The buffer, one call after the other.
 fn written(alloc: Global) -> Result<Vec<u8>, AllocError> {
     let mut writer = TableWriter::in_room(Vec::new(alloc));
     writer.offset(16)?;
@@ -45,7 +47,7 @@ fn written(alloc: Global) -> Result<Vec<u8>, AllocError> {
     Ok(writer.into_bytes())
 }
 
-// Whether it is the one that was laid out by hand.
+/// Whether the buffer is the one that was laid out by hand.
 fn is_laid_out(alloc: Global) -> bool {
     match written(alloc) {
         Ok(bytes) => bytes.as_slice() == LAID_OUT,
@@ -58,7 +60,7 @@ fn a_buffer_is_laid_out(rt: HostRuntime) {
     assert!(rt; is_laid_out(rt.alloc()));
 }
 
-// Whether a writer shows what was appended so far.
+/// Whether a writer shows the bytes appended so far.
 fn is_shown(alloc: Global) -> bool {
     let mut writer = TableWriter::in_room(Vec::new(alloc));
     if writer.offset(8).is_err() {
@@ -83,7 +85,7 @@ fn places_are_counted_before(rt: HostRuntime) {
     assert_eq!(rt; aligned(85, Width::Eight), 88);
 }
 
-// What a reader finds in the first and the last field of the table.
+/// The values that a reader finds in the first and the last field of the table.
 fn first_and_last() -> Option<(u64, u64)> {
     let table = Root::open(LAID_OUT)?;
     let first = table.scalar(0, 1).ok()?;

@@ -1,4 +1,5 @@
-// Messages that no copy of a stream has: of numbers that no reader takes, and built here.
+//! Messages that no copy of a stream has: messages with numbers that no reader accepts, and messages
+//! built here.
 
 use crate::vectors::EXTREMES;
 use arrow_meta_reader::{Header, Message, MetadataVersion, decode};
@@ -11,21 +12,21 @@ use std::process::Abort;
 
 pub(super) const MEMORY: &str = "memory";
 
-// The metadata of the schema of numbers, of their batch, and of a dictionary.
+/// The metadata of the schema of numbers, of their batch, and of a dictionary.
 pub(super) const ONE_FIELD: Part = (OneBatch, 8, 152);
 
 pub(super) const ONE_BATCH: Part = (OneBatch, 160, 304);
 
 const ABC: Part = (Growing, 208, 400);
 
-// The message that bytes mean to a reader of all types with the widest limits.
+/// The message that bytes mean to a reader of all types with the widest limits.
 pub(super) fn decoded(rt: &(impl Abort + AllocGlobal), bytes: &[u8]) -> Message {
     let limits = Limits::new(Limits::METADATA_CEILING, Limits::BODY_CEILING, 0);
     let limits = limits.expect(rt, "the ceilings").with_types(TypeSet::All);
     decode(rt.alloc(), bytes, &limits).expect(rt, "a message")
 }
 
-// A schema that is equal, or a batch or a dictionary that is shown as this one.
+/// Asserts that a schema is equal, or that a batch or a dictionary is shown as this one.
 fn is_same(rt: &(impl Abort + AllocGlobal), one: &Message, other: &Message) {
     assert!(rt; one.version == other.version && one.body_len == other.body_len);
     if let (Header::Schema(one), Header::Schema(other)) = (&one.header, &other.header) {
@@ -37,8 +38,8 @@ fn is_same(rt: &(impl Abort + AllocGlobal), one: &Message, other: &Message) {
     }
 }
 
-// What a message is written as: in as many bytes as were told before, and it is read out of them. In
-// the room of other bytes it is written as the same.
+/// The bytes of a message: they have the size computed beforehand, and reading them gives the
+/// message back. Written into a buffer that held other bytes, they are the same.
 fn written(rt: &(impl Abort + AllocGlobal), message: &Message) -> Vec<u8> {
     let size = encoded_size(message);
     assert!(rt; size.is_some());
@@ -51,12 +52,12 @@ fn written(rt: &(impl Abort + AllocGlobal), message: &Message) -> Vec<u8> {
     bytes
 }
 
-// The number -1.
+/// The number -1.
 const LESS: &[u8] = &[255; 8];
 
-// Metadata with a number at a place: the length of a batch, the nulls of its node, the offset and the
-// length of its first buffer, and the id of a dictionary, which also has 32 bits without a sign; and
-// those of the least and the greatest numbers.
+/// Metadata with a number at an offset: the length of a batch, the nulls of its node, the offset and
+/// the length of its first buffer, and the id of a dictionary, which also has 32 bits without a
+/// sign; and those of the least and the greatest numbers.
 static NUMBERS: [(Part, &[Edit]); 8] = [
     (ONE_BATCH, &[(64, &[0; 8])]),
     (ONE_BATCH, &[(64, LESS)]),
@@ -68,7 +69,7 @@ static NUMBERS: [(Part, &[Edit]); 8] = [
     ((Bytes(&EXTREMES), 0, 144), &[]),
 ];
 
-// These bytes.
+/// These bytes.
 pub(super) fn bytes_of(rt: &(impl Abort + AllocGlobal), parts: &[Part], edits: &[Edit]) -> Vec<u8> {
     joined(rt.alloc(), parts, edits).expect(rt, "parts of streams")
 }
@@ -82,7 +83,7 @@ fn numbers_are_written_byte_for_byte(rt: HostRuntime) {
     }
 }
 
-// Keys and values.
+/// Keys and values.
 type Pairs = &'static [(&'static [u8], &'static [u8])];
 
 fn pairs(rt: &(impl Abort + AllocGlobal), noted: Pairs) -> Vec<(Vec<u8>, Vec<u8>)> {
@@ -105,7 +106,7 @@ fn field(
     Field::new(rt.alloc(), name, data_type, nullable)
 }
 
-// The message of the schema of these columns.
+/// The message of the schema of these columns.
 fn schema(rt: &(impl Abort + AllocGlobal), columns: Vec<Field>) -> Message {
     Message {
         version: MetadataVersion::V5,
@@ -119,7 +120,8 @@ const INT32: DataType = DataType::Int {
     signed: true,
 };
 
-// A column `n` of signed 32-bit integers with these pairs, below structs `s`, so many levels in all.
+/// A column `n` of signed 32-bit integers with these pairs, below structs `s`, with this many levels
+/// in all.
 fn deep(rt: &(impl Abort + AllocGlobal), levels: usize, noted: Pairs) -> Vec<Field> {
     let mut columns = Vec::new(rt.alloc());
     let lowest = field(rt, "n", true, INT32).with_metadata(pairs(rt, noted));
@@ -136,8 +138,8 @@ const NONE: Pairs = &[];
 
 const ONE: Pairs = &[(b"k", b"v")];
 
-// How many levels a column has, the pairs of the lowest field, and in how many bytes another program
-// laid it out.
+/// How many levels a column has, the pairs of the lowest field, and how many bytes another program
+/// needed for it.
 static DEEP: [(usize, Pairs, usize); 3] = [(1, NONE, 144), (32, NONE, 2128), (32, ONE, 2176)];
 
 #[test]
@@ -150,7 +152,7 @@ fn schemas_that_are_built_are_written(rt: HostRuntime) {
     assert!(rt; one.as_slice() == bytes_of(&rt, &[ONE_FIELD], &[]).as_slice());
 }
 
-// The most columns that a schema has, without names and of nulls alone.
+/// The most columns that a schema can have, all nameless and of type Null.
 #[test]
 fn the_widest_schema_is_written(rt: HostRuntime) {
     let mut columns = Vec::new(rt.alloc());
@@ -161,7 +163,7 @@ fn the_widest_schema_is_written(rt: HostRuntime) {
     assert_eq!(rt; written(&rt, &schema(&rt, columns)).len(), 3_932_224);
 }
 
-// The column `n`, and a pair of the schema: another program laid it out in 200 bytes.
+/// The column `n`, and a pair of the schema: another program wrote it in 200 bytes.
 #[test]
 fn a_schema_with_a_pair_is_written(rt: HostRuntime) {
     let schema = Schema::with_metadata(rt.alloc(), deep(&rt, 1, NONE), pairs(&rt, ONE));
@@ -173,15 +175,15 @@ fn a_schema_with_a_pair_is_written(rt: HostRuntime) {
     assert_eq!(rt; written(&rt, &message).len(), 200);
 }
 
-// The metadata of one column `n` of decimals of 128 bits, of precision 38 and scale 10: the precision
-// is at byte 132, the scale at 136 and the number of bits at 140, each in four bytes.
+/// The metadata of one column `n` of decimals of 128 bits, of precision 38 and scale 10: the precision
+/// is at byte 132, the scale at 136 and the number of bits at 140, each in four bytes.
 const DECIMAL: &[u8; 152] = b"\x10\0\0\0\x0c\0\x18\0\x04\0\x06\0\x08\0\x10\0\x0c\0\0\0\x04\0\x01\0\
     \x18\0\0\0\0\0\0\0\0\0\0\0\0\0\0\0\x08\0\x0c\0\x04\0\x08\0\x08\0\0\0\0\0\0\0\x04\0\0\0\x01\0\0\
     \0\x18\0\0\0\x10\0\x14\0\x04\0\x08\0\t\0\x0c\0\0\0\x10\0\0\0\0\0\x14\0\0\0\x10\0\0\0\x01\x07\0\
     \0\x1c\0\0\0(\0\0\0\x01\0\0\0n\0\n\0\x10\0\x04\0\x08\0\x0c\0\0\0\0\0\x0e\0\0\0&\0\0\0\n\0\0\0\
     \x80\0\0\0\0\0\0\0\0\0\0\0";
 
-// Widths, precisions and scales, and what they are in other bytes of it.
+/// Widths, precisions and scales, and the edits of its bytes for them.
 static DECIMALS: [(DecimalWidth, u8, i8, &[Edit]); 6] = [
     (OneHundredTwentyEight, 38, 10, &[]),
     (OneHundredTwentyEight, 1, 0, &[(132, &[1]), (136, &[0])]),
@@ -212,13 +214,16 @@ fn decimals_are_written_byte_for_byte(rt: HostRuntime) {
         let mut columns = Vec::new(rt.alloc());
         columns.push(field(&rt, "n", true, of)).expect(&rt, MEMORY);
         let bytes = written(&rt, &schema(&rt, columns));
-        let want = bytes_of(&rt, &[(Bytes(DECIMAL), 0, 152)], edits);
-        assert!(rt; bytes.as_slice() == want.as_slice(), "{precision} {scale}");
+        let expected = bytes_of(&rt, &[(Bytes(DECIMAL), 0, 152)], edits);
+        assert!(rt;
+            bytes.as_slice() == expected.as_slice(),
+            "{precision} {scale}"
+        );
     }
 }
 
-// The metadata of one column `l` of fixed-size lists of 3 values of the field `c`, which are nulls:
-// the size is at byte 124, in four bytes.
+/// The metadata of one column `l` of fixed-size lists of 3 values of the field `c`, which are nulls:
+/// the size is at byte 124, in four bytes.
 const LISTS: &[u8; 192] = b"\x10\0\0\0\x0c\0\x18\0\x04\0\x06\0\x08\0\x10\0\x0c\0\0\0\x04\0\x01\0\
     \x18\0\0\0\0\0\0\0\0\0\0\0\0\0\0\0\x08\0\x0c\0\x04\0\x08\0\x08\0\0\0\0\0\0\0\x04\0\0\0\x01\0\0\
     \0\x18\0\0\0\x10\0\x14\0\x04\0\x08\0\t\0\x0c\0\0\0\x10\0\0\0\0\0\x14\0\0\0\x10\0\0\0\x01\x10\0\
@@ -226,7 +231,7 @@ const LISTS: &[u8; 192] = b"\x10\0\0\0\x0c\0\x18\0\x04\0\x06\0\x08\0\x10\0\x0c\0
     \x10\0\x14\0\x04\0\x08\0\t\0\x0c\0\0\0\x10\0\x10\0\0\0\x10\0\0\0\x01\x01\0\0\x14\0\0\0\x14\0\0\
     \0\x01\0\0\0c\0\x04\0\x04\0\0\0\x06\0\0\0\0\0\0\0";
 
-// Sizes, and what they are in other bytes of it.
+/// Sizes, and the edits of its bytes for them.
 static SIZES: [(u32, &[Edit]); 4] = [
     (3, &[]),
     (0, &[(124, &[0])]),
@@ -234,7 +239,7 @@ static SIZES: [(u32, &[Edit]); 4] = [
     (2_147_483_647, &[(124, &[255, 255, 255, 127])]),
 ];
 
-// A column of fixed-size lists of so many values of this field.
+/// A column of fixed-size lists of this many values of this field.
 fn lists(rt: &(impl Abort + AllocGlobal), child: Field, size: u32) -> Field {
     let child = Box::new(rt.alloc(), child).expect(rt, MEMORY);
     field(rt, "l", true, DataType::FixedSizeList(child, size))
@@ -247,12 +252,12 @@ fn fixed_size_lists_are_written_byte_for_byte(rt: HostRuntime) {
         let mut columns = Vec::new(rt.alloc());
         columns.push(lists(&rt, child, size)).expect(&rt, MEMORY);
         let bytes = written(&rt, &schema(&rt, columns));
-        let want = bytes_of(&rt, &[(Bytes(LISTS), 0, 192)], edits);
-        assert!(rt; bytes.as_slice() == want.as_slice(), "{size}");
+        let expected = bytes_of(&rt, &[(Bytes(LISTS), 0, 192)], edits);
+        assert!(rt; bytes.as_slice() == expected.as_slice(), "{size}");
     }
 }
 
-// Lists of lists of structs of numbers: another program laid them out in 336 bytes.
+/// Lists of lists of structs of numbers: another program wrote them in 336 bytes.
 #[test]
 fn fixed_size_lists_of_fixed_size_lists_are_written(rt: HostRuntime) {
     let lowest = field(&rt, "s", false, DataType::Struct(deep(&rt, 1, NONE)));

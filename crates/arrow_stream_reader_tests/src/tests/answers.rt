@@ -1,10 +1,11 @@
-// What a reader answers, as text: each item with what it shows, and how the reader then stands.
+//! The results of a reader, as text: each item with its content, and the state of the reader at the
+//! end.
 
 use arrow_data::{Array, Batch, Dictionary};
 use arrow_stream_reader::{Fault, Item, StreamReader};
 use std::alloc::{AllocError, Global};
 
-// What a reader has answered so far, and the batches that it handed out.
+/// The results of a reader so far, and the batches that it returned.
 #[derive(Drop)]
 pub(super) struct Answers {
     pub(super) text: String,
@@ -21,7 +22,7 @@ impl Answers {
         }
     }
 
-    // Gives a reader a piece, and what it leaves of it again and again.
+    /// Gives a reader a piece, and then repeatedly the bytes of it that the reader left.
     pub(super) fn give(
         &mut self,
         reader: &mut StreamReader,
@@ -54,7 +55,7 @@ impl Answers {
         self.text.push_str("; ")
     }
 
-    // A refusal is the same each time.
+    /// An error is the same each time.
     fn push_fault(&mut self, fault: Fault) -> Result<(), AllocError> {
         if self.refused == Some(fault) {
             return Ok(());
@@ -63,7 +64,7 @@ impl Answers {
         write!(self.text, "refused {} at {}; ", fault.kind, fault.place)
     }
 
-    // The batches as they are now.
+    /// The batches as they are now.
     pub(super) fn rows(&self, alloc: Global) -> Result<String, AllocError> {
         let mut text = String::new(alloc);
         for batch in &self.batches {
@@ -73,7 +74,7 @@ impl Answers {
     }
 }
 
-// What a reader answers to these pieces, where nothing more comes.
+/// The results of a reader for these pieces, if nothing more comes.
 pub(super) fn answers_to(
     alloc: Global,
     reader: &mut StreamReader,
@@ -83,12 +84,13 @@ pub(super) fn answers_to(
     for piece in pieces {
         answers.give(reader, piece)?;
     }
-    push_standing(&mut answers.text, reader)?;
+    push_snapshot(&mut answers.text, reader)?;
     Ok(answers.text)
 }
 
-// Appends how a reader stands: what it holds, where, and how the stream would end there.
-pub(super) fn push_standing(text: &mut String, reader: &StreamReader) -> Result<(), AllocError> {
+/// Appends the state of a reader: how many bytes it holds, its offset, and how the stream would end
+/// there.
+pub(super) fn push_snapshot(text: &mut String, reader: &StreamReader) -> Result<(), AllocError> {
     write!(text, "{} held at {}: ", reader.held(), reader.place())?;
     match reader.end() {
         Ok(()) => text.push_str("whole"),
@@ -96,7 +98,7 @@ pub(super) fn push_standing(text: &mut String, reader: &StreamReader) -> Result<
     }
 }
 
-// Appends the name of the first column.
+/// Appends the name of the first column.
 fn push_schema(text: &mut String, reader: &StreamReader) -> Result<(), AllocError> {
     let schema = reader.schema();
     let first = schema.and_then(|schema| schema.fields().first());
@@ -130,7 +132,7 @@ fn push_rows(text: &mut String, batch: &Batch) -> Result<(), AllocError> {
     Ok(())
 }
 
-// Appends a text, bytes in hexadecimal, a number, or a null.
+/// Appends a text, bytes in hexadecimal, a number, or a null.
 fn push_value(text: &mut String, column: &Array, i: usize) -> Result<(), AllocError> {
     text.push(' ')?;
     if i >= column.len() {

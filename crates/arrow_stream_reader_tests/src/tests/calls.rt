@@ -1,6 +1,6 @@
-// What each call answers, one after the other.
+//! The result of each call, one after the other.
 
-use super::answers::{Answers, answers_to, push_standing};
+use super::answers::{Answers, answers_to, push_snapshot};
 use arrow_stream_reader::{Item, StreamReader};
 use arrow_test_streams::parts::Source::{Bytes, Growing};
 use arrow_test_streams::parts::{ABC, DE, END, Edit, FIRST, LETTERS, NUMBERS, Part, THREE, joined};
@@ -8,8 +8,8 @@ use arrow_types::Limits;
 use std::alloc::{AllocError, Global};
 use std::process::Abort;
 
-// Streams, and what is done with a reader: it begins anew, or is given the bytes of the stream from
-// one place up to another. Behind each call stands how it is answered, and how the reader is then.
+/// Streams, and the calls of a reader: it is restarted, or is given the bytes of the stream from one
+/// offset up to another. Each call is followed by its result, and the state of the reader then.
 static SCRIPTS: [(&[Part], &str); 5] = [
     (
         &[NUMBERS, END, (Bytes(&[1, 2, 3]), 0, 3)],
@@ -23,7 +23,7 @@ restart: 0 held at 0: NoSchema at 0
 restart: 0 held at 0: NoSchema at 0
 ",
     ),
-    // A refusal lasts until the reader begins anew.
+    // An error lasts until the reader is restarted.
     (
         &[THREE, NUMBERS],
         "\
@@ -34,7 +34,8 @@ restart: 0 held at 0: NoSchema at 0
 176..328: 152 schema; 0 held at 152: whole with schema
 ",
     ),
-    // So does that of an update. Behind it come a dictionary, a batch, the end marker, and nothing.
+    // So does the error of an update. After it come a dictionary, a batch, the end marker, and
+    // nothing.
     (
         &[LETTERS, DE, ABC, FIRST, END, NUMBERS],
         "\
@@ -59,7 +60,7 @@ restart: 0 held at 0: NoSchema at 0
 restart: 0 held at 0: NoSchema at 0
 ",
     ),
-    // Each call with all that is left of the stream.
+    // Each call with all remaining bytes of the stream.
     (
         &[(Growing, 0, 1_376)],
         "\
@@ -76,7 +77,7 @@ restart: 0 held at 0: NoSchema at 0
     ),
 ];
 
-// Appends the call that this line names, and what is answered to it.
+/// Appends the call that this line names, and its result.
 fn push_call(
     text: &mut String,
     reader: &mut StreamReader,
@@ -89,18 +90,18 @@ fn push_call(
         Some(piece) => push_answer(text, reader, piece)?,
         None => reader.restart(),
     }
-    push_standing(text, reader)?;
+    push_snapshot(text, reader)?;
     push_shown(text, reader)?;
     text.push('\n')
 }
 
-// The bytes between the two places that a call names.
+/// The bytes between the two offsets that a call names.
 fn piece_in<'a>(call: &str, bytes: &'a [u8]) -> Option<&'a [u8]> {
     let (start, end) = call.split_once("..")?;
     bytes.get(start.parse::<usize>().ok()?..end.parse::<usize>().ok()?)
 }
 
-// Appends how many bytes a call takes, and what it gives.
+/// Appends how many bytes a call takes, and what it returns.
 fn push_answer(
     text: &mut String,
     reader: &mut StreamReader,
@@ -121,8 +122,8 @@ fn push_answer(
     }
 }
 
-// Appends whether there is a schema, how many dictionaries there are, and how many values each has
-// of those with these ids.
+/// Appends whether there is a schema, how many dictionaries there are, and, for each of these ids
+/// that has one, how many values it has.
 fn push_shown(text: &mut String, reader: &StreamReader) -> Result<(), AllocError> {
     if reader.schema().is_some() {
         text.push_str(" with schema")?;
@@ -139,7 +140,7 @@ fn push_shown(text: &mut String, reader: &StreamReader) -> Result<(), AllocError
     Ok(())
 }
 
-// What is answered to the calls of a script.
+/// The results of the calls of a script.
 fn played(alloc: Global, bytes: &[u8], script: &str) -> Result<String, AllocError> {
     let mut reader = StreamReader::new(alloc, Limits::standard());
     let mut text = String::new(alloc);
@@ -158,9 +159,9 @@ fn each_call_answers(rt: HostRuntime) {
     }
 }
 
-// Streams that a reader is given one after the other, between which it begins anew, each with what
-// is answered to it. The second one has another schema and uses the id again; behind a restart
-// nothing of the old stream is left for a delta to stand on.
+/// Streams that a reader is given one after the other, restarted between them, each with its
+/// results. The second one has another schema and uses the id again; after a restart nothing of the
+/// old stream is left for a delta to extend.
 static CONNECTIONS: [(&[Part], &[Edit], &str); 4] = [
     (
         &[(Growing, 0, 601)],
@@ -187,16 +188,16 @@ static CONNECTIONS: [(&[Part], &[Edit], &str); 4] = [
 #[test]
 fn one_connection_after_the_other(rt: HostRuntime) {
     let mut reader = StreamReader::new(rt.alloc(), Limits::standard());
-    for (parts, edits, want) in &CONNECTIONS {
+    for (parts, edits, expected) in &CONNECTIONS {
         let bytes = joined(rt.alloc(), parts, edits).expect(&rt, "a stream");
         reader.restart();
         assert!(rt; reader.schema().is_none() && reader.dictionaries().entries().is_empty());
         let text = answers_to(rt.alloc(), &mut reader, &[&bytes]).expect(&rt, "memory");
-        assert_eq!(rt; text.as_str(), *want);
+        assert_eq!(rt; text.as_str(), *expected);
     }
 }
 
-// The batches of one stream, once the reader has read another.
+/// The batches of one stream, after the reader has read another.
 fn rows_at_last(alloc: Global, first: &[u8], second: &[u8]) -> Result<String, AllocError> {
     let mut reader = StreamReader::new(alloc, Limits::standard());
     let mut answers = Answers::new(alloc);

@@ -1,4 +1,4 @@
-// The byte that decides a refusal: the first after which a reader answers it.
+//! The byte that decides an error: the first after which a reader returns it.
 
 use crate::frames::columns::COMPRESSED;
 use arrow_stream_reader::{Fault, StreamReader};
@@ -8,11 +8,11 @@ use arrow_types::Limits;
 
 const SQUEEZED: Part = (Bytes(COMPRESSED), 0, 192);
 
-// A stream, of which some bytes are others, how many bytes come until it is refused, and with what.
+/// A stream, some changed bytes of it, after how many bytes it is rejected, and with what.
 type Decided = (&'static [Part], Edit, usize, &'static str);
 
-// What the metadata decide is told before the body comes; a body is looked at when it is whole. Four
-// rows are allowed.
+/// Errors that the metadata decide are reported before the body comes; a body is checked when it is
+/// complete. Four rows are allowed.
 static DECISIONS: [Decided; 11] = [
     (&[THREE], (0, &[]), 152, "Order at 0"),
     (&[NUMBERS, SQUEEZED], (0, &[]), 320, "Compressed at 152"),
@@ -24,11 +24,11 @@ static DECISIONS: [Decided; 11] = [
     (&[LETTERS, DE], (272, &[0]), 400, "NoBase at 200"),
     (&[LETTERS, DE], (272, &[7]), 400, "UnknownId at 200"),
     (&[(Growing, 0, 816)], (576, &[3]), 592, "Index at 424"),
-    // Three values and two behind them are five.
+    // Three values and two more after them are five.
     (&[(Growing, 0, 1_376)], (0, &[]), 792, "Rows at 592"),
 ];
 
-// The first fault of a stream that comes byte by byte, and how many bytes had come by then.
+/// The first fault of a stream that comes byte by byte, and how many bytes had come by then.
 fn first_fault(reader: &mut StreamReader, bytes: &[u8]) -> Option<(usize, Fault)> {
     for (k, byte) in bytes.chunks(1).enumerate() {
         if let Err(fault) = reader.read(byte) {
@@ -43,12 +43,16 @@ fn the_byte_that_decides(rt: HostRuntime) {
     let standard = Limits::standard();
     let limits = Limits::new(standard.max_metadata(), standard.max_body(), 4);
     let limits = limits.expect(&rt, "under the ceilings");
-    for (number, (parts, edit, count, want)) in DECISIONS.iter().enumerate() {
+    for (number, (parts, edit, count, expected)) in DECISIONS.iter().enumerate() {
         let bytes = joined(rt.alloc(), parts, &[*edit]).expect(&rt, "a stream");
         let mut reader = StreamReader::new(rt.alloc(), limits);
         let (found, fault) = first_fault(&mut reader, &bytes).expect(&rt, "a fault");
-        let told = format!(in rt.alloc(); "{} at {}", fault.kind, fault.place);
+        let reported = format!(in rt.alloc(); "{} at {}", fault.kind, fault.place);
         assert_eq!(rt; found, *count, "row {number}");
-        assert_eq!(rt; told.expect(&rt, "memory").as_str(), *want, "row {number}");
+        assert_eq!(rt;
+            reported.expect(&rt, "memory").as_str(),
+            *expected,
+            "row {number}"
+        );
     }
 }

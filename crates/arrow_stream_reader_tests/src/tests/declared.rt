@@ -1,12 +1,12 @@
-// A batch whose body is said to be as long as a body may be, of which ten bytes come: no more is held
-// than came, and want of memory is no answer to it.
+//! A batch whose body is declared to be as long as a body may be, of which ten bytes come: the
+//! reader holds no more than came, and does not return `Memory`.
 
 use super::answers::answers_to;
 use arrow_stream_reader::StreamReader;
 use arrow_test_streams::streams::ONE_BATCH;
 use arrow_types::Limits;
 
-// 2^36.
+/// 2^36.
 const LONGEST: &[u8] = &[0, 0, 0, 0, 16, 0, 0, 0];
 
 #[test]

@@ -1,8 +1,8 @@
-// The kinds of refusals, and what a fault shows.
+//! The kinds of errors, and how a fault is printed.
 
 use arrow_stream_reader::{Fault, Kind};
 
-// The kinds with their numbers and names.
+/// The kinds with their numbers and names.
 static KINDS: [(Kind, u8, &str); 19] = [
     (Kind::Continuation, 1, "Continuation"),
     (Kind::MetadataSize, 2, "MetadataSize"),
@@ -36,7 +36,7 @@ fn kinds_have_their_numbers_and_names(rt: HostRuntime) {
 }
 
 #[test]
-fn faults_tell_their_place_and_kind(rt: HostRuntime) {
+fn faults_report_their_place_and_kind(rt: HostRuntime) {
     let fault = Fault {
         kind: Kind::Truncated,
         place: 816,

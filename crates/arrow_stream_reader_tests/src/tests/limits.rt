@@ -1,4 +1,4 @@
-// Streams under limits of their own.
+//! Streams under custom limits.
 
 use super::answers::answers_to;
 use crate::frames::noted::AT_SCHEMA;
@@ -9,7 +9,7 @@ use arrow_types::Limits;
 use std::alloc::{AllocError, Global};
 use std::process::Abort;
 
-// The most bytes of metadata and of body and the most rows, a stream, and what is answered to it.
+/// The most bytes of metadata and of body and the most rows, a stream, and its results.
 type Limited = ([u64; 3], &'static [Part], &'static [Edit], &'static str);
 
 const BODY: Part = (Bytes(&[0; 8]), 0, 8);
@@ -59,14 +59,14 @@ static LIMITED: [Limited; 18] = [
     ([1000, 1000, 2], &[LETTERS, ABC], &[], THREE_VALUES),
     ([1000, 1000, 0], &[NUMBERS, THREE], &[], THREE_ROWS),
     ([1000, 1000, 0], &[LETTERS, ABC], &[], THREE_VALUES),
-    // Three values and two behind them are too many where four rows are allowed.
+    // Three values and two more after them are too many if four rows are allowed.
     (
         [67_108_864, 68_719_476_736, 4],
         &[(Growing, 0, 1_376)],
         &[],
         "schema k; dictionary a b c; batch a b c; refused Rows at 592; 0 held at 592: Rows at 592",
     ),
-    // Four values in the place of three are not seven.
+    // Four values that replace three are not seven.
     (
         [67_108_864, 68_719_476_736, 4],
         &[LETTERS, ABC, (Growing, 976, 1_208)],
@@ -88,8 +88,8 @@ static LIMITED: [Limited; 18] = [
     ),
 ];
 
-// What is answered to a stream byte by byte, and the first cut in two of which it is answered
-// otherwise, if there is one.
+/// The results for a stream byte by byte, and the first cut in two with other results, if there is
+/// one.
 fn answers_in_pieces(
     alloc: Global,
     reader: &mut StreamReader,
@@ -111,12 +111,12 @@ fn answers_in_pieces(
 }
 
 fn assert_limited(rt: &impl Abort, alloc: Global, number: usize, it: &Limited) {
-    let (most, parts, edits, want) = it;
+    let (most, parts, edits, expected) = it;
     let limits = Limits::new(most[0], most[1], most[2]).expect(rt, "within the ceilings");
     let bytes = joined(alloc, parts, edits).expect(rt, "a stream");
     let mut reader = StreamReader::new(alloc, limits);
     let (answers, cut) = answers_in_pieces(alloc, &mut reader, &bytes).expect(rt, "memory");
-    assert_eq!(rt; (answers.as_str(), cut), (*want, None), "row {number}");
+    assert_eq!(rt; (answers.as_str(), cut), (*expected, None), "row {number}");
 }
 
 #[test]

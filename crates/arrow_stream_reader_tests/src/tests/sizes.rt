@@ -1,5 +1,5 @@
-// Bodies about as long as the shortest that columns share, 65,536 bytes: whole in a piece, and in
-// parts.
+//! Bodies about as long as the shortest that columns share, 65,536 bytes: complete in a piece, and
+//! in several.
 
 use arrow_data::{Array, Batch};
 use arrow_stream_reader::{Item, StreamReader};
@@ -10,20 +10,20 @@ use std::process::Abort;
 
 const MEMORY: &str = "memory";
 
-// How the bytes of a stream come.
+/// How the bytes of a stream are delivered.
 #[derive(Clone, Copy, Debug, PartialEq, Eq)]
 enum Pieces {
-    // All at once.
+    /// All at once.
     One,
-    // So many at a time.
+    /// This many at a time.
     Each(usize),
-    // Up to a place, and from there on.
+    /// Up to an offset, and from there on.
     Cut(usize),
-    // One by one near the beginning and near the end, and those between in pieces of 4,096.
+    /// One by one near the beginning and near the end, and those between in pieces of 4,096.
     SlowEnds,
 }
 
-// How many bytes the piece has that begins at a place of a stream of so many bytes.
+/// How many bytes the piece has that begins at an offset of a stream of `len` bytes.
 fn piece_len(pieces: Pieces, place: usize, len: usize) -> usize {
     let rest = len.saturating_sub(place);
     match pieces {
@@ -36,7 +36,8 @@ fn piece_len(pieces: Pieces, place: usize, len: usize) -> usize {
     }
 }
 
-// Gives a reader a piece, what it leaves of it again and again, and keeps the batches.
+/// Gives a reader a piece, and then repeatedly the bytes of it that the reader left, and keeps the
+/// batches.
 fn give(rt: &impl Abort, reader: &mut StreamReader, piece: &[u8], batches: &mut Vec<Batch>) {
     let mut rest = piece;
     for _ in 0..16 {
@@ -53,16 +54,16 @@ fn give(rt: &impl Abort, reader: &mut StreamReader, piece: &[u8], batches: &mut 
     }
 }
 
-// The batches of a stream, whose reader is gone.
+/// The batches of a stream, whose reader has been dropped.
 fn batches_of(rt: &impl Abort, alloc: Global, bytes: &[u8], pieces: Pieces) -> Vec<Batch> {
     let mut reader = StreamReader::new(alloc, Limits::standard());
     let mut batches = Vec::new(alloc);
     let mut rest = bytes;
     for _ in 0..=bytes.len() {
         let place = bytes.len().saturating_sub(rest.len());
-        let (piece, behind) = rest.split_at(piece_len(pieces, place, bytes.len()).min(rest.len()));
+        let (piece, after) = rest.split_at(piece_len(pieces, place, bytes.len()).min(rest.len()));
         give(rt, &mut reader, piece, &mut batches);
-        rest = behind;
+        rest = after;
         if rest.is_empty() {
             break;
         }
@@ -77,8 +78,8 @@ fn push(rt: &impl Abort, bytes: &mut Vec<u8>, more: &[u8]) {
     bytes.extend_from_slice(more).expect(rt, MEMORY);
 }
 
-// Appends a frame without its body, with numbers of 64 bits in place of those that begin at places
-// of it.
+/// Appends a frame without its body, and replaces the numbers of 64 bits that begin at the given
+/// offsets of it.
 fn push_front(rt: &impl Abort, bytes: &mut Vec<u8>, front: &[u8], numbers: &[(usize, u64)]) {
     let start = bytes.len();
     push(rt, bytes, front);
@@ -90,13 +91,13 @@ fn push_front(rt: &impl Abort, bytes: &mut Vec<u8>, front: &[u8], numbers: &[(us
     }
 }
 
-// Appends zeros until there are so many bytes.
+/// Appends zeros until there are `len` bytes.
 fn fill_up(rt: &impl Abort, bytes: &mut Vec<u8>, len: usize) {
     bytes.resize(len, 0).expect(rt, MEMORY);
 }
 
-// Appends a batch of the numbers `i * i + 7` for each row `i` in a body of so many bytes, without
-// a bitmap of those that are valid.
+/// Appends a batch of the numbers `i * i + 7` for each row `i` in a body of `body_len` bytes,
+/// without a validity bitmap.
 fn push_squares(rt: &impl Abort, bytes: &mut Vec<u8>, body_len: usize) {
     let rows = body_len / 4;
     let numbers = [
@@ -118,17 +119,17 @@ fn push_squares(rt: &impl Abort, bytes: &mut Vec<u8>, body_len: usize) {
     fill_up(rt, bytes, end);
 }
 
-// That a column has so many numbers, each of which is that of its row.
+/// Asserts that a column has `rows` numbers, each of which is that of its row.
 fn has_squares(rt: &impl Abort, column: &Array, rows: usize) {
     assert_eq!(rt; column.len(), rows);
     for i in 0..column.len() {
         let root = i as i128;
-        let want = root.wrapping_mul(root).wrapping_add(7);
-        assert_eq!(rt; column.int_at(i), Some(want), "row {i}");
+        let expected = root.wrapping_mul(root).wrapping_add(7);
+        assert_eq!(rt; column.int_at(i), Some(expected), "row {i}");
     }
 }
 
-// The lengths of bodies, with how many numbers they have.
+/// The lengths of bodies, with how many numbers they have.
 const BODIES: [(usize, usize); 5] = [
     (65_528, 16_382),
     (65_535, 16_383),
@@ -137,7 +138,8 @@ const BODIES: [(usize, usize); 5] = [
     (65_544, 16_386),
 ];
 
-// That the batches of two such bodies, with one of three rows between them, are read so.
+/// Asserts that the batches of two such bodies, with one of three rows between them, are read
+/// correctly.
 fn are_squares(rt: &impl Abort, alloc: Global, body: (usize, usize), pieces: Pieces) {
     let (body_len, rows) = body;
     let mut bytes = Vec::from_slice(alloc, &ONE_BATCH[..152]).expect(rt, MEMORY);
@@ -168,7 +170,7 @@ fn numbers_that_come_in_pieces(rt: HostRuntime) {
     }
 }
 
-// The body begins at place 304: it is whole in the second piece, or all but a byte of it.
+/// The body begins at offset 304: all of it is in the second piece, or all but a byte.
 #[test]
 fn numbers_whose_body_comes_by_itself(rt: HostRuntime) {
     are_squares(&rt, rt.alloc(), BODIES[2], Pieces::Cut(304));
@@ -176,8 +178,8 @@ fn numbers_whose_body_comes_by_itself(rt: HostRuntime) {
     are_squares(&rt, rt.alloc(), BODIES[0], Pieces::Cut(305));
 }
 
-// Appends a dictionary batch in a body of so many bytes, in which 16 of offsets stand before the
-// texts. All texts but one, which takes the rest, are of one letter.
+/// Appends a dictionary batch in a body of `body_len` bytes, in which 16 bytes of offsets come
+/// before the texts. All texts have one letter, except one that takes the remaining bytes.
 fn push_texts(rt: &impl Abort, bytes: &mut Vec<u8>, front: &[u8], body_len: usize, texts: &[u8]) {
     let data_len = body_len.saturating_sub(16);
     let long = data_len.saturating_sub(texts.len()).saturating_add(1);
@@ -204,7 +206,7 @@ fn push_texts(rt: &impl Abort, bytes: &mut Vec<u8>, front: &[u8], body_len: usiz
     }
 }
 
-// That a slot refers to a text of so many letters, all the same.
+/// Asserts that a slot refers to a text of `len` letters that are all the same.
 fn is_text(rt: &impl Abort, column: &Array, i: usize, letter: u8, len: usize) {
     assert!(rt; i < column.len());
     let (values, place) = column.resolved(i).expect(rt, "an index");
@@ -216,7 +218,7 @@ fn is_text(rt: &impl Abort, column: &Array, i: usize, letter: u8, len: usize) {
     }
 }
 
-// That a dictionary in a body of so many bytes is read, and one that grows by another.
+/// Asserts that a dictionary in a body of `body_len` bytes is read, and one that another extends.
 fn are_letters(rt: &impl Abort, alloc: Global, body_len: usize, pieces: Pieces) {
     let mut bytes = Vec::from_slice(alloc, &GROWING[..200]).expect(rt, MEMORY);
     push_texts(rt, &mut bytes, &GROWING[200..400], body_len, b"abc");

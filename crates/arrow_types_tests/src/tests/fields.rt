@@ -1,4 +1,4 @@
-// Fields that are built of what stands in words.
+//! Fields that are built from a description in words.
 
 use arrow_types::{
     BitWidth, DataType, DateUnit, DecimalWidth, Encoding, Field, IndexType, IntervalUnit,
@@ -8,7 +8,7 @@ use std::process::Abort;
 
 pub(super) const MEMORY: &str = "memory";
 
-// A field that may be null.
+/// A field that may be null.
 pub(super) fn field(rt: &(impl Abort + AllocGlobal), name: &str, data_type: DataType) -> Field {
     let name = String::from_str(rt.alloc(), name).expect(rt, MEMORY);
     Field::new(rt.alloc(), name, data_type, true)
@@ -68,7 +68,7 @@ fn decimal_width_in(rt: &impl Abort, bits: &str) -> DecimalWidth {
     }
 }
 
-// Decimals of these bits, this precision and this scale, as `128,38,-2`.
+/// Decimals of these bits, this precision and this scale, as `128,38,-2`.
 fn decimals_of(rt: &impl Abort, numbers: &str) -> DataType {
     let (bits, more) = numbers.split_once(',').expect(rt, "a width");
     let (precision, scale) = more.split_once(',').expect(rt, "a precision and a scale");
@@ -79,10 +79,10 @@ fn decimals_of(rt: &impl Abort, numbers: &str) -> DataType {
     }
 }
 
-// The type that a word names. After a dot comes the width of byte strings, the unit of times, the
-// zone of timestamps in microseconds, the numbers of decimals, the size of fixed-size lists, how
-// many fields before it a struct takes, or that the keys of a map are sorted; each list and a map
-// take one field.
+/// The type that a word names. A dot is followed by the width of byte strings, the unit of times,
+/// the zone of timestamps in microseconds, the numbers of decimals, the size of fixed-size lists,
+/// how many fields before it a struct takes, or that the keys of a map are sorted; each list and a
+/// map take one field.
 fn data_type(rt: &(impl Abort + AllocGlobal), before: &mut Vec<Field>, word: &str) -> DataType {
     let (name, more) = word.split_once('.').unwrap_or((word, ""));
     match name {
@@ -115,7 +115,7 @@ fn data_type(rt: &(impl Abort + AllocGlobal), before: &mut Vec<Field>, word: &st
     }
 }
 
-// Signed 32-bit indices into the dictionary of this id.
+/// Signed 32-bit indices into the dictionary of this id.
 pub(super) fn encoding(id: i64) -> Encoding {
     Encoding {
         id,
@@ -127,8 +127,8 @@ pub(super) fn encoding(id: i64) -> Encoding {
     }
 }
 
-// Puts so many fields `NAME:TYPE` or `NAME@ID:TYPE` behind others. A dictionary is ordered where its
-// id is odd.
+/// Appends `count` fields `NAME:TYPE` or `NAME@ID:TYPE` to others. A dictionary is ordered if its id
+/// is odd.
 fn push_fields(rt: &(impl Abort + AllocGlobal), fields: &mut Vec<Field>, word: &str, count: u32) {
     let (named, of) = word.split_once(':').expect(rt, "a name and a type");
     let (name, id) = named.split_once('@').unwrap_or((named, ""));
@@ -141,8 +141,8 @@ fn push_fields(rt: &(impl Abort + AllocGlobal), fields: &mut Vec<Field>, word: &
     }
 }
 
-// The columns of fields one behind the other, each of which takes from the end of those before it
-// what stands below it. `:bool*3` is three times `:bool`.
+/// The columns of consecutive fields, each of which takes the fields below it from the end of those
+/// before it. `:bool*3` is three times `:bool`.
 pub(super) fn columns(rt: &(impl Abort + AllocGlobal), words: &str) -> Vec<Field> {
     let mut columns = Vec::new(rt.alloc());
     for word in words.split_whitespace() {
@@ -156,14 +156,14 @@ pub(super) fn column(rt: &(impl Abort + AllocGlobal), words: &str) -> Field {
     last(rt, &mut columns(rt, words))
 }
 
-// The field, with one above it of this name and this type.
+/// The field, with one above it of this name and this type.
 pub(super) fn below(rt: &(impl Abort + AllocGlobal), name: &str, of: &str, child: Field) -> Field {
     let mut fields = vec![in rt.alloc(); child].expect(rt, MEMORY);
     let above = data_type(rt, &mut fields, of);
     field(rt, name, above)
 }
 
-// So many empty pairs behind others.
+/// Appends `count` empty pairs to others.
 pub(super) fn add_empty(
     rt: &(impl Abort + AllocGlobal),
     pairs: &mut Vec<(Vec<u8>, Vec<u8>)>,
@@ -175,7 +175,7 @@ pub(super) fn add_empty(
     }
 }
 
-// The number of a fault, 0 where there is none.
+/// The number of a fault, 0 if there is none.
 pub(super) fn number(made: Result<Schema, SchemaFault>) -> u8 {
     match made {
         Ok(_) => 0,

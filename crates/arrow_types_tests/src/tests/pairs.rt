@@ -1,14 +1,14 @@
-// Custom metadata of schemas and fields: kept, copied, compared and counted.
+//! Custom metadata of schemas and fields: kept, copied, compared and counted.
 
 use super::fields::{MEMORY, add_empty, below, encoding, field, number};
 use arrow_types::{BitWidth, DataType, Encoding, Field, IndexType, Schema, SchemaFault};
 use std::process::Abort;
 
-// Keys and values.
+/// Keys and values.
 type Pairs = &'static [(&'static [u8], &'static [u8])];
 
-// Pairs, and how many empty ones behind them: at a schema, at its column, at the field below it, and
-// at the one below that.
+/// Pairs, and how many empty ones follow them: at a schema, at its column, at the field below it,
+/// and at the one below that.
 type Levels = [(Pairs, usize); 4];
 
 const NO: Pairs = &[];
@@ -17,7 +17,7 @@ const NONE: Levels = [(NO, 0), (NO, 0), (NO, 0), (NO, 0)];
 
 const ABOVE: [&str; 4] = ["list", "large_list", "fixed_list.3", "struct.1"];
 
-// These pairs, in memory of their own.
+/// These pairs, in separate memory.
 fn pairs(
     rt: &(impl Abort + AllocGlobal),
     (noted, empty): (Pairs, usize),
@@ -32,16 +32,16 @@ fn pairs(
     pairs
 }
 
-// Whether these are the pairs, in their order.
-fn are_pairs(pairs: &[(Vec<u8>, Vec<u8>)], want: Pairs) -> bool {
-    let mut both = pairs.iter().zip(want);
-    pairs.len() == want.len()
+/// Whether these are the pairs, in their order.
+fn are_pairs(pairs: &[(Vec<u8>, Vec<u8>)], expected: Pairs) -> bool {
+    let mut both = pairs.iter().zip(expected);
+    pairs.len() == expected.len()
         && both.all(|(pair, (key, value))| {
             pair.0.as_slice() == *key && pair.1.as_slice() == *value
         })
 }
 
-// A column of truth values below a struct below this type.
+/// A column of truth values below a struct below this type.
 fn column(rt: &(impl Abort + AllocGlobal), above: &str, levels: &Levels) -> Field {
     let lowest = field(rt, "n", DataType::Bool).with_metadata(pairs(rt, levels[3]));
     let child = below(rt, "m", "struct.1", lowest).with_metadata(pairs(rt, levels[2]));
@@ -61,8 +61,8 @@ fn schema(rt: &(impl Abort + AllocGlobal), above: &str, levels: &Levels) -> Sche
     made(rt, column(rt, above, levels), levels[0]).expect(rt, "a schema")
 }
 
-// The first column, and how equal it is to that of another schema: in all, in its type, and in its
-// type without pairs.
+/// The first column, and whether it equals that of another schema: in all, in its type, and in its
+/// type without pairs.
 fn equal_columns(rt: &impl Abort, one: &Schema, other: &Schema) -> [bool; 3] {
     let one = one.fields().first().expect(rt, "a column");
     let other = other.fields().first().expect(rt, "a column");
@@ -70,7 +70,7 @@ fn equal_columns(rt: &impl Abort, one: &Schema, other: &Schema) -> [bool; 3] {
     [one == other, of == of_other, of.same(of_other)]
 }
 
-// Pairs of which no two are equal.
+/// Pairs, no two of which are equal.
 static PAIRS: [Pairs; 12] = [
     &[],
     &[(b"", b"")],
@@ -90,7 +90,7 @@ fn row(rt: &impl Abort, i: usize) -> Pairs {
     PAIRS.get(i).expect(rt, "a row")
 }
 
-// No pairs but these at one place.
+/// No pairs except these at one level.
 fn at(place: usize, noted: Pairs) -> Levels {
     let mut levels = NONE;
     if let Some(level) = levels.get_mut(place) {
@@ -99,14 +99,22 @@ fn at(place: usize, noted: Pairs) -> Levels {
     levels
 }
 
-// Whether schemas with pairs at one place are equal, and what of their columns.
+/// Whether schemas with pairs at one level are equal, and in what respect their columns are.
 fn is_equal(rt: &(impl Abort + AllocGlobal), above: &str, place: usize, i: usize, j: usize) {
     let one = schema(rt, above, &at(place, row(rt, i)));
     let other = schema(rt, above, &at(place, row(rt, j)));
     assert_eq!(rt; one == other, i == j, "{i} {j} at {place}");
-    let want = [i == j || place < 1, i == j || place < 2, true];
-    assert_eq!(rt; equal_columns(rt, &one, &other), want, "{i} {j} at {place}");
-    assert_eq!(rt; equal_columns(rt, &other, &one), want, "{i} {j} at {place}");
+    let expected = [i == j || place < 1, i == j || place < 2, true];
+    assert_eq!(rt;
+        equal_columns(rt, &one, &other),
+        expected,
+        "{i} {j} at {place}"
+    );
+    assert_eq!(rt;
+        equal_columns(rt, &other, &one),
+        expected,
+        "{i} {j} at {place}"
+    );
 }
 
 fn are_equal(rt: &(impl Abort + AllocGlobal), i: usize, j: usize) {
@@ -137,7 +145,7 @@ fn pairs_in_other_places_are_others(rt: HostRuntime) {
     }
 }
 
-// Pairs on all levels.
+/// Pairs on all levels.
 const NOTED: Levels = [
     (&[(b"from", b"here"), (b"", b""), (b"from", b"there")], 0),
     (&[(b"\xff\xfe", b"\0\x80")], 0),
@@ -145,7 +153,7 @@ const NOTED: Levels = [
     (&[(b"deep", b"est")], 0),
 ];
 
-// That a schema has these pairs on each level.
+/// That a schema has these pairs on each level.
 fn is_noted(rt: &impl Abort, schema: &Schema, levels: &Levels) {
     assert!(rt; are_pairs(schema.metadata(), levels[0].0));
     let mut fields = schema.fields();
@@ -156,7 +164,7 @@ fn is_noted(rt: &impl Abort, schema: &Schema, levels: &Levels) {
     }
 }
 
-// The pairs of the schema itself are none of its fields'.
+/// The pairs of the schema itself do not belong to its fields.
 fn is_copied(rt: &(impl Abort + AllocGlobal), above: &str) {
     let noted = schema(rt, above, &NOTED);
     let copy = noted.copy(rt.alloc()).expect(rt, MEMORY);
@@ -177,20 +185,20 @@ fn copies_keep_pairs_on_each_level(rt: HostRuntime) {
     }
 }
 
-// A column by dictionary 7, whose values have a field of this name below them, with these pairs.
+/// A column by dictionary 7, whose values have a field of this name below them, with these pairs.
 fn encoded(rt: &(impl Abort + AllocGlobal), above: &str, name: &str, noted: Pairs) -> Field {
     let child = field(rt, name, DataType::Bool).with_metadata(pairs(rt, (noted, 0)));
     let column = below(rt, "c", above, child).with_metadata(pairs(rt, (noted, 0)));
     column.with_dictionary(encoding(7))
 }
 
-// The number of the fault of two columns.
+/// The number of the fault of two columns.
 fn two_columns(rt: &(impl Abort + AllocGlobal), first: Field, second: Field) -> u8 {
     let columns = vec![in rt.alloc(); first, second].expect(rt, MEMORY);
     number(Schema::new(rt.alloc(), columns))
 }
 
-// The same of two such columns.
+/// The same for two such columns.
 fn fault_of_two(rt: &(impl Abort + AllocGlobal), above: &str, name: &str, noted: [Pairs; 2]) -> u8 {
     let first = encoded(rt, above, "n", noted[0]);
     let second = encoded(rt, above, name, noted[1]);
@@ -208,8 +216,8 @@ fn value_types_do_not_differ_in_pairs(rt: HostRuntime) {
     }
 }
 
-// How many pairs stand at the schema, at a column and at the two fields below it, and the number of
-// the fault.
+/// The number of pairs at the schema, at a column and at the two fields below it, and the number of
+/// the fault.
 static COUNTS: [([usize; 4], u8); 15] = [
     ([0, 0, 0, 0], 0),
     ([65_536, 0, 0, 0], 0),
@@ -230,26 +238,26 @@ static COUNTS: [([usize; 4], u8); 15] = [
 
 #[test]
 fn pairs_of_all_levels_are_counted(rt: HostRuntime) {
-    for (counts, want) in &COUNTS {
+    for (counts, expected) in &COUNTS {
         for above in ABOVE {
             let [own, at_column, at_child, at_lowest] = *counts;
             let levels = [(NO, own), (NO, at_column), (NO, at_child), (NO, at_lowest)];
             let made = made(&rt, column(&rt, above, &levels), levels[0]);
-            assert_eq!(rt; number(made), *want, "{counts:?}");
+            assert_eq!(rt; number(made), *expected, "{counts:?}");
         }
     }
 }
 
-// A column of nulls with so many pairs.
+/// A column of nulls with `count` pairs.
 fn with_empty(rt: &(impl Abort + AllocGlobal), count: usize) -> Field {
     field(rt, "n", DataType::Null).with_metadata(pairs(rt, (NO, count)))
 }
 
 #[test]
 fn pairs_of_columns_side_by_side_are_counted(rt: HostRuntime) {
-    for (count, want) in [(32_768, 0), (32_769, 7)] {
+    for (count, expected) in [(32_768, 0), (32_769, 7)] {
         let (first, second) = (with_empty(&rt, 32_768), with_empty(&rt, count));
-        assert_eq!(&rt; two_columns(&rt, first, second), want, "{count}");
+        assert_eq!(&rt; two_columns(&rt, first, second), expected, "{count}");
     }
 }
 
@@ -262,14 +270,15 @@ const SMALL: Encoding = Encoding {
     ordered: true,
 };
 
-// Names, whether nulls may be, encodings, and pairs, each of which a field gets in place of others.
+/// Names, whether nulls are allowed, encodings, and pairs, each of which a field gets in place of
+/// others.
 static FIELDS: [(&str, bool, Encoding, Pairs); 3] = [
     ("n", true, SMALL, &[(b"k", b"v"), (b"k", b"w")]),
     ("", false, SMALL, &[(b"", b"\xff")]),
     ("né", true, SMALL, &[]),
 ];
 
-// That a field has texts, this name and this encoding, and may be null or not.
+/// That a field has texts, this name and this encoding, and may be null or not.
 fn is_field(rt: &impl Abort, field: &Field, name: &str, nullable: bool, of: Option<Encoding>) {
     assert_eq!(rt; (field.name.as_str(), field.nullable), (name, nullable));
     assert_eq!(rt; field.data_type, DataType::Utf8);

@@ -1,4 +1,4 @@
-// Limits, widths and faults, and how schemas, fields and types are copied and compared.
+//! Limits, widths and faults, and how schemas, fields and types are copied and compared.
 
 use super::fields::{MEMORY, add_empty, column, columns, number};
 use arrow_types::SchemaFault::{
@@ -11,10 +11,10 @@ use arrow_types::{
 };
 use std::process::Abort;
 
-// Ceilings of metadata, body and rows.
+/// Ceilings of metadata, body and rows.
 type Numbers = (u64, u64, u64);
 
-// Those that limits may have, and some that they may not.
+/// Those that limits may have, and some that they may not have.
 static LIMITS: [(Numbers, bool); 5] = [
     ((1_073_741_824, 1_099_511_627_776, 2_147_483_647), true),
     ((0, 0, 0), true),
@@ -33,8 +33,8 @@ fn limits_keep_to_their_ceilings(rt: HostRuntime) {
     assert!(rt; standard == (67_108_864, 68_719_476_736, 2_147_483_647));
     for (row, (asked, are_there)) in LIMITS.iter().enumerate() {
         let found = Limits::new(asked.0, asked.1, asked.2).map(numbers);
-        let want = if *are_there { Some(*asked) } else { None };
-        assert!(rt; found == want, "number {row}");
+        let expected = if *are_there { Some(*asked) } else { None };
+        assert!(rt; found == expected, "number {row}");
     }
     assert!(rt; Limits::LAST_PLACE == 1u64 << 62);
     assert!(rt; Schema::MAX_PAIRS == 65_536);
@@ -51,7 +51,7 @@ fn a_set_of_types_changes_no_number(rt: HostRuntime) {
     }
 }
 
-// Columns, and whether the core leaves the type of a field among them out.
+/// Columns, and whether the core leaves the type of a field among them out.
 static LATE: [(&str, bool); 24] = [
     ("", false),
     ("i:int d:date", false),
@@ -119,7 +119,7 @@ fn units_have_their_widths(rt: HostRuntime) {
     }
 }
 
-// The widths of decimals, their bits and the greatest number of digits.
+/// The widths of decimals, their bits and the greatest number of digits.
 static DECIMAL_WIDTHS: [(DecimalWidth, u16, u8); 4] = [
     (DecimalWidth::ThirtyTwo, 32, 9),
     (DecimalWidth::SixtyFour, 64, 18),
@@ -137,7 +137,8 @@ fn decimals_have_their_widths(rt: HostRuntime) {
     }
 }
 
-// Columns, how many pairs the schema has, and the number of their fault, of several the least.
+/// Columns, how many pairs the schema has, and the number of their fault, the least if there are
+/// several.
 static FAULTS: [(&str, usize, u8); 26] = [
     ("", 0, 0),
     ("n:null n:list*31", 0, 0),
@@ -168,14 +169,14 @@ static FAULTS: [(&str, usize, u8); 26] = [
     ("f:fixed.2147483647", 65_537, 7),
 ];
 
-// That each of these columns and pairs has this fault.
+/// That each of these columns and pairs has this fault.
 fn are_judged(rt: &(impl Abort + AllocGlobal), rows: &[(&str, usize, u8)]) {
-    for (words, own, want) in rows {
+    for (words, own, expected) in rows {
         let columns = columns(rt, words);
         let mut pairs = Vec::new(rt.alloc());
         add_empty(rt, &mut pairs, *own);
         let made = Schema::with_metadata(rt.alloc(), columns, pairs);
-        assert!(rt; number(made) == *want, "{words} and {own} pairs");
+        assert!(rt; number(made) == *expected, "{words} and {own} pairs");
     }
 }
 
@@ -184,7 +185,7 @@ fn the_least_fault_is_given(rt: HostRuntime) {
     are_judged(&rt, &FAULTS);
 }
 
-// The same of fixed-size lists.
+/// The same for fixed-size lists.
 static FIXED_SIZE_LISTS: [(&str, usize, u8); 18] = [
     // The least and the greatest size, and those after it.
     ("n:null l:fixed_list.0", 0, 0),
@@ -192,7 +193,7 @@ static FIXED_SIZE_LISTS: [(&str, usize, u8); 18] = [
     ("n:null l:fixed_list.2147483647", 0, 0),
     ("n:null l:fixed_list.2147483648", 0, 6),
     ("n:null l:fixed_list.4294967295", 0, 6),
-    // By a dictionary, below other fields, with lists below, and beside sizes that are allowed.
+    // By a dictionary, below other fields, with lists below, and next to sizes that are allowed.
     ("n:null l@1:fixed_list.2147483647", 0, 0),
     ("n:null l@1:fixed_list.2147483648", 0, 6),
     (
@@ -218,7 +219,7 @@ fn fixed_size_lists_keep_to_their_size(rt: HostRuntime) {
     are_judged(&rt, &FIXED_SIZE_LISTS);
 }
 
-// The same of maps.
+/// The same for maps.
 static MAPS: [(&str, usize, u8); 18] = [
     // Maps whose entries are a struct of two fields.
     ("k:utf8 v:bool e:struct.2 m:map", 0, 0),
@@ -230,7 +231,7 @@ static MAPS: [(&str, usize, u8); 18] = [
         0,
         0,
     ),
-    // Maps of another child: no struct, of another number of fields, dictionary-encoded.
+    // Maps of another child: not a struct, with another number of fields, dictionary-encoded.
     ("n:null m:map", 0, 8),
     ("k:utf8 l:list m:map", 0, 8),
     ("e:struct.0 m:map", 0, 8),
@@ -238,7 +239,7 @@ static MAPS: [(&str, usize, u8); 18] = [
     ("k:utf8 v:bool w:bool e:struct.3 m:map.sorted", 0, 8),
     ("k:utf8 v:bool e@1:struct.2 m:map", 0, 8),
     ("k:utf8 v:bool e:struct.2 m:map m:map", 0, 8),
-    // Below other fields, and beside a map that has entries.
+    // Below other fields, and next to a map that has entries.
     ("n:null m:map l:list s:struct.1", 0, 8),
     ("k:utf8 n:null v:map e:struct.2 m:map", 0, 8),
     ("k:utf8 v:bool e:struct.2 m:map n:null m:map", 2, 8),
@@ -253,7 +254,7 @@ fn maps_have_entries(rt: HostRuntime) {
     are_judged(&rt, &MAPS);
 }
 
-// The same of decimals.
+/// The same for decimals.
 static DECIMALS: [(&str, usize, u8); 31] = [
     // The least and the greatest precision of each width, and those next to them.
     ("d:decimal.32,0,0", 0, 9),
@@ -271,7 +272,7 @@ static DECIMALS: [(&str, usize, u8); 31] = [
     ("d:decimal.256,76,0", 0, 0),
     ("d:decimal.256,77,0", 0, 9),
     ("d:decimal.256,255,0", 0, 9),
-    // The same of the scale, which may be greater than the precision.
+    // The same for the scale, which may be greater than the precision.
     ("d:decimal.32,9,-77", 0, 9),
     ("d:decimal.32,9,-76", 0, 0),
     ("d:decimal.32,9,76", 0, 0),
@@ -279,7 +280,7 @@ static DECIMALS: [(&str, usize, u8); 31] = [
     ("d:decimal.256,76,-128", 0, 9),
     ("d:decimal.256,76,127", 0, 9),
     ("d:decimal.256,76,-76", 1, 0),
-    // Below other fields, by a dictionary, and beside decimals that are allowed.
+    // Below other fields, by a dictionary, and next to decimals that are allowed.
     ("d:decimal.64,19,0 l:list s:struct.1", 0, 9),
     ("d@1:decimal.128,0,3", 0, 9),
     ("d@1:decimal.128,1,3", 0, 0),
@@ -297,7 +298,7 @@ fn decimals_keep_to_their_range(rt: HostRuntime) {
     are_judged(&rt, &DECIMALS);
 }
 
-// The faults in the order of their numbers, which begin at 1, and what each says.
+/// The faults in the order of their numbers, which begin at 1, and what each says.
 static WORDS: [(SchemaFault, &str); 9] = [
     (TooDeep, "more than 32 levels of fields"),
     (TooManyFields, "more than 65,536 fields"),
@@ -318,9 +319,9 @@ static WORDS: [(SchemaFault, &str); 9] = [
 
 #[test]
 fn faults_in_words(rt: HostRuntime) {
-    for (place, (fault, want)) in WORDS.iter().enumerate() {
+    for (place, (fault, expected)) in WORDS.iter().enumerate() {
         let words = format!(in rt.alloc(); "{fault}").expect(&rt, MEMORY);
-        assert_eq!(rt; words.as_str(), *want);
+        assert_eq!(rt; words.as_str(), *expected);
         assert_eq!(rt; usize::from(fault.number()), place + 1, "{words}");
     }
 }
@@ -328,7 +329,7 @@ fn faults_in_words(rt: HostRuntime) {
 const TWICE: &str =
     "k@5:utf8 k@9:bool k@-3:null l:list k@5:utf8 s:struct.3 k@2:utf8 k@9:bool s:struct.2";
 
-// Columns, the ids of their dictionaries and how many columns there are.
+/// Columns, the ids of their dictionaries and how many columns there are.
 static IDS: [(&str, &[i64], usize); 2] = [("k@0:utf8", &[0], 1), (TWICE, &[5, 9, -3, 2], 3)];
 
 fn schema(rt: &(impl Abort + AllocGlobal), words: &str) -> Schema {
@@ -340,14 +341,14 @@ fn has_ids(schema: &Schema, ids: &[i64], count: usize) -> bool {
 }
 
 #[test]
-fn ids_stand_in_pre_order_once(rt: HostRuntime) {
+fn ids_come_in_pre_order_once(rt: HostRuntime) {
     for (words, ids, count) in &IDS {
         let schema = schema(&rt, words);
         assert!(rt; has_ids(&schema, ids, *count), "{words}");
     }
 }
 
-// A column, the names of its children, and whether there is a dictionary below it.
+/// A column, the names of its children, and whether there is a dictionary below it.
 static CHILDREN: [(&str, &[&str], bool); 10] = [
     ("item:bool l:list", &["item"], false),
     (":bool :bool k@0:utf8 s:struct.3", &["", "", "k"], true),
@@ -397,7 +398,7 @@ fn copies_are_equal(rt: HostRuntime) {
     assert!(rt; has_ids(&copy, &[1], 8));
 }
 
-// Fields that each differ from `k@0:timestamp.UTC`, and whether their type is the same.
+/// Fields that each differ from `k@0:timestamp.UTC`, and whether their type is the same.
 static OTHERS: [(&str, bool); 6] = [
     ("k:timestamp.UTC", true),
     ("k@1:timestamp.UTC", true),
@@ -428,8 +429,8 @@ fn equality_reads_everything(rt: HostRuntime) {
     assert!(rt; plain != other);
 }
 
-// Types of which no two are the same; then lists of each width of offsets and of two sizes, of two
-// items.
+/// Types, no two of which are the same; then lists of each width of offsets and of two sizes, of two
+/// items.
 const APART: &str = "c:binary c:large_binary c:fixed.0 c:fixed.3 c:fixed.4 c:utf8 c:large_utf8 \
     c:time.s c:duration.s c:duration.ms c:duration.us c:duration.ns c:struct.0 c:null \
     c:halffloat c:float c:double c:interval.year_month c:interval.day_time \
@@ -441,7 +442,7 @@ const LISTS: &str =
     "t:utf8 l:list t:utf8 l:large_list t:large_utf8 l:list t:large_utf8 l:large_list \
     t:utf8 l:fixed_list.1 t:large_utf8 l:fixed_list.1 t:utf8 l:fixed_list.4294967295";
 
-// That each type is the same as itself alone, and equal to it.
+/// That each type is the same only as itself, and equal to it.
 fn are_apart(rt: &impl Abort, columns: &[Field]) {
     for (i, one) in columns.iter().enumerate() {
         for (j, other) in columns.iter().enumerate() {
@@ -452,7 +453,7 @@ fn are_apart(rt: &impl Abort, columns: &[Field]) {
 }
 
 #[test]
-fn widths_units_items_and_offsets_tell_types_apart(rt: HostRuntime) {
+fn widths_units_items_and_offsets_distinguish_types(rt: HostRuntime) {
     are_apart(&rt, &columns(&rt, APART));
     are_apart(&rt, &columns(&rt, LISTS));
 }

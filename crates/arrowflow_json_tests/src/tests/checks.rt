@@ -1,17 +1,17 @@
-// The messages of whole inputs as lines of JSON, and how the call ends. What they hold Python's
-// `json` reads from them.
+//! The messages of complete inputs as lines of JSON, and how the call ends. Python's `json` reads
+//! their content from them.
 
 use arrow_sink::probe::{Failing, Narrow, Trickle};
 use arrow_sink::{Counted, Sink};
 use arrow_test_streams::streams::{GROWING, ONE_BATCH};
 use arrow_types::Limits;
+use arrowflow_input::{Input, ToolFault};
 use arrowflow_json::check_json;
-use arrowflow_report::{Input, ToolFault};
 use std::alloc::Global;
 use std::io::ErrorKind;
 use std::process::Abort;
 
-// The messages of the growing dictionary.
+/// The messages of the growing dictionary.
 const MESSAGES: &str = "{\"at\":0,\"message\":\"schema\",\"columns\":1}\n\
     {\"at\":200,\"message\":\"dictionary\",\"id\":0,\"values\":3}\n\
     {\"at\":424,\"message\":\"batch\",\"number\":0,\"rows\":3}\n\
@@ -21,10 +21,10 @@ const MESSAGES: &str = "{\"at\":0,\"message\":\"schema\",\"columns\":1}\n\
     {\"at\":1208,\"message\":\"batch\",\"number\":2,\"rows\":2}\n\
     {\"at\":1368,\"message\":\"end marker\"}\n";
 
-// The schema of one batch.
+/// The schema of one batch.
 const SCHEMA: &str = "{\"at\":0,\"message\":\"schema\",\"columns\":1}\n";
 
-// What is written of an input, and after it the line of the fault.
+/// The output for an input, and after it the line of the fault.
 fn checked<R: Input>(rt: &impl Abort, alloc: Global, input: &mut R, file: Option<&str>) -> String {
     let output = Counted::new(Vec::new(alloc));
     let (output, answer) = check_json(alloc, input, output, &Limits::standard(), file);
@@ -48,29 +48,32 @@ fn messages_of_streams(rt: HostRuntime) {
         checked(&rt, alloc, &mut bit_by_bit, None).as_str(),
         MESSAGES
     );
-    let want = "{\"file\":\"a.arrows\",\"at\":0,\"message\":\"schema\",\"columns\":1}\n\
+    let expected = "{\"file\":\"a.arrows\",\"at\":0,\"message\":\"schema\",\"columns\":1}\n\
         {\"file\":\"a.arrows\",\"at\":152,\"message\":\"batch\",\"number\":0,\"rows\":3}\n\
         {\"file\":\"a.arrows\",\"at\":328,\"message\":\"end of input\"}\n";
     let mut without_marker = &ONE_BATCH[..328];
     let found = checked(&rt, alloc, &mut without_marker, Some("a.arrows"));
-    assert_eq!(&rt; found.as_str(), want);
+    assert_eq!(&rt; found.as_str(), expected);
 }
 
 #[test]
 fn streams_with_a_fault(rt: HostRuntime) {
     let alloc = rt.alloc();
     let mut cut = &ONE_BATCH[..300];
-    let want = "{\"at\":0,\"message\":\"schema\",\"columns\":1}\n\
+    let expected = "{\"at\":0,\"message\":\"schema\",\"columns\":1}\n\
         {\"at\":152,\"fault\":\"Truncated\"}\nfault at byte 152: Truncated";
-    assert_eq!(&rt; checked(&rt, alloc, &mut cut, None).as_str(), want);
+    assert_eq!(&rt; checked(&rt, alloc, &mut cut, None).as_str(), expected);
     let mut empty = b"".as_slice();
-    let want = "{\"file\":\"e\",\"at\":0,\"fault\":\"NoSchema\"}\nfault at byte 0: NoSchema";
-    assert_eq!(&rt; checked(&rt, alloc, &mut empty, Some("e")).as_str(), want);
+    let expected = "{\"file\":\"e\",\"at\":0,\"fault\":\"NoSchema\"}\nfault at byte 0: NoSchema";
+    assert_eq!(&rt;
+        checked(&rt, alloc, &mut empty, Some("e")).as_str(),
+        expected
+    );
     let mut failing = Trickle::new(&ONE_BATCH, 1_000, Some((200, ErrorKind::Interrupted)));
-    let mut want = String::from_str(alloc, SCHEMA).expect(&rt, "memory");
-    want.push_str("cannot read in").expect(&rt, "memory");
+    let mut expected = String::from_str(alloc, SCHEMA).expect(&rt, "memory");
+    expected.push_str("cannot read in").expect(&rt, "memory");
     let found = checked(&rt, alloc, &mut failing, None);
-    assert_eq!(&rt; found.as_str(), want.as_str());
+    assert_eq!(&rt; found.as_str(), expected.as_str());
 }
 
 #[test]

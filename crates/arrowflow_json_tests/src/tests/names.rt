@@ -1,4 +1,4 @@
-// Names of columns, and rows of several of them.
+//! Names of columns, and rows of several of them.
 
 use super::columns::{MEMORY, are_lines, column, field, schema_of};
 use arrow_data::{Batch, Value};
@@ -21,9 +21,9 @@ fn columns_in_their_order(rt: HostRuntime) {
         columns.push(column).expect(&rt, MEMORY);
         fields.push(field(&rt, name, INT8)).expect(&rt, MEMORY);
     }
-    let want = "{\"b\":1,\"a\\n\":2,\"b\":3,\"\":4}\n\
+    let expected = "{\"b\":1,\"a\\n\":2,\"b\":3,\"\":4}\n\
         {\"b\":null,\"a\\n\":null,\"b\":null,\"\":null}\n";
-    are_lines(&rt, schema_of(&rt, fields), columns, want);
+    are_lines(&rt, schema_of(&rt, fields), columns, expected);
 }
 
 #[test]

@@ -1,4 +1,4 @@
-// Lists, structs and maps.
+//! Lists, structs and maps.
 
 use super::columns::{MEMORY, are_shown, field, text};
 use arrow_data::Value;
@@ -10,12 +10,12 @@ const INT8: DataType = DataType::Int {
     signed: true,
 };
 
-// The type of lists of this type.
+/// The type of lists of this type.
 fn lists(rt: &(impl Abort + AllocGlobal), items: DataType) -> DataType {
     DataType::List(Box::new(rt.alloc(), field(rt, "item", items)).expect(rt, MEMORY))
 }
 
-// A list of two items, or a struct of two values, with these.
+/// A list of two items, or a struct of two values, with these.
 fn both(rt: &(impl Abort + AllocGlobal), first: Value, last: Value) -> Vec<Value> {
     vec![in rt.alloc(); first, last].expect(rt, MEMORY)
 }
@@ -27,8 +27,8 @@ fn lists_are_arrays(rt: HostRuntime) {
         Value::List(Vec::new(rt.alloc())),
         Value::Null,
     ];
-    let want = "{\"x\":[1,null]}\n{\"x\":[]}\n{\"x\":null}\n";
-    are_shown(&rt, lists(&rt, INT8), &values, want);
+    let expected = "{\"x\":[1,null]}\n{\"x\":[]}\n{\"x\":null}\n";
+    are_shown(&rt, lists(&rt, INT8), &values, expected);
     let inner = Value::List(both(&rt, Value::Int(-1), Value::Int(2)));
     let values = [Value::List(both(&rt, inner, Value::Null))];
     let of_lists = lists(&rt, lists(&rt, INT8));
@@ -42,11 +42,11 @@ fn fixed_size_lists_are_arrays(rt: HostRuntime) {
         Value::List(both(&rt, Value::Int(1), Value::Null)),
         Value::Null,
     ];
-    let want = "{\"x\":[1,null]}\n{\"x\":null}\n";
-    are_shown(&rt, DataType::FixedSizeList(item, 2), &values, want);
+    let expected = "{\"x\":[1,null]}\n{\"x\":null}\n";
+    are_shown(&rt, DataType::FixedSizeList(item, 2), &values, expected);
 }
 
-// The type of structs of a number `a "n"` and a text of the same name.
+/// The type of structs of a number `a "n"` and a text of the same name.
 fn pairs(rt: &(impl Abort + AllocGlobal)) -> DataType {
     let (number, words) = (
         field(rt, "a \"n\"", INT8),
@@ -62,9 +62,9 @@ fn structs_are_objects(rt: HostRuntime) {
         Value::Struct(both(&rt, Value::Null, Value::Null)),
         Value::Null,
     ];
-    let want = "{\"x\":{\"a \\\"n\\\"\":1,\"a \\\"n\\\"\":\"b\"}}\n\
+    let expected = "{\"x\":{\"a \\\"n\\\"\":1,\"a \\\"n\\\"\":\"b\"}}\n\
         {\"x\":{\"a \\\"n\\\"\":null,\"a \\\"n\\\"\":null}}\n{\"x\":null}\n";
-    are_shown(&rt, pairs(&rt), &values, want);
+    are_shown(&rt, pairs(&rt), &values, expected);
 }
 
 #[test]
@@ -78,7 +78,7 @@ fn maps_are_arrays_of_entries(rt: HostRuntime) {
     let one = Value::Struct(both(&rt, text(&rt, "a"), Value::Int(1)));
     let two = Value::Struct(both(&rt, text(&rt, "b"), Value::Null));
     let values = [Value::List(both(&rt, one, two)), Value::Null];
-    let want =
+    let expected =
         "{\"x\":[{\"key\":\"a\",\"value\":1},{\"key\":\"b\",\"value\":null}]}\n{\"x\":null}\n";
-    are_shown(&rt, map, &values, want);
+    are_shown(&rt, map, &values, expected);
 }

@@ -1,11 +1,11 @@
-// Values that hold no others.
+//! Values that hold no others.
 
 use super::columns::{MEMORY, are_shown, bytes, text};
 use arrow_data::{Decimal, Interval, Value};
 use arrow_types::{BitWidth, DataType, DateUnit, DecimalWidth, IntervalUnit, Precision, TimeUnit};
 use std::process::Abort;
 
-// Whole numbers of 64 bits.
+/// Whole numbers of 64 bits.
 const fn int64(signed: bool) -> DataType {
     DataType::Int {
         bits: BitWidth::SixtyFour,
@@ -22,8 +22,8 @@ fn nulls_and_truth_values(rt: HostRuntime) {
         "{\"x\":null}\n{\"x\":null}\n",
     );
     let values = [Value::Bool(true), Value::Null, Value::Bool(false)];
-    let want = "{\"x\":true}\n{\"x\":null}\n{\"x\":false}\n";
-    are_shown(&rt, DataType::Bool, &values, want);
+    let expected = "{\"x\":true}\n{\"x\":null}\n{\"x\":false}\n";
+    are_shown(&rt, DataType::Bool, &values, expected);
 }
 
 #[test]
@@ -34,31 +34,37 @@ fn whole_numbers_of_64_bits(rt: HostRuntime) {
         Value::Int(0),
         Value::Int(-1),
     ];
-    let want = "{\"x\":-9223372036854775808}\n{\"x\":9223372036854775807}\n{\"x\":0}\n{\"x\":-1}\n";
-    are_shown(&rt, int64(true), &values, want);
+    let expected =
+        "{\"x\":-9223372036854775808}\n{\"x\":9223372036854775807}\n{\"x\":0}\n{\"x\":-1}\n";
+    are_shown(&rt, int64(true), &values, expected);
     let values = [
         Value::Int(18_446_744_073_709_551_615),
         Value::Int(9_223_372_036_854_775_808),
     ];
-    let want = "{\"x\":18446744073709551615}\n{\"x\":9223372036854775808}\n";
-    are_shown(&rt, int64(false), &values, want);
+    let expected = "{\"x\":18446744073709551615}\n{\"x\":9223372036854775808}\n";
+    are_shown(&rt, int64(false), &values, expected);
 }
 
 #[test]
 fn numbers_of_units(rt: HostRuntime) {
     let values = [Value::Int(-719_162), Value::Int(20_000)];
-    let want = "{\"x\":-719162}\n{\"x\":20000}\n";
-    are_shown(&rt, DataType::Date(DateUnit::Day), &values, want);
-    are_shown(&rt, DataType::Duration(TimeUnit::Nanosecond), &values, want);
+    let expected = "{\"x\":-719162}\n{\"x\":20000}\n";
+    are_shown(&rt, DataType::Date(DateUnit::Day), &values, expected);
+    are_shown(
+        &rt,
+        DataType::Duration(TimeUnit::Nanosecond),
+        &values,
+        expected,
+    );
     are_shown(
         &rt,
         DataType::Timestamp(TimeUnit::Second, None),
         &values,
-        want,
+        expected,
     );
     let times = [Value::Int(0), Value::Int(86_399_999)];
-    let want = "{\"x\":0}\n{\"x\":86399999}\n";
-    are_shown(&rt, DataType::Time(TimeUnit::Millisecond), &times, want);
+    let expected = "{\"x\":0}\n{\"x\":86399999}\n";
+    are_shown(&rt, DataType::Time(TimeUnit::Millisecond), &times, expected);
 }
 
 #[test]
@@ -74,9 +80,9 @@ fn floating_point_numbers(rt: HostRuntime) {
         Value::float(double, f64::INFINITY),
         Value::float(double, f64::NEG_INFINITY),
     ];
-    let want = "{\"x\":1.0}\n{\"x\":-0.0}\n{\"x\":1e30}\n{\"x\":0.1}\n{\"x\":5e-324}\n\
+    let expected = "{\"x\":1.0}\n{\"x\":-0.0}\n{\"x\":1e30}\n{\"x\":0.1}\n{\"x\":5e-324}\n\
         {\"x\":\"NaN\"}\n{\"x\":\"inf\"}\n{\"x\":\"-inf\"}\n";
-    are_shown(&rt, DataType::FloatingPoint(double), &values, want);
+    are_shown(&rt, DataType::FloatingPoint(double), &values, expected);
 }
 
 #[test]
@@ -87,19 +93,19 @@ fn floating_point_numbers_of_fewer_bits(rt: HostRuntime) {
         Value::float(single, 3.4028234663852886e38),
         Value::float(single, f64::NAN),
     ];
-    let want = "{\"x\":0.1}\n{\"x\":3.4028235e38}\n{\"x\":\"NaN\"}\n";
-    are_shown(&rt, DataType::FloatingPoint(single), &values, want);
+    let expected = "{\"x\":0.1}\n{\"x\":3.4028235e38}\n{\"x\":\"NaN\"}\n";
+    are_shown(&rt, DataType::FloatingPoint(single), &values, expected);
     let half = Precision::Half;
     let values = [
         Value::float(half, 1.5),
         Value::float(half, 65_504.0),
         Value::float(half, f64::NEG_INFINITY),
     ];
-    let want = "{\"x\":1.5}\n{\"x\":65504.0}\n{\"x\":\"-inf\"}\n";
-    are_shown(&rt, DataType::FloatingPoint(half), &values, want);
+    let expected = "{\"x\":1.5}\n{\"x\":65504.0}\n{\"x\":\"-inf\"}\n";
+    are_shown(&rt, DataType::FloatingPoint(half), &values, expected);
 }
 
-// Decimals of this width and scale.
+/// Decimals of this width and scale.
 fn decimals(width: DecimalWidth, scale: i8) -> DataType {
     DataType::Decimal {
         width,
@@ -118,18 +124,18 @@ fn decimals_of_128_bits(rt: HostRuntime) {
         Value::Int(0),
         Value::Int(170_141_183_460_469_231_731_687_303_715_884_105_727),
     ];
-    let want = "{\"x\":0.05}\n{\"x\":-0.05}\n{\"x\":-123.45}\n{\"x\":0.00}\n\
+    let expected = "{\"x\":0.05}\n{\"x\":-0.05}\n{\"x\":-123.45}\n{\"x\":0.00}\n\
         {\"x\":1701411834604692317316873037158841057.27}\n";
-    are_shown(&rt, decimals(width, 2), &values, want);
+    are_shown(&rt, decimals(width, 2), &values, expected);
     let values = [Value::Int(99_999_999_999_999_999_999_999_999_999_999_999_999)];
-    let want = "{\"x\":99999999999999999999999999999999999999}\n";
-    are_shown(&rt, decimals(width, 0), &values, want);
+    let expected = "{\"x\":99999999999999999999999999999999999999}\n";
+    are_shown(&rt, decimals(width, 0), &values, expected);
     let values = [Value::Int(12), Value::Int(0), Value::Int(-7)];
-    let want = "{\"x\":12e3}\n{\"x\":0e3}\n{\"x\":-7e3}\n";
-    are_shown(&rt, decimals(width, -3), &values, want);
+    let expected = "{\"x\":12e3}\n{\"x\":0e3}\n{\"x\":-7e3}\n";
+    are_shown(&rt, decimals(width, -3), &values, expected);
 }
 
-// A decimal of 256 bits by its halves.
+/// A decimal of 256 bits by its halves.
 fn wide(rt: &(impl Abort + AllocGlobal), high: i128, low: u128) -> Value {
     let decimal = Decimal {
         high,
@@ -147,26 +153,26 @@ fn decimals_of_256_bits(rt: HostRuntime) {
         wide(&rt, i128::MIN, 0),
         Value::Null,
     ];
-    let want = "{\"x\":3402823669209384634633746074317682114.56}\n{\"x\":-0.01}\n\
+    let expected = "{\"x\":3402823669209384634633746074317682114.56}\n{\"x\":-0.01}\n\
         {\"x\":-578960446186580977117854925043439539266349923328202820197287920039565648199.68}\n\
         {\"x\":null}\n";
     are_shown(
         &rt,
         decimals(DecimalWidth::TwoHundredFiftySix, 2),
         &values,
-        want,
+        expected,
     );
 }
 
 #[test]
 fn intervals_are_strings(rt: HostRuntime) {
     let months = [Value::Int(14), Value::Int(-1)];
-    let want = "{\"x\":\"14M\"}\n{\"x\":\"-1M\"}\n";
+    let expected = "{\"x\":\"14M\"}\n{\"x\":\"-1M\"}\n";
     are_shown(
         &rt,
         DataType::Interval(IntervalUnit::YearMonth),
         &months,
-        want,
+        expected,
     );
     let interval = Interval::MonthDayNano {
         months: 1,
@@ -174,20 +180,20 @@ fn intervals_are_strings(rt: HostRuntime) {
         nanoseconds: 3,
     };
     let nano = Value::interval(rt.alloc(), interval).expect(&rt, MEMORY);
-    let want = "{\"x\":\"1M-2d3ns\"}\n";
+    let expected = "{\"x\":\"1M-2d3ns\"}\n";
     are_shown(
         &rt,
         DataType::Interval(IntervalUnit::MonthDayNano),
         &[nano],
-        want,
+        expected,
     );
     let day_time = bytes(&rt, &[2, 0, 0, 0, 244, 1, 0, 0]);
-    let want = "{\"x\":\"2d500ms\"}\n";
+    let expected = "{\"x\":\"2d500ms\"}\n";
     are_shown(
         &rt,
         DataType::Interval(IntervalUnit::DayTime),
         &[day_time],
-        want,
+        expected,
     );
 }
 
@@ -201,17 +207,17 @@ fn texts_are_escaped(rt: HostRuntime) {
         text(&rt, "\u{8}\u{c}\u{1}\u{1f}\u{7f}"),
         text(&rt, "é€😀"),
     ];
-    let want = "{\"x\":\"\"}\n{\"x\":\"say \\\"x\\\"\"}\n{\"x\":\"a\\\\b/c\"}\n\
+    let expected = "{\"x\":\"\"}\n{\"x\":\"say \\\"x\\\"\"}\n{\"x\":\"a\\\\b/c\"}\n\
         {\"x\":\"two\\nlines\\tand\\r\"}\n{\"x\":\"\\b\\f\\u0001\\u001f\u{7f}\"}\n{\"x\":\"é€😀\"}\n";
-    are_shown(&rt, DataType::Utf8, &values, want);
+    are_shown(&rt, DataType::Utf8, &values, expected);
 }
 
 #[test]
 fn bytes_are_hexadecimal(rt: HostRuntime) {
     let values = [bytes(&rt, &[0xab, 0x0c]), bytes(&rt, &[]), Value::Null];
-    let want = "{\"x\":\"ab0c\"}\n{\"x\":\"\"}\n{\"x\":null}\n";
-    are_shown(&rt, DataType::Binary, &values, want);
-    are_shown(&rt, DataType::LargeBinary, &values, want);
+    let expected = "{\"x\":\"ab0c\"}\n{\"x\":\"\"}\n{\"x\":null}\n";
+    are_shown(&rt, DataType::Binary, &values, expected);
+    are_shown(&rt, DataType::LargeBinary, &values, expected);
     let values = [bytes(&rt, &[0, 255])];
     are_shown(
         &rt,

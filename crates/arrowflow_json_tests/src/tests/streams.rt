@@ -1,23 +1,23 @@
-// Whole inputs: their lines, and how the call ends.
+//! Complete inputs: their lines, and how the call ends.
 
 use arrow_sink::probe::{Failing, Narrow, Trickle};
 use arrow_sink::{Counted, Sink};
 use arrow_test_streams::streams::{GROWING, ONE_BATCH};
 use arrow_types::Limits;
+use arrowflow_input::{Input, ToolFault};
 use arrowflow_json::show_json;
-use arrowflow_report::{Input, ToolFault};
 use std::alloc::Global;
 use std::io::ErrorKind;
 use std::process::Abort;
 
-// The rows of the growing dictionary.
+/// The rows of the growing dictionary.
 const LETTERS: &str = "{\"k\":\"a\"}\n{\"k\":\"b\"}\n{\"k\":\"c\"}\n{\"k\":\"e\"}\n{\"k\":\"a\"}\n\
     {\"k\":\"c\"}\n{\"k\":\"e\"}\n";
 
-// The rows of one batch.
+/// The rows of one batch.
 const NUMBERS: &str = "{\"n\":1}\n{\"n\":null}\n{\"n\":3}\n";
 
-// What is written of an input, and after it the line of the fault.
+/// The output for an input, and after it the line of the fault.
 fn shown<R: Input>(rt: &impl Abort, alloc: Global, input: &mut R) -> String {
     let output = Counted::new(Vec::new(alloc));
     let (output, answer) = show_json(alloc, input, output, &Limits::standard());
@@ -34,14 +34,14 @@ fn shown<R: Input>(rt: &impl Abort, alloc: Global, input: &mut R) -> String {
 #[test]
 fn rows_of_streams(rt: HostRuntime) {
     let alloc = rt.alloc();
-    for (bytes, want) in [
+    for (bytes, expected) in [
         (GROWING.as_slice(), LETTERS),
         (ONE_BATCH.as_slice(), NUMBERS),
     ] {
         let mut whole = bytes;
-        assert_eq!(&rt; shown(&rt, alloc, &mut whole).as_str(), want);
+        assert_eq!(&rt; shown(&rt, alloc, &mut whole).as_str(), expected);
         let mut bit_by_bit = Trickle::new(bytes, 1, None);
-        assert_eq!(&rt; shown(&rt, alloc, &mut bit_by_bit).as_str(), want);
+        assert_eq!(&rt; shown(&rt, alloc, &mut bit_by_bit).as_str(), expected);
     }
 }
 
@@ -54,14 +54,14 @@ fn streams_that_end_early(rt: HostRuntime) {
         "fault at byte 152: Truncated"
     );
     let mut after_a_batch = &GROWING[..900];
-    let want = "{\"k\":\"a\"}\n{\"k\":\"b\"}\n{\"k\":\"c\"}\nfault at byte 816: Truncated";
-    assert_eq!(&rt; shown(&rt, alloc, &mut after_a_batch).as_str(), want);
+    let expected = "{\"k\":\"a\"}\n{\"k\":\"b\"}\n{\"k\":\"c\"}\nfault at byte 816: Truncated";
+    assert_eq!(&rt; shown(&rt, alloc, &mut after_a_batch).as_str(), expected);
     let mut without_marker = &ONE_BATCH[..328];
     assert_eq!(&rt; shown(&rt, alloc, &mut without_marker).as_str(), NUMBERS);
     let mut failing = Trickle::new(&ONE_BATCH, 1_000, Some((330, ErrorKind::Interrupted)));
-    let mut want = String::from_str(alloc, NUMBERS).expect(&rt, "memory");
-    want.push_str("cannot read in").expect(&rt, "memory");
-    assert_eq!(&rt; shown(&rt, alloc, &mut failing).as_str(), want.as_str());
+    let mut expected = String::from_str(alloc, NUMBERS).expect(&rt, "memory");
+    expected.push_str("cannot read in").expect(&rt, "memory");
+    assert_eq!(&rt; shown(&rt, alloc, &mut failing).as_str(), expected.as_str());
 }
 
 #[test]

@@ -1,4 +1,4 @@
-//! One way to say a batch: the columns with their values, or the stream in which it stands.
+//! One way to specify a batch: the columns with their values, or the stream that contains it.
 
 use arrow_builder::ArrayBuilder;
 use arrow_data::{Array, Batch, Dictionary, Value};
@@ -6,7 +6,7 @@ use arrow_stream_reader::StreamReader;
 use arrow_test_streams::parts::Source::{self, Growing, OneBatch};
 use arrow_types::BitWidth::{self, Eight, Sixteen, ThirtyTwo};
 use arrow_types::{DataType, Encoding, Field, IndexType, Limits, Schema};
-use arrowflow_report::session::{Received, receive};
+use arrowflow_input::session::{Received, receive};
 use std::process::Abort;
 use std::rc::Rc;
 
@@ -21,13 +21,13 @@ pub(super) enum Form {
     List,
     /// A struct of one text.
     Struct,
-    /// A list of so many nulls.
+    /// A list of some nulls.
     Nulls,
 }
 
 use Form::{List, Nulls, Struct, Text};
 
-/// Indices: the id of their dictionary, their width, whether they have a sign, and whether the
+/// Indices: the id of their dictionary, their width, whether they are signed, and whether the
 /// dictionary is ordered.
 pub(super) type Indices = (i64, BitWidth, bool, bool);
 
@@ -41,11 +41,11 @@ pub(super) type Column = (Kind, &'static str, &'static str);
 /// A batch.
 #[derive(Clone, Copy)]
 pub(super) enum Rows {
-    /// The one with this number in a stream.
+    /// The batch with this number in a stream.
     Read(Source, usize),
-    /// One that is built of columns.
+    /// A batch that is built of columns.
     Built(&'static [Column]),
-    /// One of so many rows without columns.
+    /// A batch of that many rows without columns.
     Bare(usize),
 }
 
@@ -76,10 +76,10 @@ pub(super) const NUMBERS: Rows = Read(OneBatch, 0);
 /// Three rows without columns.
 pub(super) const NO_COLUMNS: Rows = Bare(3);
 
-/// A column of another name, whose indices have 8 bits and no sign.
+/// A column of another name, whose indices have 8 bits and are unsigned.
 const O: Kind = ("other", true, Text, Some((0, Eight, false, false)));
 
-/// Letters of another schema with the same id.
+/// Letters in another schema with the same id.
 pub(super) const OTHER: Rows = Built(&[(O, "xy", "101")]);
 
 /// Columns of one id, whose dictionaries are equal, and with another dictionary for the second and
@@ -96,7 +96,7 @@ const SECOND: Kind = ("j", true, Text, Some((-2, ThirtyTwo, true, false)));
 
 const THIRD: Kind = ("i", true, Text, Some((5, Sixteen, true, false)));
 
-/// Columns of two dictionaries, the second of which has the lesser id.
+/// Columns of two dictionaries, the second of which has the smaller id.
 pub(super) const SHARED: Rows = Built(&[
     (FIRST, "cd", "10"),
     (SECOND, "r", "0_"),
@@ -119,7 +119,7 @@ pub(super) fn structs_of(rt: &(impl Abort + AllocGlobal), only: Field) -> DataTy
     DataType::Struct(vec![in rt.alloc(); only].expect(rt, MEMORY))
 }
 
-/// A field of this type, by these indices.
+/// A field of this type, encoded with these indices.
 fn encoded(
     rt: &(impl Abort + AllocGlobal),
     name: &str,

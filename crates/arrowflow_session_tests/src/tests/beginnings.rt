@@ -3,8 +3,8 @@
 use super::batches::MEMORY;
 use std::process::Abort;
 
-/// A place where a frame ends, and the letters of the batches and of the dictionaries that a reader
-/// has there.
+/// An offset at which a frame ends, and the letters of the batches and of the dictionaries that a
+/// reader has there.
 pub(super) type Frame = (usize, &'static str);
 
 /// The frames of the growing dictionary.
@@ -19,7 +19,7 @@ pub(super) static GROWN: [Frame; 8] = [
     (1376, "abc ea ce 0:acde "),
 ];
 
-/// The frames where all of its values are sent each time.
+/// The frames if all of its values are sent each time.
 pub(super) static RESENT: [Frame; 8] = [
     (200, ""),
     (424, "0:abc "),
@@ -31,7 +31,7 @@ pub(super) static RESENT: [Frame; 8] = [
     (1384, "abc ea ce 0:acde "),
 ];
 
-/// What a reader tells that has the first `len` bytes of a stream, or all where it is shorter.
+/// What a reader reports that has the first `len` bytes of a stream, or all if it is shorter.
 pub(super) fn beginning(
     rt: &(impl Abort + AllocGlobal),
     frames: &'static [Frame],

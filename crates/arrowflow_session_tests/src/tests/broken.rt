@@ -1,9 +1,9 @@
-//! Sinks that fail: what they hold, what the writer answers from then on, and what a reader has of
+//! Sinks that fail: what they hold, what the writer returns from then on, and what a reader has of
 //! it.
 
 use super::batches::{ABC, ABCDE, ACDE, MEMORY, OTHER, batch_of, received};
 use super::beginnings::{GROWN, beginning};
-use super::told::received_told;
+use super::reported::received_reported;
 use super::writers::{DELTA, called, shown};
 use arrow_data::Batch;
 use arrow_sink::WriteFault::{Broken, Finished};
@@ -15,7 +15,7 @@ use arrow_test_streams::streams::GROWING;
 use arrow_types::Limits;
 use std::process::Abort;
 
-/// The batches of the growing dictionary, and behind them one of another schema.
+/// The batches of the growing dictionary, and after them one of another schema.
 fn all_batches(rt: &(impl Abort + AllocGlobal)) -> Vec<Batch> {
     let mut batches = Vec::new(rt.alloc());
     for rows in [ABC, ABCDE, ACDE, OTHER] {
@@ -24,10 +24,10 @@ fn all_batches(rt: &(impl Abort + AllocGlobal)) -> Vec<Batch> {
     batches
 }
 
-/// Where the part of each batch begins and ends.
+/// Where the messages of each batch begin and end.
 static PARTS: [(usize, usize); 3] = [(200, 592), (592, 976), (976, 1368)];
 
-/// The dictionaries that were sent with the whole parts in the first `len` bytes.
+/// The dictionaries that were sent with the complete batch messages in the first `len` bytes.
 fn sent(len: usize) -> &'static str {
     match len {
         0..592 => "",
@@ -37,7 +37,7 @@ fn sent(len: usize) -> &'static str {
     }
 }
 
-/// What a call answers that sends the bytes between these places, into a sink for `left` bytes.
+/// What a call returns that sends the bytes between these offsets, into a sink for `left` bytes.
 fn answer(left: usize, begin: usize, end: usize) -> Option<WriteFault> {
     if left < begin {
         Some(Broken)
@@ -48,12 +48,13 @@ fn answer(left: usize, begin: usize, end: usize) -> Option<WriteFault> {
     }
 }
 
-/// What the end marker is answered, and each call after it; how often the sink was flushed, and how
-/// often it failed.
+/// What the call for the end marker returns, and each call after it; how often the sink was
+/// flushed, and how often it failed.
 type End = (Option<WriteFault>, WriteFault, (u64, u64));
 
-/// The batches are taken as far as the sink takes them, and nothing counts as sent that did not go
-/// out whole. Then come the end marker, the batch of another schema, and another end marker.
+/// The batches are written as far as the sink takes them, and nothing counts as sent that was not
+/// written completely. Then come the end marker, the batch of another schema, and another end
+/// marker.
 fn assert_calls(
     rt: &(impl Abort + AllocGlobal),
     writer: &mut StreamWriter<Narrow>,
@@ -76,17 +77,17 @@ fn assert_calls(
     }
 }
 
-/// A sink holds the first `left` bytes, of which a reader has the batches that came wholly.
+/// A sink holds the first `left` bytes, and a reader has the batches of them that came completely.
 fn assert_held(rt: &(impl Abort + AllocGlobal), sink: &Narrow, left: usize, counts: (u64, u64)) {
     let len = left.min(GROWING.len());
     assert!(rt; GROWING.get(..len) == Some(sink.taken()), "{left} bytes");
     assert_eq!(rt; (sink.flushes(), sink.failures()), counts, "{left} bytes");
-    let text = received_told(rt, &received(rt, sink.taken()));
+    let text = received_reported(rt, &received(rt, sink.taken()));
     let expected = beginning(rt, &GROWN, left);
     assert_eq!(rt; text.as_str(), expected.as_str(), "{left} bytes");
 }
 
-/// A sink that fails in this way, takes at most so many bytes of a piece, and so many in all.
+/// A sink that fails in this way, takes at most this many bytes of a piece, and this many in all.
 type Taking = (Failing, usize, usize);
 
 /// All calls of a writer into a sink.
@@ -132,7 +133,7 @@ fn sinks_that_take_all(rt: HostRuntime) {
     }
 }
 
-/// What is sent once another sink stands in the place of a writer's goes there, and the stream goes on.
+/// What is sent after another sink has replaced a writer's goes there, and the stream goes on.
 #[test]
 fn a_sink_in_the_place_of_another(rt: HostRuntime) {
     let batches = all_batches(&rt);

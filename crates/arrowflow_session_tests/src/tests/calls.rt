@@ -1,5 +1,5 @@
-//! The calls of a writer one after the other: what each answers, and what the writer and its sink
-//! then show.
+//! The calls of a writer one after another: what each returns, and the state of the writer and its
+//! sink after it.
 
 use super::batches::Form::Text;
 use super::batches::Rows::{self, Built};
@@ -12,10 +12,10 @@ use std::process::Abort;
 
 const GROWN: Part = (Growing, 0, 1_376);
 
-/// The first batch, in a column of another name alone.
+/// The first batch, in a column that differs only in its name.
 const RENAMED: Rows = Built(&[(("K", true, Text, Some(INDICES)), "abc", "012")]);
 
-/// Dictionaries that grow. The frames end at the places that the standard's tables give.
+/// Dictionaries that grow. The frames end at the offsets that the standard's tables give.
 static GROWING: [Calls; 3] = [
     Calls {
         on: (ABC, DELTA, WIDE),
@@ -55,7 +55,7 @@ fn dictionaries_that_grow(rt: HostRuntime) {
     assert_all(&rt, &GROWING);
 }
 
-/// A refused batch leaves all as it was, and so does each call after the end marker.
+/// A rejected batch leaves everything unchanged, and so does each call after the end marker.
 static REFUSED: [Calls; 4] = [
     Calls {
         on: (ABC, DELTA, WIDE),

@@ -1,4 +1,4 @@
-//! What a writer refuses because it would pass a limit: a schema, a batch, a dictionary after its
+//! What a writer rejects because it would pass a limit: a schema, a batch, a dictionary after its
 //! update.
 
 use super::batches::Rows::{Built, Read};
@@ -19,11 +19,12 @@ const FIRST_TWO: Part = (Growing, 0, 976);
 /// The stream of letters without the second batch, whose update is left out with it.
 const OTHERS: [Part; 2] = [(Growing, 0, 592), (Growing, 976, 1_376)];
 
-/// The second list came in two parts, which have more items together than offsets of 32 bits count.
+/// The dictionary came in two batches, whose lists have more items together than 32-bit offsets can
+/// count.
 const LONG: Rows = Read(Bytes(&LONG_LISTS), 0);
 
-// A limit is passed by the rows of a dictionary after its update, by the rows of a batch, by the
-// body of a dictionary or of a batch, and by the metadata of a batch.
+/// A limit is passed by the rows of a dictionary after its update, by the rows of a batch, by the
+/// body of a dictionary or of a batch, and by the metadata of a batch.
 static LIMITED: [Calls; 14] = [
     Calls {
         on: (ABC, DELTA, (192, 1_000, 4)),
@@ -124,7 +125,8 @@ fn limits_that_are_passed(rt: HostRuntime) {
     assert_all(&rt, &LIMITED);
 }
 
-// A batch whose schema is refused within so many bytes of metadata: its sink comes back as it was.
+/// A batch whose schema is rejected with this limit of the bytes of metadata: its sink is returned
+/// unchanged.
 static SCHEMAS: [(Rows, Options, u64); 4] = [
     (ABC, DELTA, 191),
     (NUMBERS, RESEND, 143),
@@ -146,8 +148,8 @@ fn schemas_that_are_refused(rt: HostRuntime) {
     }
 }
 
-// How many nulls the lists of a batch have, which is the limit of rows, and whether that is passed:
-// the slots of their items have it too.
+/// How many nulls the lists of a batch have; the limit of rows; and whether that is passed: it also
+/// limits the slots of their items.
 static ITEMS: [(Rows, u64, &str); 8] = [
     (Built(&[(L, "", "5")]), 4, "TooLarge"),
     (Built(&[(L, "", "5")]), 5, ""),

@@ -1,5 +1,5 @@
-//! Batches with long bodies, which are sent from where they were stored, and ones that are just too
-//! short for that: the bytes are the same in both.
+//! Batches with long bodies, which are sent from where they are stored, and ones that are just too
+//! short for that: the bytes are the same for both.
 
 use super::batches::{MEMORY, batch, builder, field, received};
 use super::writers::{DELTA, STANDARD, called, limits_of, writer_of};
@@ -10,7 +10,7 @@ use arrow_stream_writer::StreamWriter;
 use arrow_types::{BitWidth, DataType, Schema};
 use std::process::Abort;
 
-/// A batch of one column of 64-bit numbers, so many from 0 on.
+/// A batch of one column of 64-bit numbers, `count` of them from 0 on.
 fn counting(rt: &(impl Abort + AllocGlobal), count: u32) -> Batch {
     let (bits, signed) = (BitWidth::SixtyFour, true);
     let number = field(rt, "n", DataType::Int { bits, signed });
@@ -50,7 +50,7 @@ fn twice(rt: &(impl Abort + AllocGlobal), batch: &Batch) -> (usize, Vec<u8>) {
     (before, bytes)
 }
 
-/// Two batches are read, each of so many rows, the last of which is this number.
+/// Two batches are read, each of this many rows, the last of which is this number.
 fn assert_read(rt: &(impl Abort + AllocGlobal), bytes: &[u8], rows: usize, number: i128) {
     let batches = received(rt, bytes).handed;
     assert_eq!(rt; batches.len(), 2);
@@ -63,7 +63,7 @@ fn assert_read(rt: &(impl Abort + AllocGlobal), bytes: &[u8], rows: usize, numbe
     }
 }
 
-/// The part of this batch, of which two stand behind the beginning of a stream.
+/// The messages of this batch, which come twice after the beginning of a stream.
 fn part<'a>(rt: &impl Abort, (before, bytes): &'a (usize, Vec<u8>)) -> &'a [u8] {
     let parts = bytes.get(*before..).expect(rt, "two parts");
     let (first, second) = parts.split_at(parts.len() / 2);
@@ -71,9 +71,10 @@ fn part<'a>(rt: &impl Abort, (before, bytes): &'a (usize, Vec<u8>)) -> &'a [u8] 
     first
 }
 
-/// Of one row the body has 8 bytes; the head before it has as many bytes whatever the rows.
+/// The body of one row has 8 bytes; the head before it has the same number of bytes for any number
+/// of rows.
 #[test]
-fn bodies_behind_their_heads(rt: HostRuntime) {
+fn bodies_after_their_heads(rt: HostRuntime) {
     let one = twice(&rt, &counting(&rt, 1));
     let head = part(&rt, &one).len().saturating_sub(8);
     for rows in [2_047, 2_048, 3_000] {
@@ -84,7 +85,7 @@ fn bodies_behind_their_heads(rt: HostRuntime) {
     }
 }
 
-/// A sink for so many bytes has just these, and the writer is broken.
+/// A sink for this many bytes has exactly these, and the writer is broken.
 fn assert_cut(rt: &(impl Abort + AllocGlobal), batch: &Batch, whole: &[u8], left: usize) {
     let sink = Narrow::new(rt.alloc(), usize::MAX, left, Failing::ByError);
     assert!(rt; sink.failures() < u64::MAX);

@@ -1,5 +1,5 @@
-//! Columns that give one dictionary id, themselves or below lists and structs: which batches are
-//! refused, and which dictionary is sent.
+//! Columns that have one dictionary id, themselves or below lists and structs: which batches are
+//! rejected, and which dictionary is sent.
 
 use super::batches::Form::{List, Struct, Text};
 use super::batches::Rows::{self, Bare, Built};
@@ -15,7 +15,8 @@ const S: Kind = ("", true, Struct, Some(INDICES));
 
 const DIFFER: &str = "DictionariesDiffer";
 
-// The columns of a batch, and the dictionaries that were sent or its refusal.
+/// The columns of a batch, and the dictionaries that were sent or the fault with which it is
+/// rejected.
 static ROWS: [(Rows, &str); 14] = [
     (Built(&[(T, "xy", "0")]), "0:xy "),
     (Built(&[(L, "xy", "0")]), "0:xy "),

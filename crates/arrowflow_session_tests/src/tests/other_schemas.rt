@@ -9,7 +9,7 @@ use arrow_types::BitWidth::{SixtyFour, ThirtyTwo};
 use arrow_types::{DataType, Schema};
 use std::process::Abort;
 
-/// A writer of the schema of each takes it, and refuses all others.
+/// A writer of the schema of each batch takes it, and rejects all others.
 fn assert_all_differ(rt: &(impl Abort + AllocGlobal), batches: &[Batch]) {
     for (i, one) in batches.iter().enumerate() {
         for (j, other) in batches.iter().enumerate() {
@@ -43,11 +43,11 @@ fn schemas_that_differ_in_one_thing(rt: HostRuntime) {
     assert_all_differ(&rt, &batches);
 }
 
-/// A pair: at which level it is noted, its key and its value. Level 0 is the schema, 1 its column of
-/// structs, 2 the lists in these, 3 large lists in those, and 4 nulls in these.
+/// A pair of custom metadata: its level, its key and its value. Level 0 is the schema, 1 its column
+/// of structs, 2 the lists in these, 3 large lists in those, and 4 nulls in these.
 type Pair = (usize, &'static str, &'static str);
 
-// What is noted.
+/// The custom metadata.
 static NOTED: [&[Pair]; 18] = [
     &[],
     &[(0, "k", "v")],
@@ -69,7 +69,7 @@ static NOTED: [&[Pair]; 18] = [
     &[(4, "k", "w")],
 ];
 
-/// The pairs that are noted at a level.
+/// The pairs of a level.
 fn pairs_at(
     rt: &(impl Abort + AllocGlobal),
     noted: &[Pair],
@@ -86,7 +86,7 @@ fn pairs_at(
     pairs
 }
 
-/// A batch without rows of the schema in which these are noted.
+/// A batch without rows of the schema with these pairs.
 fn batch_noted(rt: &(impl Abort + AllocGlobal), noted: &[Pair]) -> Batch {
     let mut below = field(rt, "", DataType::Null).with_metadata(pairs_at(rt, noted, 4));
     for level in [3, 2, 1] {

@@ -1,10 +1,10 @@
-//! Connections from end to end, of which the first bytes are delivered.
+//! Connections from end to end, with only their first bytes delivered.
 
 use super::batches::{
     self, ABC, ABCDE, ACDE, MEMORY, NO_COLUMNS, OTHER, Rows, SHARED, XX, XY, YX, batch_of, received,
 };
 use super::beginnings::{self, Frame, beginning};
-use super::told::{push_dictionaries, push_received};
+use super::reported::{push_dictionaries, push_received};
 use super::writers::{DELTA, Most, RESEND, STANDARD, Sent, assert_sent, limits_of};
 use arrow_data::{Batch, Buffers};
 use arrow_test_streams::parts::Source::Growing;
@@ -21,7 +21,7 @@ const ALL: u64 = u64::MAX;
 
 const LETTERS: &[Rows] = &[ABC, ABCDE, ACDE];
 
-/// The growing dictionary, by deltas, and with all of its values each time.
+/// The growing dictionary, with deltas, and with all of its values each time.
 const GROWN: Asked = (ABC, LETTERS, DELTA, true, ALL);
 
 const RESENT: Asked = (ABC, LETTERS, RESEND, true, ALL);
@@ -46,7 +46,7 @@ fn connection_of(rt: &(impl Abort + AllocGlobal), asked: Asked) -> Connection {
     }
 }
 
-/// The lengths of the parts, the refusals, and the writer's dictionaries; and what was received.
+/// The lengths of the parts, the rejections, and the writer's dictionaries; and what was received.
 fn push_report(text: &mut String, report: &Report) -> Result<(), AllocError> {
     for part in &report.parts {
         write!(text, "{} ", part.len())?;
@@ -59,7 +59,7 @@ fn push_report(text: &mut String, report: &Report) -> Result<(), AllocError> {
     push_received(text, &report.received)
 }
 
-/// A report tells this, and these bytes were sent.
+/// A report has this content, and these bytes were sent.
 fn assert_report(rt: &(impl Abort + AllocGlobal), report: &Report, wanted: &str, sent: Sent) {
     let mut text = String::new(rt.alloc());
     push_report(&mut text, report).expect(rt, MEMORY);
@@ -71,7 +71,7 @@ fn assert_report(rt: &(impl Abort + AllocGlobal), report: &Report, wanted: &str,
     assert_sent(rt, &bytes, sent, wanted);
 }
 
-/// The report of the only connection tells this.
+/// The report of the only connection has this content.
 fn assert_only(rt: &(impl Abort + AllocGlobal), only: &[Connection], wanted: &str, sent: Sent) {
     let reports = run(rt.alloc(), &limits_of(rt, STANDARD), only).expect(rt, MEMORY);
     assert_eq!(rt; reports.len(), 1);
@@ -83,7 +83,7 @@ fn assert_beginnings(
     rt: &(impl Abort + AllocGlobal),
     asked: Asked,
     frames: &'static [Frame],
-    told: &str,
+    reported: &str,
     sent: Sent,
 ) {
     let mut only = [connection_of(rt, asked)];
@@ -91,26 +91,26 @@ fn assert_beginnings(
     for deliver in (0..size.saturating_add(2)).chain([usize::MAX]) {
         only[0].deliver = deliver as u64;
         let received = beginning(rt, frames, deliver);
-        let wanted = format!(in rt.alloc(); "{told} | {received}").expect(rt, MEMORY);
+        let wanted = format!(in rt.alloc(); "{reported} | {received}").expect(rt, MEMORY);
         assert_only(rt, &only, &wanted, sent);
     }
 }
 
 #[test]
 fn each_number_of_bytes(rt: HostRuntime) {
-    let told = "200 392 384 392 8 0:acde";
-    assert_beginnings(&rt, GROWN, &beginnings::GROWN, told, STREAM);
+    let reported = "200 392 384 392 8 0:acde";
+    assert_beginnings(&rt, GROWN, &beginnings::GROWN, reported, STREAM);
 }
 
 /// The bytes are those of the copy of `growing_dictionary` in way 1.
 #[test]
 fn each_number_of_bytes_without_deltas(rt: HostRuntime) {
-    let told = "200 392 392 392 8 0:acde";
-    assert_beginnings(&rt, RESENT, &beginnings::RESENT, told, None);
+    let reported = "200 392 392 392 8 0:acde";
+    assert_beginnings(&rt, RESENT, &beginnings::RESENT, reported, None);
 }
 
-/// No report hangs on the lengths of the pieces: the last byte of the second batch is missing, and
-/// then it is there.
+/// No report depends on the lengths of the pieces: the last byte of the second batch is missing,
+/// and then it is there.
 fn assert_cuts(rt: &(impl Abort + AllocGlobal), only: &mut [Connection; 1], cuts: &[usize]) {
     only[0].cuts = Vec::from_slice(rt.alloc(), cuts).expect(rt, MEMORY);
     only[0].deliver = 975;
@@ -145,11 +145,11 @@ fn each_length_of_pieces(rt: HostRuntime) {
     }
 }
 
-/// A connection, what its report tells, and what was sent.
+/// A connection, the content of its report, and what was sent.
 type Reported = (Asked, &'static str, Sent);
 
 static CONNECTIONS: [Reported; 9] = [
-    // Behind a broken one comes one of another schema with the same id, `other_letters`.
+    // After a broken one comes one of another schema with the same id, `other_letters`.
     (
         (ABC, LETTERS, DELTA, true, 5),
         "200 392 384 392 8 0:acde | NoSchema at 0",
@@ -165,7 +165,7 @@ static CONNECTIONS: [Reported; 9] = [
         "200 392 392 392 8 0:acde | abc 0:abcde Clean",
         None,
     ),
-    // Without an end marker, without batches too, and without batches alone.
+    // Without an end marker, without batches too, and only without batches.
     (
         (ABC, LETTERS, DELTA, false, ALL),
         "200 392 384 392 0:acde | abc ea ce 0:acde Clean",
@@ -181,8 +181,8 @@ static CONNECTIONS: [Reported; 9] = [
         "200 8 | Clean",
         Some(&[SCHEMA, END]),
     ),
-    // A batch of another schema is left out, and so are those of two dictionaries of one id, beside
-    // the batch of `one_dictionary_of_two_columns`.
+    // A batch of another schema is left out, and so are those with two dictionaries of one id, next
+    // to the batch of `one_dictionary_of_two_columns`.
     (
         (ABC, &[ABC, OTHER, ABCDE, ACDE], DELTA, true, ALL),
         "200 392 384 392 8 Batch(1) SchemaDiffers 0:acde | abc ea ce 0:acde Clean",
@@ -193,7 +193,7 @@ static CONNECTIONS: [Reported; 9] = [
         "320 432 8 Batch(0) DictionariesDiffer Batch(2) DictionariesDiffer 0:x | xx 0:x Clean",
         None,
     ),
-    // Dictionaries stand by rising id, as in `two_dictionaries`.
+    // Dictionaries are in ascending order of their ids, as in `two_dictionaries`.
     (
         (SHARED, &[SHARED], DELTA, true, ALL),
         "448 728 8 -2:r 5:cd | dcr__d -2:r 5:cd Clean",
@@ -210,7 +210,7 @@ static LEFT_OUT: [Reported; 1] = [(
     Some(&[(Growing, 0, 592), (Growing, 976, 1_376)]),
 )];
 
-/// Limits within which the schema of letters is refused.
+/// Limits within which the schema of letters is rejected.
 const NARROWER: Most = (191, 1_000, 1_000);
 
 static REFUSED: [Reported; 3] = [
@@ -223,7 +223,7 @@ static REFUSED: [Reported; 3] = [
     (RESENT, "Start TooLarge | NoSchema at 0", Some(&[])),
 ];
 
-/// The connections come one after the other.
+/// The connections come one after another.
 fn assert_session(rt: &(impl Abort + AllocGlobal), most: Most, its: &[Reported]) {
     let mut connections = Vec::new(rt.alloc());
     for (asked, _, _) in its {
@@ -256,7 +256,7 @@ fn numbers_in<'a>(rt: &impl Abort, batches: &'a [Batch]) -> &'a [u8] {
 
 const NUMBERS: &[Part] = &[parts::NUMBERS, parts::THREE, END];
 
-/// A batch is handed out as it was read, and not as it was given: with a 7 under its null.
+/// A batch is returned as it was read, and not as it was given: with a 7 under its null.
 #[test]
 fn a_number_under_a_null(rt: HostRuntime) {
     let bytes = joined(rt.alloc(), NUMBERS, &[(316, &[7])]).expect(&rt, "a stream");

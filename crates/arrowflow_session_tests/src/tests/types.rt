@@ -9,7 +9,8 @@ use arrow_test_streams::streams::DOUBLES;
 use arrow_types::{Limits, Schema, TypeSet};
 use std::process::Abort;
 
-/// A writer of batches of this schema by these limits, or what it is refused with, and the sink.
+/// A writer of batches of this schema with these limits, or the fault with which it is rejected,
+/// and the sink.
 fn started(
     rt: &(impl Abort + AllocGlobal),
     schema: &Schema,
@@ -20,7 +21,8 @@ fn started(
     StreamWriter::start(rt.alloc(), sink, schema, DELTA, limits)
 }
 
-/// That the core leaves a schema out, before a byte is sent, and that it is sent among all types.
+/// That a schema is left out with the core types, before a byte is sent, and is sent with all
+/// types.
 fn is_sent_by_some(rt: &(impl Abort + AllocGlobal), schema: &Schema, frame: &[u8]) {
     let core = Limits::standard();
     match started(rt, schema, core) {

@@ -1,8 +1,8 @@
-//! Writers into sinks that keep what they take: how they are started, what their calls answer, and
-//! what they show.
+//! Writers into sinks that keep what they take: how they are started, what their calls return, and
+//! their state.
 
 use super::batches::{MEMORY, Rows, batch_of};
-use super::told::push_dictionaries;
+use super::reported::push_dictionaries;
 use arrow_body_writer::Align;
 use arrow_data::Batch;
 use arrow_dict::Updates;
@@ -31,18 +31,18 @@ pub(super) const DELTA_64: Options = Options {
 /// The most bytes of metadata, bytes of a body, and rows.
 pub(super) type Most = (u64, u64, u64);
 
-/// Limits that nothing here passes.
+/// Limits that no test here passes.
 pub(super) const WIDE: Most = (1_000, 1_000, 1_000);
 
-/// Those of a reader or a writer that is told nothing else.
+/// The default limits of a reader or a writer.
 pub(super) const STANDARD: Most = (67_108_864, 68_719_476_736, 2_147_483_647);
 
 pub(super) fn limits_of(rt: &impl Abort, most: Most) -> Limits {
     Limits::new(most.0, most.1, most.2).expect(rt, "limits")
 }
 
-/// Starts a writer of batches of this schema, into a sink that takes all; or what it is refused
-/// with, and the sink.
+/// Starts a writer of batches of this schema, into a sink that takes all; or returns the fault with
+/// which the schema is rejected, and the sink.
 pub(super) fn started(
     rt: &(impl Abort + AllocGlobal),
     schema: &Schema,
@@ -54,7 +54,7 @@ pub(super) fn started(
     StreamWriter::start(rt.alloc(), sink, schema, options, limits_of(rt, most))
 }
 
-/// A writer of batches of the schema of this one.
+/// A writer of batches with the schema of this one.
 pub(super) fn writer_of(
     rt: &(impl Abort + AllocGlobal),
     batch: &Batch,
@@ -67,7 +67,8 @@ pub(super) fn writer_of(
     }
 }
 
-/// What a batch is refused with, or, where there is none, the end marker.
+/// Writes a batch, or the end marker if there is none, and returns the fault with which it is
+/// rejected, if it is.
 pub(super) fn called(
     rt: &impl Abort,
     writer: &mut StreamWriter<Narrow>,
@@ -80,7 +81,7 @@ pub(super) fn called(
     }
 }
 
-/// The dictionaries that were sent, and what the last call was refused with.
+/// The dictionaries that were sent, and the fault of the last call, if there is one.
 pub(super) fn shown(
     rt: &(impl Abort + AllocGlobal),
     writer: &StreamWriter<Narrow>,
@@ -94,7 +95,7 @@ pub(super) fn shown(
     text
 }
 
-/// What is shown behind this batch, which is the first one.
+/// The state after this batch, which is the first one.
 pub(super) fn answer_to(rt: &(impl Abort + AllocGlobal), rows: Rows, most: Most) -> String {
     let batch = batch_of(rt, rows);
     let mut writer = writer_of(rt, &batch, DELTA, most);
@@ -102,26 +103,26 @@ pub(super) fn answer_to(rt: &(impl Abort + AllocGlobal), rows: Rows, most: Most)
     shown(rt, &writer, fault)
 }
 
-/// The call that writes this batch, or, where there is none, the end marker; and behind it how many
-/// bytes the sink holds, the dictionaries that were sent, and the refusal.
+/// The call that writes this batch, or the end marker if there is none; and after it how many bytes
+/// the sink holds, the dictionaries that were sent, and the fault.
 pub(super) type Call = (Option<Rows>, &'static str);
 
 /// The call that writes the end marker.
 pub(super) const FINISH: Option<Rows> = None;
 
-/// What is sent, as parts of streams; none where it is the copy of a vector, whose bytes are compared
+/// What is sent, as parts of streams; none if it is the copy of a vector, whose bytes are compared
 /// there.
 pub(super) type Sent = Option<&'static [Part]>;
 
 /// Calls of one writer.
 pub(super) struct Calls {
-    /// A batch of the writer's schema, and how it sends.
+    /// A batch of the writer's schema, the options with which it sends, and its limits.
     pub(super) on: (Rows, Options, Most),
     pub(super) calls: &'static [Call],
     pub(super) sent: Sent,
 }
 
-/// Makes the calls of this row, one after the other.
+/// Makes the calls of this row, one after another.
 fn assert_calls(rt: &(impl Abort + AllocGlobal), row: &Calls, number: usize) {
     let (of, options, most) = row.on;
     let mut writer = writer_of(rt, &batch_of(rt, of), options, most);
@@ -145,10 +146,15 @@ pub(super) fn assert_all(rt: &(impl Abort + AllocGlobal), rows: &[Calls]) {
     }
 }
 
-/// These bytes were sent, of which this was told.
-pub(super) fn assert_sent(rt: &(impl Abort + AllocGlobal), bytes: &[u8], sent: Sent, told: &str) {
+/// These bytes were sent; this text describes the last call.
+pub(super) fn assert_sent(
+    rt: &(impl Abort + AllocGlobal),
+    bytes: &[u8],
+    sent: Sent,
+    reported: &str,
+) {
     if let Some(parts) = sent {
         let wanted = joined(rt.alloc(), parts, &[]).expect(rt, "parts of streams");
-        assert!(rt; bytes == wanted.as_slice(), "{told}");
+        assert!(rt; bytes == wanted.as_slice(), "{reported}");
     }
 }

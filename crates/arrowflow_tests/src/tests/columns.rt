@@ -1,7 +1,7 @@
-//! A stream of which columns are chosen.
+//! A stream from which columns are selected.
 
 /// A batch of 1 and a null, of `x` and `y,z`, and of 7 and 8, and one of 3, a null and 9; the first
-/// and the last column are `a`, the other one is `b`.
+/// and the last column are named `a`, the other one `b`.
 pub(super) const THREE_COLUMNS: &[u8; 904] = b"\xff\xff\xff\xff\x18\x01\0\0\x10\0\0\0\x0c\0\x18\0\
     \x04\0\x06\0\x08\0\x10\0\x0c\0\0\0\x04\0\x01\0\x18\0\0\0\0\0\0\0\0\0\0\0\0\0\0\0\x08\0\x0c\0\
     \x04\0\x08\0\x08\0\0\0\0\0\0\0\x04\0\0\0\x03\0\0\0\x20\0\0\0d\0\0\0\x98\0\0\0\x10\0\x14\0\x04\

@@ -5,7 +5,7 @@ use arrowflow_line::{ArgFault, plan};
 use std::alloc::Global;
 use std::process::Abort;
 
-// The words of a line, and what they ask for, within the limits that stand where none is given.
+/// The words of a line, and what they ask for, with the default limits.
 static TASKS: [(&[&str], &str); 44] = [
     (
         &["arrowflow", "schema", "a.arrows"],
@@ -235,7 +235,7 @@ const BODY: u64 = 68_719_476_736;
 
 const ROWS: u64 = 2_147_483_647;
 
-// The words of a line, and the limits of metadata, of a body and of rows that they ask for.
+/// The words of a line, and the limits of metadata, of a body and of rows that they ask for.
 static LIMITS: [(&[&str], [u64; 3]); 15] = [
     (&["arrowflow", "show", "a"], [METADATA, BODY, ROWS]),
     (
@@ -363,7 +363,8 @@ fn limits_are_those_of_the_line(rt: HostRuntime) {
     }
 }
 
-// The words of a line, and the bounds of rows, messages and bytes of a whole stream that they ask for.
+/// The words of a line, and the bounds of rows, messages and bytes of a complete stream that they
+/// ask for.
 static TOTALS: [(&[&str], [Option<u64>; 3]); 10] = [
     (&["arrowflow", "check", "a"], [None, None, None]),
     (&["arrowflow", "schema", "a"], [None, None, None]),
@@ -420,7 +421,7 @@ fn bounds_of_a_whole_stream_are_those_of_the_line(rt: HostRuntime) {
     }
 }
 
-// The words of a line, and whether they ask for all types.
+/// The words of a line, and whether they ask for all types.
 static TYPES: [(&[&str], bool); 7] = [
     (&["arrowflow", "schema", "a", "--types", "all"], true),
     (&["arrowflow", "check", "--types=all", "a"], true),
@@ -441,7 +442,7 @@ fn types_are_those_of_the_line(rt: HostRuntime) {
     }
 }
 
-// The words of a line without a plan, the exit status, and a part of what is printed.
+/// The words of a line without a plan, the exit status, and a part of what is printed.
 static OTHERS: [(&[&str], i32, &str); 73] = [
     (
         &["arrowflow", "check", "a", "--limit-bytes="],

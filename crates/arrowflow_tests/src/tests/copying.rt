@@ -1,7 +1,7 @@
 //! Copies within limits, and how far their input is read.
 
 use super::limits::{METADATA, limits};
-use super::told::ending;
+use super::reported::ending;
 use arrow_body_writer::Align;
 use arrow_dict::Updates;
 use arrow_sink::Counted;
@@ -10,7 +10,7 @@ use arrow_stream_writer::Options;
 use arrow_test_streams::streams::{GROWING, ONE_BATCH};
 use arrow_types::Limits;
 use arrowflow_copy::copy;
-use arrowflow_report::Input;
+use arrowflow_input::Input;
 use std::alloc::Global;
 use std::process::Abort;
 
@@ -29,7 +29,7 @@ pub(super) const WIDE: Options = Options {
     align: Align::SixtyFour,
 };
 
-/// What is written of an input, and the status and the line of the fault, if one came.
+/// The bytes written for an input, and the status and the line of the fault, if there was one.
 pub(super) fn copied<R: Input>(
     rt: &impl Abort,
     alloc: Global,
@@ -42,11 +42,11 @@ pub(super) fn copied<R: Input>(
     (output.into_inner(), ending(rt, alloc, &answer))
 }
 
-/// A stream, how it is written, and the most bytes of metadata and of a body; how many bytes are
-/// written, and the fault.
+/// A stream, how it is written, and the greatest numbers of bytes of metadata and of a body; the
+/// number of bytes that are written, and the fault.
 type Limited = (&'static [u8], Options, (u64, u64), usize, &'static str);
 
-// A limit is passed by the stream that is read, or by what would be written of it.
+/// The stream that is read exceeds a limit, or the one that would be written for it does.
 static LIMITED: [Limited; 8] = [
     (
         &ONE_BATCH,
@@ -94,7 +94,7 @@ static LIMITED: [Limited; 8] = [
     ),
 ];
 
-/// What is written within the limits is the beginning of what is written without them.
+/// The bytes written within the limits are a prefix of those written without them.
 fn assert_limited(rt: &impl Abort, alloc: Global, row: &Limited) {
     let (stream, options, most, len, fault) = row;
     let (mut input, mut again) = (*stream, *stream);
@@ -115,13 +115,13 @@ fn what_passes_a_limit(rt: HostRuntime) {
     }
 }
 
-/// How many bytes an input has that begins with a stream of 336 bytes, how many it gives at once,
-/// and how many are read of it.
-pub(super) type Behind = (usize, usize, usize);
+/// The number of bytes of an input that begins with a stream of 336 bytes, the number that it gives
+/// at once, and the number that are read of it.
+pub(super) type After = (usize, usize, usize);
 
-// An input is read in pieces of 65,536 bytes at most, and no piece is read after the one with the
-// end marker.
-pub(super) static BEHIND: [Behind; 9] = [
+/// An input is read in pieces of 65,536 bytes at most, and no piece is read after the one with the
+/// end marker.
+pub(super) static AFTER: [After; 9] = [
     (336, 1_000_000, 336),
     (400, 1_000_000, 400),
     (65_535, 1_000_000, 65_535),
@@ -133,14 +133,14 @@ pub(super) static BEHIND: [Behind; 9] = [
     (10_000, 336, 336),
 ];
 
-/// One batch, and bytes that are no message behind its end marker, so many in all.
+/// One batch, and bytes after its end marker that are not a message, `count` bytes in all.
 pub(super) fn with_more(rt: &impl Abort, alloc: Global, count: usize) -> Vec<u8> {
     let mut bytes = Vec::from_slice(alloc, &ONE_BATCH).expect(rt, "memory");
     bytes.resize(count, 7).expect(rt, "memory");
     bytes
 }
 
-fn assert_behind(rt: &impl Abort, alloc: Global, row: &Behind) {
+fn assert_after(rt: &impl Abort, alloc: Global, row: &After) {
     let (count, at_once, given) = row;
     let bytes = with_more(rt, alloc, *count);
     let mut input = Trickle::new(&bytes, *at_once, None);
@@ -154,8 +154,8 @@ fn assert_behind(rt: &impl Abort, alloc: Global, row: &Behind) {
 }
 
 #[test]
-fn bytes_behind_the_end_marker(rt: HostRuntime) {
-    for row in &BEHIND {
-        assert_behind(&rt, rt.alloc(), row);
+fn bytes_after_the_end_marker(rt: HostRuntime) {
+    for row in &AFTER {
+        assert_after(&rt, rt.alloc(), row);
     }
 }

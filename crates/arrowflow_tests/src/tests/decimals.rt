@@ -1,8 +1,8 @@
-//! The words of decimals: their names in the text of a schema, and their format strings, as the Arrow C
-//! data interface has them ("Data type description -- format strings").
+//! The texts of decimals: their names in the text of a schema, and their format strings, as defined
+//! by the Arrow C data interface ("Data type description -- format strings").
 
 use arrow_types::{BitWidth, DataType, DecimalWidth, Encoding, Field, IndexType, Schema};
-use arrowflow_report::{format_width, schema_lines_of, words_of};
+use arrowflow_text::{format_width, schema_lines_of, words_of};
 use std::alloc::Global;
 use std::process::Abort;
 
@@ -87,9 +87,9 @@ fn lines(rt: &impl Abort, alloc: Global, field: Field) -> String {
     schema_lines_of(alloc, &schema).expect(rt, "memory")
 }
 
-/// That a text is this one.
-fn is_text(rt: &impl Abort, text: &str, want: &str) {
-    assert_eq!(rt; text, want);
+/// Asserts that the two texts are equal.
+fn is_text(rt: &impl Abort, text: &str, expected: &str) {
+    assert_eq!(rt; text, expected);
 }
 
 #[test]
@@ -100,7 +100,7 @@ fn decimals_have_their_names(rt: HostRuntime) {
     }
 }
 
-/// The format string of these decimals, out of its parts.
+/// The format string of these decimals, built from its parts.
 fn format_of(rt: &impl Abort, alloc: Global, width: DecimalWidth, digits: (u8, i8)) -> String {
     let field = column(rt, alloc, width, digits);
     let start = words_of(&field.data_type).format;
@@ -127,6 +127,6 @@ fn a_dictionary_of_decimals_has_its_name(rt: HostRuntime) {
     };
     let field = column(&rt, rt.alloc(), DecimalWidth::TwoHundredFiftySix, (76, 2));
     let field = field.with_dictionary(encoding);
-    let want = "n: dictionary<int8, decimal256(76, 2)> id 7 ordered\n";
-    is_text(&rt, &lines(&rt, rt.alloc(), field), want);
+    let expected = "n: dictionary<int8, decimal256(76, 2)> id 7 ordered\n";
+    is_text(&rt, &lines(&rt, rt.alloc(), field), expected);
 }

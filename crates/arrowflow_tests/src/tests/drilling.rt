@@ -1,8 +1,8 @@
-//! Connections rehearsed: within limits, how far inputs are read, and numbers of several digits.
+//! Simulated connections: within limits, how far inputs are read, and numbers of several digits.
 
-use super::copying::{BEHIND, Behind, NARROW, RESEND, WIDE, with_more};
+use super::copying::{AFTER, After, NARROW, RESEND, WIDE, with_more};
 use super::limits::{METADATA, limits};
-use super::told::ending;
+use super::reported::ending;
 use arrow_sink::probe::Trickle;
 use arrow_stream_writer::Options;
 use arrow_test_streams::parts::{DE, END, Edit, NUMBERS, Part, Source, THREE, joined};
@@ -13,10 +13,10 @@ use std::alloc::Global;
 use std::io::Read;
 use std::process::Abort;
 
-/// How connections are delivered: how many bytes of each, and in pieces of how many.
+/// How connections are delivered: how many bytes of each, and in pieces of how many bytes.
 type Delivery = (u64, u64);
 
-/// What is told of inputs within limits, or the status and the line of the fault.
+/// The report about inputs within limits, or the status and the line of the fault.
 fn drilled<R: Read>(
     rt: &impl Abort,
     alloc: Global,
@@ -31,7 +31,8 @@ fn drilled<R: Read>(
     }
 }
 
-/// Parts of streams, each so often, one behind the other, and other bytes at some places.
+/// Parts of streams, each repeated this many times, one after the other, and other bytes at some
+/// offsets.
 type Stream = (&'static [(Part, usize)], &'static [Edit]);
 
 const ONE: Stream = (&[(NUMBERS, 1), (THREE, 1), (END, 1)], &[]);
@@ -42,7 +43,7 @@ const ELEVEN: Stream = (&[(NUMBERS, 1), (THREE, 11), (END, 1)], &[]);
 
 const SIXTY: Stream = (&[(NUMBERS, 1), (THREE, 60), (END, 1)], &[]);
 
-/// Four batches, of which the first and the third are of no rows.
+/// Four batches, of which the first and the third have no rows.
 const FOUR: Stream = (
     &[(NUMBERS, 1), (THREE, 4), (END, 1)],
     &[
@@ -55,7 +56,7 @@ const FOUR: Stream = (
     ],
 );
 
-/// Three values, two more by each of four deltas, and a batch that refers to the fifth.
+/// Three values, two more from each of four deltas, and a batch that refers to the fifth.
 const DELTAS: Stream = (
     &[
         ((Source::Growing, 0, 592), 1),
@@ -68,8 +69,8 @@ const DELTAS: Stream = (
 /// More bytes of a body than a message has in these tests.
 const BODY: u64 = 1_000;
 
-/// Streams, how they are written and delivered, and the most bytes of metadata and of a body; what
-/// is told of them.
+/// Streams, how they are written and delivered, and the greatest numbers of bytes of metadata and
+/// of a body; the report about them.
 type Drilled = (
     &'static [Stream],
     (Options, Delivery),
@@ -198,7 +199,7 @@ connection 1: dictionaries reader none, writer none
 connection 1: ending clean
 ",
     ),
-    (&[ONE], (NARROW, (1_000, 8)), (METADATA, 24), ONE_TOLD),
+    (&[ONE], (NARROW, (1_000, 8)), (METADATA, 24), ONE_REPORTED),
     (
         &[ONE],
         (NARROW, (1_000, 8)),
@@ -219,8 +220,8 @@ connection 1: ending clean
     ),
 ];
 
-/// What is told of one batch.
-const ONE_TOLD: &str = "\
+/// The report about one batch.
+const ONE_REPORTED: &str = "\
 connection 0: wrote 336 bytes in 3 parts, delivered 336 in pieces of 8
 connection 0: handed out 1 of 1 batches, 3 rows
 connection 0: dictionaries reader none, writer none
@@ -259,7 +260,7 @@ fn connections_over_streams(rt: HostRuntime) {
     }
 }
 
-fn assert_behind(rt: &impl Abort, alloc: Global, row: &Behind) {
+fn assert_after(rt: &impl Abort, alloc: Global, row: &After) {
     let (count, at_once, given) = row;
     let bytes = with_more(rt, alloc, *count);
     let mut inputs = [Trickle::new(&bytes, *at_once, None)];
@@ -267,15 +268,15 @@ fn assert_behind(rt: &impl Abort, alloc: Global, row: &Behind) {
     let text = drilled(rt, alloc, &mut inputs, sent, &Limits::standard());
     assert_eq!(rt;
         (text.as_str(), inputs[0].given()),
-        (ONE_TOLD, *given),
+        (ONE_REPORTED, *given),
         "{count} bytes"
     );
 }
 
 #[test]
-fn bytes_behind_the_end_marker(rt: HostRuntime) {
-    for row in &BEHIND {
-        assert_behind(&rt, rt.alloc(), row);
+fn bytes_after_the_end_marker(rt: HostRuntime) {
+    for row in &AFTER {
+        assert_after(&rt, rt.alloc(), row);
     }
 }
 

@@ -1,23 +1,23 @@
-//! One batch by an input that fails at each place, and copied into an output that does.
+//! One batch from an input that fails at each offset, and copied into an output that does.
 
 use super::copying::{NARROW, copied};
-use super::told::{Call, NUMBERS, ending, told};
+use super::reported::{Call, NUMBERS, ending, reported};
 use arrow_sink::Sink;
 use arrow_sink::probe::{Failing, Narrow, Trickle};
 use arrow_test_streams::streams::ONE_BATCH;
 use arrow_types::Limits;
 use arrowflow_copy::copy;
-use arrowflow_report::Tried;
+use arrowflow_input::Tried;
 use std::alloc::Global;
 use std::io::ErrorKind;
 use std::process::Abort;
 
-/// What is told of an input that fails before its schema is whole.
+/// The report about an input that fails before its schema is complete.
 const FAILED: &str = "2 cannot read in";
 
-// The calls, and what they tell where no message is whole, the schema, the batch, and the end
-// marker.
-static TOLD: [(Call, [&str; 4]); 4] = [
+/// The calls, and their reports if no message is complete, if the schema is, the batch, and the end
+/// marker.
+static REPORTED: [(Call, [&str; 4]); 4] = [
     (
         Call::Schema,
         [FAILED, "n: int32\n", "n: int32\n", "n: int32\n"],
@@ -43,11 +43,11 @@ static TOLD: [(Call, [&str; 4]); 4] = [
     ),
 ];
 
-// How many bytes a copy has then, and the fault.
+/// The number of bytes that a copy has then, and the fault.
 static COPIED: [(usize, &str); 4] = [(0, FAILED), (152, FAILED), (328, FAILED), (336, "")];
 
-/// One batch, by an input that fails at this place by one of several errors, each of which is told
-/// alike.
+/// One batch, from an input that fails at this offset with one of several errors, all of which are
+/// reported in the same way.
 fn failing(place: usize) -> Trickle<'static> {
     let kind = match place % 4 {
         0 => ErrorKind::Interrupted,
@@ -58,7 +58,7 @@ fn failing(place: usize) -> Trickle<'static> {
     Trickle::new(ONE_BATCH.as_slice(), 7, Some((place, kind)))
 }
 
-/// How many messages are whole in so many bytes of one batch.
+/// The number of complete messages in this many bytes of one batch.
 fn whole_messages(count: usize) -> usize {
     match count {
         0..152 => 0,
@@ -68,23 +68,23 @@ fn whole_messages(count: usize) -> usize {
     }
 }
 
-fn assert_told(rt: &impl Abort, alloc: Global, call: Call, texts: &[&str; 4], place: usize) {
+fn assert_reported(rt: &impl Abort, alloc: Global, call: Call, texts: &[&str; 4], place: usize) {
     let mut input = failing(place);
-    let text = told(rt, alloc, call, &mut input, &Limits::standard());
+    let text = reported(rt, alloc, call, &mut input, &Limits::standard());
     let expected = texts.get(whole_messages(place)).expect(rt, "a text");
     assert_eq!(rt; text.as_str(), *expected, "{place} bytes");
 }
 
 #[test]
 fn reports_of_an_input_that_fails(rt: HostRuntime) {
-    for (call, texts) in &TOLD {
+    for (call, texts) in &REPORTED {
         for place in 0..337 {
-            assert_told(&rt, rt.alloc(), *call, texts, place);
+            assert_reported(&rt, rt.alloc(), *call, texts, place);
         }
     }
 }
 
-/// Of an input that fails at this place the whole messages are copied.
+/// The complete messages of an input that fails at this offset are copied.
 fn assert_copied(rt: &impl Abort, alloc: Global, place: usize) {
     let mut input = failing(place);
     let (bytes, ending) = copied(rt, alloc, &mut input, NARROW, &Limits::standard());
@@ -104,11 +104,11 @@ fn copies_of_an_input_that_fails(rt: HostRuntime) {
 }
 
 #[test]
-fn an_input_tells_that_its_last_read_failed(rt: HostRuntime) {
+fn an_input_reports_that_its_last_read_failed(rt: HostRuntime) {
     let limits = Limits::standard();
     let mut input = Tried::new(failing(100));
     assert!(rt; !input.has_failed());
-    let text = told(&rt, rt.alloc(), Call::Check, &mut input, &limits);
+    let text = reported(&rt, rt.alloc(), Call::Check, &mut input, &limits);
     assert_eq!(rt; text.as_str(), FAILED);
     assert!(rt; input.has_failed());
     assert_eq!(rt; input.into_inner().given(), 100);
@@ -125,7 +125,7 @@ fn a_stream_that_is_cut_blames_no_input(rt: HostRuntime) {
     for call in [Call::Check, Call::Quiet, Call::Show, Call::Schema] {
         let cut = Trickle::new(ONE_BATCH.get(..100).expect(&rt, "so many bytes"), 7, None);
         let mut input = Tried::new(cut);
-        let text = told(&rt, rt.alloc(), call, &mut input, &limits);
+        let text = reported(&rt, rt.alloc(), call, &mut input, &limits);
         assert_eq!(rt; text.as_str(), "1 fault at byte 0: NoSchema");
         assert!(rt; !input.has_failed());
     }
@@ -136,8 +136,8 @@ fn a_stream_that_is_cut_blames_no_input(rt: HostRuntime) {
     assert!(rt; !input.has_failed());
 }
 
-/// In a sink that takes so many bytes stands the beginning of the copy, and it was flushed and
-/// failed so often.
+/// A sink that accepts this many bytes has a prefix of the copy, and it was flushed and failed this
+/// many times.
 fn assert_narrowed(rt: &impl Abort, alloc: Global, sink: (Failing, usize), counts: (u64, u64)) {
     let (failing, left) = sink;
     let mut input = ONE_BATCH.as_slice();

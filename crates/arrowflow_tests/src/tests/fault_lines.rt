@@ -1,13 +1,13 @@
-//! The lines of faults that no stream has, and of each refusal of a writer, written out.
+//! The lines of faults that no stream has, and of each rejection by a writer, written out.
 
-use super::told::ending;
+use super::reported::ending;
 use arrow_stream_reader::{Fault, Kind};
 use arrow_stream_writer::WriteFault;
-use arrowflow_report::{ToolFault, What};
+use arrowflow_input::{RefusedItem, ToolFault};
 use std::alloc::Global;
 use std::process::Abort;
 
-// The kinds of a stream's faults that no stream has, their places, and their lines.
+/// The kinds of a stream's faults that no stream has, their offsets, and their lines.
 static KINDS: [(Kind, u64, &str); 2] = [
     (Kind::Memory, 7, "1 fault at byte 7: Memory"),
     (
@@ -17,35 +17,39 @@ static KINDS: [(Kind, u64, &str); 2] = [
     ),
 ];
 
-// A writer's refusals, and their lines.
-static REFUSALS: [(What, WriteFault, &str); 7] = [
+/// A writer's rejections, and their lines.
+static REFUSALS: [(RefusedItem, WriteFault, &str); 7] = [
     (
-        What::Batch(12),
+        RefusedItem::Batch(12),
         WriteFault::SchemaDiffers,
         "1 refused batch 12: SchemaDiffers",
     ),
     (
-        What::Start,
+        RefusedItem::Start,
         WriteFault::TooLarge,
         "1 refused schema: TooLarge",
     ),
     (
-        What::Batch(0),
+        RefusedItem::Batch(0),
         WriteFault::DictionariesDiffer,
         "1 refused batch 0: DictionariesDiffer",
     ),
-    (What::Finish, WriteFault::Sink, "1 refused end: Sink"),
+    (RefusedItem::Finish, WriteFault::Sink, "1 refused end: Sink"),
     (
-        What::Batch(3),
+        RefusedItem::Batch(3),
         WriteFault::Broken,
         "1 refused batch 3: Broken",
     ),
     (
-        What::Finish,
+        RefusedItem::Finish,
         WriteFault::Finished,
         "1 refused end: Finished",
     ),
-    (What::Start, WriteFault::Memory, "1 refused schema: Memory"),
+    (
+        RefusedItem::Start,
+        WriteFault::Memory,
+        "1 refused schema: Memory",
+    ),
 ];
 
 fn assert_line(rt: &impl Abort, alloc: Global, fault: ToolFault, expected: &str) {
@@ -74,11 +78,11 @@ fn faults_have_their_lines(rt: HostRuntime) {
     assert_line(&rt, alloc, ToolFault::Memory, "2 out of memory");
     assert_line(&rt, alloc, ToolFault::Input(3), "2 cannot read in");
     assert_line(&rt, alloc, ToolFault::Output, "2 cannot write out");
-    let wanting = ToolFault::from(Fault {
+    let needing = ToolFault::from(Fault {
         kind: Kind::Memory,
         place: 8,
     });
-    assert_line(&rt, alloc, wanting, "2 out of memory");
+    assert_line(&rt, alloc, needing, "2 out of memory");
     let shown = format!(in alloc; "{}", ToolFault::Input(3)).expect(&rt, "memory");
     assert_eq!(rt; shown.as_str(), "cannot read input 3");
 }

@@ -1,17 +1,17 @@
-//! What `show_selection` writes of streams, and what a check that writes nothing answers.
+//! What `show_selection` writes for streams, and what a check that writes nothing returns.
 
 use super::columns::THREE_COLUMNS;
 use super::copying::with_more;
-use super::told::{Call, LETTERS, NUMBERS, assert_told, told};
+use super::reported::{Call, LETTERS, NUMBERS, assert_reported, reported};
 use arrow_sink::probe::Trickle;
 use arrow_test_streams::streams::{GROWING, ONE_BATCH};
 use arrow_types::Limits;
-use arrowflow_report::{Layout, Selection};
+use arrowflow_text::{Layout, Selection};
 use std::alloc::Global;
 use std::process::Abort;
 
-/// The fault of one batch whose bytes go no further than to this place: all that a check that
-/// writes nothing tells.
+/// The fault of one batch whose bytes end at this offset: all that a check that writes nothing
+/// reports.
 fn fault_before(place: usize) -> &'static str {
     match place {
         0..152 => "1 fault at byte 0: NoSchema",
@@ -26,11 +26,11 @@ fn quiet_checks_of_streams_cut_off(rt: HostRuntime) {
     let stream = ONE_BATCH.as_slice();
     for place in [0, 1, 151, 152, 153, 327, 328, 329, 335, 336] {
         let bytes = &stream[..place.min(stream.len())];
-        assert_told(&rt, rt.alloc(), Call::Quiet, bytes, fault_before(place));
+        assert_reported(&rt, rt.alloc(), Call::Quiet, bytes, fault_before(place));
     }
 }
 
-// How many rows are asked for, and what is shown of the growing dictionary then.
+/// How many rows are asked for, and what is printed of the growing dictionary then.
 static FIRST_LETTERS: [(u64, &str); 8] = [
     (0, "batch,k\n"),
     (1, "batch,k\n0,a\n"),
@@ -45,12 +45,12 @@ static FIRST_LETTERS: [(u64, &str); 8] = [
 #[test]
 fn first_rows_of_a_stream(rt: HostRuntime) {
     for (rows, text) in &FIRST_LETTERS {
-        assert_told(&rt, rt.alloc(), Call::First(*rows), &GROWING, text);
+        assert_reported(&rt, rt.alloc(), Call::First(*rows), &GROWING, text);
     }
 }
 
-// How many rows of one batch are asked for, how far its bytes go, and what is shown of it then: what
-// stands behind the last row that is asked for is not looked at.
+/// How many rows of one batch are asked for, where its bytes end, and what is printed of it then:
+/// what follows the last row that is asked for is not parsed.
 static FIRST_NUMBERS: [(u64, usize, &str); 8] = [
     (0, 151, "1 fault at byte 0: NoSchema"),
     (0, 152, "batch,n\n"),
@@ -71,12 +71,12 @@ fn first_rows_of_a_stream_cut_off(rt: HostRuntime) {
     let stream = ONE_BATCH.as_slice();
     for (rows, place, text) in &FIRST_NUMBERS {
         let bytes = &stream[..(*place).min(stream.len())];
-        assert_told(&rt, rt.alloc(), Call::First(*rows), bytes, text);
+        assert_reported(&rt, rt.alloc(), Call::First(*rows), bytes, text);
     }
 }
 
-// Which columns of the growing dictionary are asked for, how many rows, how far its bytes go, and
-// what is shown of it then.
+/// Which columns of the growing dictionary are asked for, how many rows, where its bytes end, and
+/// what is printed of it then.
 type Asked = (&'static [&'static str], Option<u64>, usize, &'static str);
 
 static COLUMNS: [Asked; 8] = [
@@ -100,12 +100,12 @@ fn columns_of_a_stream(rt: HostRuntime) {
     let stream = GROWING.as_slice();
     for (columns, rows, place, text) in &COLUMNS {
         let bytes = &stream[..(*place).min(stream.len())];
-        assert_told(&rt, rt.alloc(), Call::Columns(*columns, *rows), bytes, text);
+        assert_reported(&rt, rt.alloc(), Call::Columns(*columns, *rows), bytes, text);
     }
 }
 
-// The same of three columns, whose names are `a`, `b` and `a`: of two of one name the first is
-// meant, and of several that the schema lacks the first is told.
+/// The same for three columns, whose names are `a`, `b` and `a`: of two columns with the same name
+/// the first is meant, and of several that the schema lacks the first is reported.
 static COLUMNS_OF_THREE: [Asked; 8] = [
     (
         &["b", "a"],
@@ -137,12 +137,12 @@ fn columns_of_a_stream_of_three(rt: HostRuntime) {
     let stream = THREE_COLUMNS.as_slice();
     for (columns, rows, place, text) in &COLUMNS_OF_THREE {
         let bytes = &stream[..(*place).min(stream.len())];
-        assert_told(&rt, rt.alloc(), Call::Columns(*columns, *rows), bytes, text);
+        assert_reported(&rt, rt.alloc(), Call::Columns(*columns, *rows), bytes, text);
     }
 }
 
-// A call that is given one batch with more behind it, how many bytes come at once, how many of them
-// it takes, and what it tells: no piece is read behind the message that decides.
+/// A call that is given one batch with more bytes after it, how many bytes it gets at once, how many
+/// of them it takes, and its report: no piece is read after the message that decides.
 static READ: [(Call, usize, usize, &str); 8] = [
     (Call::Schema, 152, 152, "n: int32\n"),
     (Call::Schema, 151, 302, "n: int32\n"),
@@ -163,7 +163,7 @@ fn assert_read(rt: &impl Abort, alloc: Global, row: &(Call, usize, usize, &str))
     let (call, at_once, given, text) = row;
     let bytes = with_more(rt, alloc, 100_000);
     let mut input = Trickle::new(&bytes, *at_once, None);
-    let answer = told(rt, alloc, *call, &mut input, &Limits::standard());
+    let answer = reported(rt, alloc, *call, &mut input, &Limits::standard());
     assert_eq!(rt;
         (answer.as_str(), input.given()),
         (*text, *given),
@@ -172,14 +172,14 @@ fn assert_read(rt: &impl Abort, alloc: Global, row: &(Call, usize, usize, &str))
 }
 
 #[test]
-fn bytes_behind_what_is_wanted(rt: HostRuntime) {
+fn bytes_after_what_is_wanted(rt: HostRuntime) {
     for row in &READ {
         assert_read(&rt, rt.alloc(), row);
     }
 }
 
-// Layouts of the three columns: which of them, the text of a null, and whether rows have numbers;
-// and what is shown then.
+/// Layouts of the three columns: which of them, the text of a null, and whether rows have numbers;
+/// and what is printed then.
 static LAYOUTS: [(Layout, &str); 4] = [
     (
         Layout {
@@ -224,7 +224,7 @@ fn layouts_of_a_stream(rt: HostRuntime) {
             skip: 0,
             rows: None,
         };
-        assert_told(
+        assert_reported(
             &rt,
             rt.alloc(),
             Call::Selected(selection),
@@ -234,8 +234,8 @@ fn layouts_of_a_stream(rt: HostRuntime) {
     }
 }
 
-// A window of the rows of the growing dictionary: which batch, how many rows are left out, how many
-// follow; how far the bytes go, and what is shown then.
+/// A window of the rows of the growing dictionary: which batch, how many rows are left out, how many
+/// follow; where the bytes end, and what is printed then.
 type Windowed = (Option<u64>, u64, Option<u64>, usize, &'static str);
 
 static WINDOWS: [Windowed; 12] = [
@@ -270,6 +270,6 @@ fn windows_of_a_stream(rt: HostRuntime) {
             skip: *skip,
             rows: *rows,
         };
-        assert_told(&rt, rt.alloc(), Call::Selected(selection), bytes, text);
+        assert_reported(&rt, rt.alloc(), Call::Selected(selection), bytes, text);
     }
 }

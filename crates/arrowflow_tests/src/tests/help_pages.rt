@@ -1,4 +1,4 @@
-//! The help of the program and of each of its commands, whole, and lines that are refused.
+//! The complete help of the program and of each of its commands, and lines that are rejected.
 
 use arrowflow_line::{ArgFault, plan};
 use std::alloc::Global;
@@ -198,7 +198,7 @@ Options:
       --limit-total-rows <N>  The most rows of a whole stream
       --limit-messages <N>    The most messages of a whole stream
       --limit-bytes <N>       The most bytes of a whole stream, as 64K or 1MiB
-      --updates <updates>     What is sent of a dictionary that grew: the new
+      --updates <updates>     RefusedItem is sent of a dictionary that grew: the new
                               values, or all
                                [default: delta] [possible values: delta, resend]
       --align <align>         To how many bytes each buffer is padded
@@ -240,7 +240,7 @@ Options:
                              [default: 4611686018427387904]
       --piece <N>           How many bytes are delivered at once
                              [default: 65536]
-      --updates <updates>   What is sent of a dictionary that grew: the new
+      --updates <updates>   RefusedItem is sent of a dictionary that grew: the new
                             values, or all
                              [default: delta] [possible values: delta, resend]
       --align <align>       To how many bytes each buffer is padded
@@ -268,7 +268,7 @@ Example:
   arrowflow drill examples/growing_dictionary.arrows --bytes 975 --piece 1
 ";
 
-// The words that ask for a page, and the page.
+/// The words that ask for a page, and the page.
 static PAGES: [(&[&str], &str); 10] = [
     (&["arrowflow", "--help"], PROGRAM),
     (&["elsewhere/program", "help"], PROGRAM),
@@ -291,7 +291,8 @@ fn assert_page(rt: &impl Abort, alloc: Global, words: &[&str], page: &str) {
     assert_eq!(rt; text.as_str(), page);
 }
 
-// Lines that are refused: an option that stands twice, one with a letter, and one with no value.
+/// Lines that are rejected: an option that is given twice, one with a letter, and one without a
+/// value.
 static REFUSED: [&[&str]; 10] = [
     &["arrowflow", "drill", "a", "--bytes", "1", "--bytes", "1"],
     &["arrowflow", "drill", "a", "--piece=1", "--piece=2"],

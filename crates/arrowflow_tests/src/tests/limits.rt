@@ -1,6 +1,6 @@
-//! What reports tell within limits.
+//! What reports say within limits.
 
-use super::told::{Call, NUMBERS, told};
+use super::reported::{Call, NUMBERS, reported};
 use arrow_test_streams::streams::ONE_BATCH;
 use arrow_types::Limits;
 use std::process::Abort;
@@ -13,7 +13,7 @@ pub(super) fn limits(rt: &impl Abort, most: (u64, u64)) -> Limits {
     Limits::new(most.0, most.1, 1_000).expect(rt, "limits")
 }
 
-// A call of one batch, limits of metadata and of a body, and what is told.
+/// A call for one batch, limits of metadata and of a body, and the report.
 static LIMITED: [(Call, (u64, u64), &str); 8] = [
     (Call::Schema, (144, 0), "n: int32\n"),
     (Call::Schema, (143, 0), "1 fault at byte 0: MetadataSize"),
@@ -42,7 +42,7 @@ fn what_passes_a_limit(rt: HostRuntime) {
     for (call, most, expected) in &LIMITED {
         let mut input = ONE_BATCH.as_slice();
         let limits = limits(&rt, *most);
-        let text = told(&rt, rt.alloc(), *call, &mut input, &limits);
+        let text = reported(&rt, rt.alloc(), *call, &mut input, &limits);
         assert_eq!(rt; text.as_str(), *expected);
     }
 }

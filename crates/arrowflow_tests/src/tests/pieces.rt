@@ -1,4 +1,5 @@
-//! Copies of streams that come in pieces. Those of all vectors are compared in `c/examples/pieces.c`.
+//! Copies of streams that arrive in pieces. Those of all vectors are compared in
+//! `c/examples/pieces.c`.
 
 use super::copying::NARROW;
 use arrow_test_streams::streams::{GROWING, ONE_BATCH};
@@ -35,7 +36,7 @@ fn what_comes_before_the_end(rt: HostRuntime) {
 }
 
 #[test]
-fn what_comes_behind_the_end(rt: HostRuntime) {
+fn what_comes_after_the_end(rt: HostRuntime) {
     let mut copier = StreamCopier::new(rt.alloc(), NARROW, Limits::standard());
     copier.put(&ONE_BATCH[..328]);
     copier.end();

@@ -4,7 +4,7 @@ use arrow_data::{Batch, Dictionary};
 use arrow_stream_reader::StreamReader;
 use arrow_test_streams::streams::GROWING;
 use arrow_types::Limits;
-use arrowflow_report::session::{Ending, Received, receive};
+use arrowflow_input::session::{Ending, Received, receive};
 use std::alloc::{AllocError, Global};
 use std::process::Abort;
 
@@ -34,7 +34,7 @@ fn push_received(text: &mut String, received: &Received) -> Result<(), AllocErro
     }
 }
 
-/// What is received has this text.
+/// The text of what is received is this one.
 fn assert_received(
     rt: &impl Abort,
     reader: &mut StreamReader,
@@ -48,8 +48,8 @@ fn assert_received(
     assert_eq!(rt; text.as_str(), expected);
 }
 
-// Where streams begin and end in the growing dictionary, what one reader receives of each, one
-// after the other, and whether it then has a schema.
+/// Where streams begin and end in the growing dictionary, what one reader receives of each, one
+/// after the other, and whether it then has a schema.
 static IN_TURN: [(usize, usize, &str, bool); 7] = [
     (0, 1_376, "3 rows 2 rows 2 rows 0=4 clean", true),
     (0, 424, "0=3 clean", true),

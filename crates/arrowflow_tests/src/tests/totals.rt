@@ -1,26 +1,26 @@
-//! What the calls make of streams that pass a bound, and of those that keep all.
+//! What the calls do with streams that exceed a bound, and with those that keep to all bounds.
 
 use super::copying::NARROW;
-use super::told::{LETTERS, ending};
+use super::reported::{LETTERS, ending};
 use arrow_sink::Counted;
 use arrow_sink::probe::Trickle;
 use arrow_test_streams::streams::{GROWING, ONE_BATCH};
 use arrow_types::Limits;
 use arrowflow_copy::copy_within;
-use arrowflow_report::{
-    Bounded, ColumnsFault, Excess, Layout, Measure, Selection, WholeLimits, check_quietly_within,
-    check_within, show_within,
+use arrowflow_input::{Bounded, Excess, Measure, WholeLimits};
+use arrowflow_text::{
+    ColumnsFault, Layout, Selection, check_quietly_within, check_within, show_within,
 };
 use std::alloc::Global;
 use std::process::Abort;
 
-/// Which of the calls.
+/// The calls.
 #[derive(Clone, Copy)]
 enum Call {
     Check,
     Quiet,
     Show,
-    /// The first rows, so many.
+    /// This many first rows.
     First(u64),
 }
 
@@ -53,8 +53,8 @@ const NOTHING: [Option<u64>; 3] = [Some(0), Some(0), Some(0)];
 
 const TWO_BATCHES: &str = "batch,k\n0,a\n0,b\n0,c\n1,e\n1,a\n";
 
-// A call, the bounds of rows, messages and bytes of the growing dictionary, and the line of it.
-static TOLD: [(Call, [Option<u64>; 3], &str); 17] = [
+/// A call, the bounds of rows, messages and bytes of the growing dictionary, and its line.
+static REPORTED: [(Call, [Option<u64>; 3], &str); 17] = [
     (Call::Quiet, [None, None, None], ""),
     (Call::Quiet, ROWS_7, ""),
     (Call::Quiet, MESSAGES_7, ""),
@@ -98,7 +98,7 @@ static TOLD: [(Call, [Option<u64>; 3], &str); 17] = [
     ),
 ];
 
-/// The text of an output, and after it the bound that the stream passes, or the fault.
+/// The text of an output, followed by the bound that the stream exceeds, or the fault.
 fn text_of(
     rt: &impl Abort,
     alloc: Global,
@@ -115,8 +115,8 @@ fn text_of(
     text
 }
 
-/// What a call tells of bytes in pieces of this length.
-fn told(
+/// The report of a call about bytes in pieces of this length.
+fn reported(
     rt: &impl Abort,
     alloc: Global,
     call: Call,
@@ -157,9 +157,9 @@ fn told(
 
 #[test]
 fn bounds_that_are_kept_and_passed(rt: HostRuntime) {
-    for (call, whole, expected) in &TOLD {
+    for (call, whole, expected) in &REPORTED {
         for piece in [1, 100, 65_536] {
-            let text = told(
+            let text = reported(
                 &rt,
                 rt.alloc(),
                 *call,
@@ -171,8 +171,8 @@ fn bounds_that_are_kept_and_passed(rt: HostRuntime) {
     }
 }
 
-// How far the bytes of one batch go, how many are allowed, and the line: an end is none of the
-// bound, and what comes after the end marker is not looked at.
+/// Where the bytes of one batch end, how many are allowed, and the line: an end of the input is not
+/// a matter of the bound, and bytes after the end marker are not parsed.
 static CUT: [(usize, u64, &str); 6] = [
     (327, 327, "1 fault at byte 152: Truncated"),
     (328, 328, ""),
@@ -187,7 +187,7 @@ fn ends_that_are_those_of_the_bound(rt: HostRuntime) {
     for (end, most, expected) in &CUT {
         let bytes = &ONE_BATCH[..(*end).min(336)];
         let whole = bounds([None, None, Some(*most)]);
-        let text = told(&rt, rt.alloc(), Call::Quiet, (bytes, 7), whole);
+        let text = reported(&rt, rt.alloc(), Call::Quiet, (bytes, 7), whole);
         assert_eq!(rt; text.as_str(), *expected, "{end} bytes, {most} allowed");
     }
 }

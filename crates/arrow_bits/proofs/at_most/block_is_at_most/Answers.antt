@@ -2,7 +2,7 @@ use Rattle.std.proofs.Common.{◌≡◌, ◌<◌, ◌*◌, ℕ, get_or, ap, arit
 use Rattle.arrow_bits.proofs.Compared.{block_holds}
 use Rattle.arrow_bits.proofs.at_most.block_is_at_most.Goals as goal
 
--- the lanes are the numbers, each beside the top or the greatest number of the width
+-- the lanes are the numbers, each compared with the top or the greatest number of the width
 
 pub returns-in-1 : goal.returns-in-1
 returns-in-1 c =

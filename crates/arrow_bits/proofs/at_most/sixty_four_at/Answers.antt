@@ -4,11 +4,11 @@ use Rattle.arrow_bits.specs.Numbers.{number_at}
 use Rattle.arrow_bits.proofs.Reading.{read_byte}
 use Rattle.arrow_bits.proofs.at_most.sixty_four_at.Goals as goal
 
--- so many bytes are there
+-- there are that many bytes
 pub returns-clause-long : goal.returns-clause-long
 returns-clause-long c = length-take-le 64 (drop c.args.at c.args.bytes.now) (omega (arith, c.requires, length-drop c.args.at c.args.bytes.now))
 
--- each lane is the byte at its place
+-- each lane is the byte at its offset
 pub returns-clause-lanes : goal.returns-clause-lanes
 returns-clause-lanes c k h =
     let bytes = c.args.bytes.now in

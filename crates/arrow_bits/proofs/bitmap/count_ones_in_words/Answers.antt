@@ -4,7 +4,7 @@ use Rattle.arrow_bits.proofs.Listed.{few_ones}
 use Rattle.arrow_bits.proofs.Counting.{ones_word}
 use Rattle.arrow_bits.proofs.bitmap.count_ones_in_words.Goals as goal
 
--- no more bits are set than there are
+-- there are no more set bits than bits
 pub overflow_add-ones : goal.overflow_add-ones
 overflow_add-ones c =
     let bytes = c.args.bytes.now in
@@ -12,7 +12,7 @@ overflow_add-ones c =
     let few = few_ones (64 * (c.loop-i.i + 1)) bytes in
     omega (arith, word, few, c.loop-i.invariant, ap count_ones c.u64_at.ensures, c.loop-i-test.true, c.requires.few)
 
--- one word more
+-- one more word
 pub loop-i-preserved : goal.loop-i-preserved
 loop-i-preserved c =
     let bytes = c.args.bytes.now in

@@ -19,6 +19,6 @@ run c =
 pub returns-clause-set : goal.returns-clause-set
 returns-clause-set c = (run c).set
 
--- and where there is none, the first bit is not
+-- and if there is none, the first bit is not set
 pub returns-clause-none : goal.returns-clause-none
 returns-clause-none c = (run c).none

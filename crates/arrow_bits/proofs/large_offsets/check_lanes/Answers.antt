@@ -11,7 +11,7 @@ returns-then-u64_at-min c = (
       absurd (omega (arith, has.low, has.le, c.if-u64_at-min.true, c.min.ensures, c.u64_at.ensures))),
 )
 
--- the neighbours decide
+-- otherwise the comparison of neighbours decides
 pub returns : goal.returns
 returns c = (
   (λ t.

@@ -16,7 +16,7 @@ returns-then-width-eq16-clause-bytes c =
     let sixteen : c.args.width ≡ 16 = omega arith in
     rw sixteen (on_ok_weaker c.extend_from_slice.result (λ e. e ∙ ap (λ bytes. old ++ bytes) whole) put)
 
--- what was appended is read as the value
+-- the appended bytes are read as the value
 
 pub returns-then-width-eq16-clause-reads : goal.returns-then-width-eq16-clause-reads
 returns-then-width-eq16-clause-reads c =

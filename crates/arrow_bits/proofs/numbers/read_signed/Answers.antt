@@ -4,7 +4,7 @@ use Rattle.arrow_bits.specs.Numbers.{signed_at, twos_complement}
 use Rattle.arrow_bits.proofs.Reading.{read_byte, signed_8, signed_16, signed_32, signed_64, signed_128}
 use Rattle.arrow_bits.proofs.numbers.read_signed.Goals as goal
 
--- each width is read by its own sign bit
+-- each width is read with its own sign bit
 
 pub returns-in-1 : goal.returns-in-1
 unfolding signed_at

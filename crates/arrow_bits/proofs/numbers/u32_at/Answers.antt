@@ -2,6 +2,6 @@ use Rattle.std.proofs.Common.{◌∙◌}
 use Rattle.arrow_bits.proofs.Reading.{read_number}
 use Rattle.arrow_bits.proofs.numbers.u32_at.Goals as goal
 
--- what byteorder reads is the number there
+-- byteorder reads the number there
 pub returns : goal.returns
 returns c = c.read_u32.ensures ∙ read_number 4 c.args.place c.args.bytes.now c.requires

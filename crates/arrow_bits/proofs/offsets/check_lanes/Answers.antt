@@ -11,7 +11,7 @@ returns-then-from-min c = (
       absurd (omega (arith, has.low, has.le, c.if-from-min.true, c.min.ensures, c.from.ensures, c.u32_at.ensures))),
 )
 
--- the neighbours decide
+-- otherwise the comparison of neighbours decides
 pub returns : goal.returns
 returns c = (
   (λ t.

@@ -4,7 +4,7 @@ use Rattle.arrow_bits.specs.Numbers.{signed_at, twos_complement}
 use Rattle.arrow_bits.proofs.Reading.{signed_32}
 use Rattle.arrow_bits.proofs.offsets.offset.Goals as goal
 
--- the four bytes by their sign bit
+-- the four bytes read as signed
 pub returns : goal.returns
 unfolding signed_at
 returns c = omega (arith, ints, signed_32 _ c.u32_at.type_inv, ap (twos_complement 4) c.u32_at.ensures, c.cast_signed.ensures)

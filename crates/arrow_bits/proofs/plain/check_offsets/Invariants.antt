@@ -3,7 +3,7 @@ use Rattle.std.specs.Prelude.{pos, ◌≤ℤ◌}
 use Rattle.arrow_bits.specs.Offsets.{offset_at}
 use Rattle.arrow_bits.proofs.plain.check_offsets.Given as goal
 
--- the offsets so far begin at 0 or above and do not fall, and the last of them is at hand
+-- the offsets so far begin at 0 or above and do not fall, and the last of them is in the variable
 abbrev pub invariant-loop-i : goal.invariant-loop-i
 invariant-loop-i l = record {
   first : pos 0 ≤ℤ offset_at l.bytes 0;

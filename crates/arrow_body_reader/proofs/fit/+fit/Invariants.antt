@@ -10,6 +10,6 @@ decreases-all_fit l = 2 * count (fields_view l.fields.now)
 abbrev pub decreases-all_below_fit : goal.decreases-all_below_fit
 decreases-all_below_fit l = 2 * count (fields_view l.fields.now) + 1
 
--- all fields fit exactly where those to come do
+-- all fields fit exactly when the remaining ones do
 abbrev pub invariant-all_fit-loop-field : goal.invariant-all_fit-loop-field
 invariant-all_fit-loop-field l = AreFit l.dictionaries.entries.now (fields_view (drop l.field-index l.fields)) ↔ AreFit l.dictionaries.entries.now (fields_view l.fields)

@@ -4,7 +4,7 @@ use Rattle.arrow_bits.specs.Bitmap.{bits_of}
 use Rattle.arrow_body_writer.proofs.Marking.{rest_of_bytes, zeros_between}
 use Rattle.arrow_body_writer.proofs.bitmap.zeros.Goals as goal
 
--- so there are no more before it
+-- so the zeros before it are not more
 pub overflow_sub-result : goal.overflow_sub-result
 overflow_sub-result c =
     let bytes = c.args.bits.bytes.now in
@@ -15,7 +15,7 @@ overflow_sub-result c =
     let before = c.zeros_of-2.ensures ∙ ap (count_by not) (ap (bits_of (start % 8)) (rest_of_bytes bytes first)) in
     omega (arith, all, before, zeros_between bytes start stop c.requires.order)
 
--- and those that are left are its own
+-- and the remaining zeros are those of the range
 pub returns : goal.returns
 returns c =
     let bytes = c.args.bits.bytes.now in

@@ -15,7 +15,7 @@ put_chunk-requires-clause-room c =
     node_rooms (column_in c.args.node.now.source) c.requires.raws c.loop-k.k c.in-Some.part
     (ap (λ f. part_of f c.loop-k.k) (sym c.requires.form) ∙ sym c.part_of.ensures ∙ c.in-Some.is)
 
--- one buffer more, or none
+-- one more buffer, or none
 pub loop-k-preserved : goal.loop-k-preserved
 loop-k-preserved c =
     let k = c.loop-k.k in

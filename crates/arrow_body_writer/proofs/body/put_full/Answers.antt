@@ -5,7 +5,7 @@ use Rattle.arrow_body_writer.proofs.FullNodes.{full_stored}
 use Rattle.arrow_body_writer.specs.Align.{alignment_of}
 use Rattle.arrow_body_writer.proofs.body.put_full.Goals as goal
 
--- the node, and a buffer of no bytes
+-- the node, and an empty buffer
 pub returns : goal.returns
 returns c =
     on_ok_weaker c.put_bytes.result

@@ -12,13 +12,13 @@ use Rattle.arrow_body_writer.specs.Tally.{capped}
 use Rattle.arrow_body_writer.proofs.forms.+counted.Goals as goal
 use Rattle.arrow_body_writer.proofs.forms.+counted.Goals.{count_nodes-in-Some, count_nodes-in-None}
 
--- fewer fields stand below a field
+-- there are fewer fields below a field
 pub count_nodes-count_below-below-requires : goal.count_nodes-count_below-below-requires
 count_nodes-count_below-below-requires t c =
     let f = c.field-item.result in
     (omega (arith, c.decreases, fewer_below c.args.fields.now c.loop-field.field-index f c.loop-field-test.true c.field-item.is, ap (λ (s : TypeShape). count s.children) (same_type f)), tt)
 
--- one field more
+-- one more field
 pub count_nodes-loop-field-preserved : goal.count_nodes-loop-field-preserved
 count_nodes-loop-field-preserved t c =
     let f = c.field-item.result in

@@ -6,14 +6,14 @@ use Rattle.arrow_body_laws.specs.Formed.{AreFormed}
 use Rattle.arrow_body_writer.specs.Tally.{capped}
 use Rattle.arrow_body_writer.proofs.forms.+counted.Given as goal
 
--- fewer fields stand below
+-- there are fewer fields below
 abbrev pub decreases-count_nodes : goal.decreases-count_nodes
 decreases-count_nodes l = 2 * count (fields_view l.fields.now)
 
 abbrev pub decreases-count_below : goal.decreases-count_below
 decreases-count_below l = 2 * count (type_view l.data_type.now).children + 1
 
--- the nodes so far and those to come are all; all fields are formed where those to come are
+-- the nodes so far and those of the remaining fields are all nodes; all fields are formed if the remaining ones are
 abbrev pub invariant-count_nodes-loop-field : goal.invariant-count_nodes-loop-field
 invariant-count_nodes-loop-field l =
     (capped (l.count + taken_nodes (fields_view (drop l.field-index l.fields))) ≡ capped (taken_nodes (fields_view l.fields)))

@@ -14,7 +14,7 @@ copied : (e : Option (Bor Encoding)) → option_copied e ≡ option_map (λ (x :
 copied None = refl
 copied (Some e) = refl
 
--- below the type stand the fields that it asks for
+-- the type has the child fields that it needs
 pub returns-clause-raws : goal.returns-clause-raws
 returns-clause-raws c =
     let a = c.args.array.now in

@@ -6,7 +6,7 @@ use Rattle.arrow_body_laws.specs.Stored.{fields_of_columns}
 use Rattle.arrow_body_writer.proofs.Measures.{columns_from, none_left, raws_both}
 use Rattle.arrow_body_writer.proofs.forms.nodes_in_all.Goals as goal
 
--- one column more
+-- one more column
 pub loop-array-preserved : goal.loop-array-preserved
 loop-array-preserved c =
     let i = c.loop-array.array-index in

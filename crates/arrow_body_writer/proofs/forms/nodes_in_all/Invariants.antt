@@ -6,7 +6,8 @@ use Rattle.arrow_body_laws.specs.Stored.{fields_of_columns}
 use Rattle.arrow_body_writer.specs.Tally.{capped}
 use Rattle.arrow_body_writer.proofs.forms.nodes_in_all.Given as goal
 
--- the nodes so far and those of the columns to come are all; all raw values can be stored where those to come can
+-- the nodes so far and those of the remaining columns are all nodes; all raw values can be stored if those of the
+-- remaining columns can
 abbrev pub invariant-loop-array : goal.invariant-loop-array
 invariant-loop-array l =
     (capped (l.count + taken_nodes (fields_of_columns (drop l.array-index l.arrays))) ≡ capped (taken_nodes (fields_of_columns l.arrays)))

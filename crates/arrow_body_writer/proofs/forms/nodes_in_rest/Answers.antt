@@ -7,7 +7,7 @@ use Rattle.arrow_body_writer.proofs.Sources.{all_from_one}
 use Rattle.arrow_body_writer.specs.Source.{rest_of}
 use Rattle.arrow_body_writer.proofs.forms.nodes_in_rest.Goals as goal
 
--- below the type stand the fields that it asks for
+-- the type has the child fields that it needs
 pub returns-clause-raws : goal.returns-clause-raws
 returns-clause-raws c = λ from.
     let formed = subst (λ (s : TypeShape). HasFieldsOf (form_of s.tag) s.children × AreFormed s.children) c.data_type.ensures.same c.count_column.ensures.formed in

@@ -2,9 +2,9 @@ use Rattle.std.proofs.Common.{◌≡◌, ◌+◌, MatchOption, drop, sym, subst,
 use Rattle.arrow_body_laws.specs.Laws.{raws_of}
 use Rattle.arrow_body_laws.specs.Raws.{AreRaws}
 use Rattle.arrow_body_laws.specs.Stored.{fields_of_columns}
-use Rattle.arrow_body_writer.proofs.Measures.{IsMeasured, allowed_size, columns_from, if_allowed, measured_all, measured_next, measured_none, none_left, raws_both, told_one}
+use Rattle.arrow_body_writer.proofs.Measures.{IsMeasured, allowed_size, columns_from, if_allowed, measured_all, measured_next, measured_none, none_left, raws_both, represented_one}
 use Rattle.arrow_body_writer.specs.Align.{alignment_of}
-use Rattle.arrow_body_writer.specs.Storable.{AreTold, CanBeStored, columns_size}
+use Rattle.arrow_body_writer.specs.Storable.{AreRepresentable, CanBeStored, columns_size}
 use Rattle.arrow_body_writer.proofs.measured.body_size.Goals as goal
 
 -- nothing is measured yet
@@ -17,10 +17,10 @@ returns-then-nodes_in-clause-size c = λ stored.
     let i = c.loop-array.array-index in
     let a = c.array-item.result in
     let from = columns_from c.args.arrays.now i a c.loop-array-test.true c.array-item.is in
-    let told = told_one a (drop (i + 1) c.args.arrays.now) (subst AreTold from (c.loop-array.invariant.0.untold stored.told)) in
-    omega (arith, told.counted.0, c.nodes_in.ensures.count, c.if-nodes_in.true)
+    let represented = represented_one a (drop (i + 1) c.args.arrays.now) (subst AreRepresentable from (c.loop-array.invariant.0.unrepresented stored.represented)) in
+    omega (arith, represented.counted.0, c.nodes_in.ensures.count, c.if-nodes_in.true)
 
--- a column cannot be told
+-- a column is not representable
 pub returns-in_err-column-clause-size : goal.returns-in_err-column-clause-size
 returns-in_err-column-clause-size c =
     let i = c.loop-array.array-index in
@@ -28,9 +28,9 @@ returns-in_err-column-clause-size c =
     let all = c.args.arrays.now in
     let from = columns_from all i a c.loop-array-test.true c.array-item.is in
     subst (λ r. MatchOption r (CanBeStored (alignment_of c.args.align) all → ⊥) (λ size. CanBeStored (alignment_of c.args.align) all × (size ≡ columns_size (alignment_of c.args.align) all))) (sym c.from_residual.ensures)
-    (λ stored. c.in_err-column.ensures (told_one a (drop (i + 1) all) (subst AreTold from (c.loop-array.invariant.0.untold stored.told))))
+    (λ stored. c.in_err-column.ensures (represented_one a (drop (i + 1) all) (subst AreRepresentable from (c.loop-array.invariant.0.unrepresented stored.represented))))
 
--- one column more
+-- one more column
 pub loop-array-preserved : goal.loop-array-preserved
 loop-array-preserved c =
     let align = alignment_of c.args.align in

@@ -6,7 +6,8 @@ use Rattle.arrow_body_writer.proofs.Measures.{IsMeasured}
 use Rattle.arrow_body_writer.specs.Align.{alignment_of}
 use Rattle.arrow_body_writer.proofs.measured.body_size.Given as goal
 
--- the size so far and that of the columns to come are the size of all; all raw values can be stored where those to come can
+-- the size so far and the size of the remaining columns add up to the size of all columns; all raw values can be
+-- stored if those of the remaining columns can
 abbrev pub invariant-loop-array : goal.invariant-loop-array
 invariant-loop-array l =
     IsMeasured (alignment_of l.align) l.arrays (drop l.array-index l.arrays) l.size

@@ -10,9 +10,9 @@ use Rattle.arrow_body_writer.proofs.measured.rest_size.Goals as goal
 -- the column has too many nodes
 pub returns-then-nodes_in_rest-eq18446744073709551615-clause-size : goal.returns-then-nodes_in_rest-eq18446744073709551615-clause-size
 returns-then-nodes_in_rest-eq18446744073709551615-clause-size c = λ stored.
-    omega (arith, stored.told.counted.0, c.nodes_in_rest.ensures.count c.args.from, c.if-nodes_in_rest-eq18446744073709551615.true)
+    omega (arith, stored.represented.counted.0, c.nodes_in_rest.ensures.count c.args.from, c.if-nodes_in_rest-eq18446744073709551615.true)
 
--- it has few
+-- it has few enough nodes
 pub column_size-requires-clause-counted : goal.column_size-requires-clause-counted
 column_size-requires-clause-counted c = omega (arith, c.nodes_in_rest.ensures.count c.args.from, c.if-nodes_in_rest-eq18446744073709551615.false)
 

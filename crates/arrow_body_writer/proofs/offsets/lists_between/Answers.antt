@@ -3,7 +3,7 @@ use Rattle.arrow_body_laws.specs.Raws.{items_in_value}
 use Rattle.arrow_body_writer.proofs.Spanning.{spans_are}
 use Rattle.arrow_body_writer.proofs.offsets.lists_between.Goals as goal
 
--- they are those of the lists
+-- they are the offsets of the lists
 pub returns : goal.returns
 returns c =
     let held = c.in_ok-offsets.ensures in

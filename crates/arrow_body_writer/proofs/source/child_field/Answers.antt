@@ -5,11 +5,11 @@ use Rattle.arrow_data.specs.Column.{type_of_field}
 use Rattle.arrow_body_writer.proofs.Passing.{field_typed, same_encoding, same_type}
 use Rattle.arrow_body_writer.proofs.source.child_field.Goals as goal
 
--- there is a field at the place
+-- there is a field at the index
 pub bounds-children-k : goal.bounds-children-k
 bounds-children-k c = omega (arith, c.requires, ap width c.children.ensures.fields, width-fields_view c.children.result.now)
 
--- it is the one of that type and that encoding
+-- it is the field of that type and that encoding
 pub returns : goal.returns
 returns c =
     let fs = c.children.result.now in

@@ -8,7 +8,7 @@ use Rattle.arrow_body_writer.specs.Pass.{HasPlace, Takes, part_in}
 use Rattle.arrow_body_writer.specs.Sent.{LeadDown, sent_along}
 use Rattle.arrow_body_writer.proofs.source.take_rest.Goals as goal
 
--- nothing was taken yet
+-- nothing is taken yet
 pub loop-i-init : goal.loop-i-init
 loop-i-init c = (omega arith, takes_start (sent_along c.args.steps.now) c.args.pass.now c.args.dictionary.now.values c.args.from (along_more c.args.steps.now))
 
@@ -32,7 +32,7 @@ take_along-requires-clause-room c =
     subst (λ p. AllByRecursion (HasPlace p) (sent_along steps (values_from a.raw place end))) (sym c.loop-i.invariant.1.kept)
     (subst (AllByRecursion Place) (sym (run_sent steps d i a place end c.value-start.ensures c.len-stop.ensures.count)) range)
 
--- there is a place after the array's values
+-- there is an index after the array's values
 pub overflow_add-i : goal.overflow_add-i
 overflow_add-i c =
     omega (arith, run_inside c.args.dictionary.now c.loop-i.i c.value-start.result.0.now c.value-start.result.1 c.value-start.ensures, c.len-stop.ensures.count, c.len.ensures, c.loop-i-test.true)

@@ -4,7 +4,7 @@ use Rattle.arrow_bits.specs.Numbers.{number_at, number_bytes}
 use Rattle.arrow_body_writer.proofs.Moving.{low_four, moved_to_long, one_more, same_number}
 use Rattle.arrow_body_writer.proofs.spans.move_small.Goals as goal
 
--- one number more
+-- one more number
 pub loop-k-preserved : goal.loop-k-preserved
 loop-k-preserved c =
     let old = c.args.numbers.now in

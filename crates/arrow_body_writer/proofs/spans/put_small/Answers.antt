@@ -4,7 +4,7 @@ use Rattle.arrow_body_writer.proofs.Moving.{moved_none}
 use Rattle.arrow_body_writer.specs.Spans.{moved}
 use Rattle.arrow_body_writer.proofs.spans.put_small.Goals as goal
 
--- they are as they were
+-- they are unchanged
 pub returns-else-by-ne0 : goal.returns-else-by-ne0
 returns-else-by-ne0 c = λ n long.
     let numbers = c.args.numbers.now in

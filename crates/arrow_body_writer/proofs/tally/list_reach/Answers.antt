@@ -8,7 +8,7 @@ use Rattle.arrow_body_writer.proofs.tally.list_reach.Goals as goal
 pub len-requires : goal.len-requires
 len-requires c = c.in_ok-spans-in-Offsets.ensures.spans.there
 
--- they say how much the slots have
+-- they give the total length of the slots
 pub returns-in_ok-spans-in-Offsets : goal.returns-in_ok-spans-in-Offsets
 returns-in_ok-spans-in-Offsets c =
     let raw = c.args.slice.array.now.raw in

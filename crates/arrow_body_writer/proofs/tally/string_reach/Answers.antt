@@ -7,7 +7,7 @@ use Rattle.arrow_body_writer.proofs.tally.string_reach.Goals as goal
 pub len-requires : goal.len-requires
 len-requires c = c.in_ok-spans.ensures.spans.spans.there
 
--- they say how much the slots have
+-- they give the total length of the slots
 pub returns : goal.returns
 returns c =
     let raw = c.args.slice.array.now.raw in

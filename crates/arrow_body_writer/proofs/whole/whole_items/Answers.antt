@@ -9,7 +9,7 @@ returns-in-Some c =
     let ends : c.in-Some.all.stop ≡ length c.in-Some.all.array.now.raw = search rules in
     run_whole c.args.array.now c.in-Some.all.array.now c.len-stop.result c.in-Some.all.start c.in-Some.all.stop c.in_ok-own.ensures.is_list c.in-Some.ensures c.len-stop.ensures.count begins ends
 
--- also where there are none
+-- also if there are none
 pub returns-in-None : goal.returns-in-None
 returns-in-None c =
     let empty : length c.in_ok-own.own.now.raw ≡ 0 = search rules in

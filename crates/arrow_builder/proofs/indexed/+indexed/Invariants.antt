@@ -5,7 +5,7 @@ use Rattle.arrow_builder.specs.Built.{Built, built_size, cut_to, fields_in}
 use Rattle.arrow_builder.specs.Finished.{AreIndexed}
 use Rattle.arrow_builder.proofs.indexed.+indexed.Given as goal
 
--- all are exactly where those to come are
+-- all have their values if and only if those to come have
 abbrev pub invariant-all_indexed-loop-node : goal.invariant-all_indexed-loop-node
 invariant-all_indexed-loop-node l =
     AllByRecursion (λ (b : Built). AreIndexed l.dictionaries.entries.now (cut_to l.len b)) (drop l.node-index l.nodes) ↔ AllByRecursion (λ (b : Built). AreIndexed l.dictionaries.entries.now (cut_to l.len b)) l.nodes

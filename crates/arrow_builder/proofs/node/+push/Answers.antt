@@ -54,7 +54,7 @@ push_parts-push_at-requires t c =
       ),
     )
 
--- the columns where one was not put
+-- the columns if one part could not be put
 push_parts-broken : goal.push_parts-returns-in_err-push_at-clause-err
 push_parts-broken t c =
     let d = c.index-nodes-k.result in

@@ -6,7 +6,7 @@ use Rattle.arrow_builder.specs.declared.tally.Tally.{size-Tally}
 use Rattle.arrow_builder.proofs.Counting.{Gives, UpTo}
 use Rattle.arrow_builder.proofs.tally.+add.Given as goal
 
--- what the first children are given was counted
+-- what the value contributes to the first children was counted
 abbrev pub invariant-add_below-loop-k : goal.invariant-add_below-loop-k
 invariant-add_below-loop-k l = UpTo (Gives l.given.form (value_view l.given.value.now ∷ []) true) l.k 0 l.initial.tallies l.tallies
 

@@ -5,7 +5,7 @@ use Rattle.arrow_builder.specs.declared.tally.Tally.{size-Tally}
 use Rattle.arrow_builder.proofs.Counting.{Gives, UpTo}
 use Rattle.arrow_builder.proofs.tally.+nulls.Given as goal
 
--- what the first children are given was counted
+-- what the nulls contribute to the first children was counted
 abbrev pub invariant-nulls_below-loop-k : goal.invariant-nulls_below-loop-k
 invariant-nulls_below-loop-k l = UpTo (Gives l.form (replicate l.count null_value) true) l.k 0 l.initial.tallies l.tallies
 

@@ -6,7 +6,7 @@ use Rattle.arrow_types.specs.View.{field_view, fields_view}
 use Rattle.arrow_builder.specs.Finished.{IsTyped}
 use Rattle.arrow_builder.proofs.typed.+typed.Given as goal
 
--- all are typed exactly where those to come are
+-- all are typed if and only if those to come are
 abbrev pub invariant-all_typed-loop-field : goal.invariant-all_typed-loop-field
 invariant-all_typed-loop-field l =
     AllByRecursion (IsTyped l.dictionaries.entries.now) (dictionary_fields (fields_view (drop l.field-index l.fields)))

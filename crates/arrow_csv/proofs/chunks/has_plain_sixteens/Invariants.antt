@@ -2,7 +2,7 @@ use Rattle.std.proofs.Common.{◌≤◌, ◌-◌, length}
 use Rattle.arrow_csv.specs.Chunks.{AreAllPlain}
 use Rattle.arrow_csv.proofs.chunks.has_plain_sixteens.Given as goal
 
--- the bytes so far call for no quotes
+-- the bytes so far need no quotes
 abbrev pub invariant-loop-place : goal.invariant-loop-place
 invariant-loop-place l = (l.place ≤ length l.field) × AreAllPlain l.field 0 l.place
 

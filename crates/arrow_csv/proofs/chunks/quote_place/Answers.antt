@@ -16,7 +16,7 @@ returns-then-marks-ne0-clause-inside c =
     let first = chunk_marked c.args.field.now c.loop-place.place 16 (omega arith) (omega arith) (omega (arith, marks.ensures)) ∙ ap (count_trailing_zeros 64) (sym marks.ensures) in
     omega (arith, first, mark_inside c.args.field.now c.loop-place.place c.loop-place.invariant.1)
 
--- a chunk without one is passed over
+-- a chunk without one is skipped
 pub loop-place-preserved : goal.loop-place-preserved
 loop-place-preserved c =
     let passed = chunk_passed c.args.field.now c.loop-place.place 16 (omega arith) (omega (arith, c.marks_of_sixteen-marks.ensures)) in

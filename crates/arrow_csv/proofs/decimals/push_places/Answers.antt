@@ -5,7 +5,7 @@ use Rattle.std.specs.Int.{w8, w128}
 use Rattle.arrow_csv.proofs.DecimalTexts.{exponent_text}
 use Rattle.arrow_csv.proofs.decimals.push_places.Goals as goal
 
--- the exponent is how many zeros follow the digits
+-- the exponent is the number of zeros that follow the digits
 pub returns-in_ok-push : goal.returns-in_ok-push
 returns-in_ok-push c =
     let scale = to_z-of_z w8 c.args.scale c.ranges.scale in

@@ -9,7 +9,7 @@ use Rattle.arrow_csv.specs.Wide.{wide_number, without_zeros}
 use Rattle.arrow_csv.proofs.LastDigits.{length-last_digits, trimmed}
 use Rattle.arrow_csv.proofs.decimals.push_wide.Goals as goal
 
--- without the zeros in front the digits are those of the number
+-- without leading zeros the digits are those of the number
 pub returns-else-number-eq0 : goal.returns-else-number-eq0
 returns-else-number-eq0 c =
     let scale = to_z-of_z w8 c.args.scale c.ranges.scale in

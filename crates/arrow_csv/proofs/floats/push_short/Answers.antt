@@ -3,7 +3,7 @@ use Rattle.std.proofs.lemmas.Result.{on_ok_weaker}
 use Rattle.arrow_csv.proofs.Numerals.{float_plain}
 use Rattle.arrow_csv.proofs.floats.push_short.Goals as goal
 
--- what is appended is the text, which calls for no quotes
+-- the bytes appended are the text, which needs no quotes
 pub returns : goal.returns
 returns g c =
     let text = c.format.result.now in

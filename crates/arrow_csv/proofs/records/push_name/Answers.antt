@@ -9,7 +9,7 @@ use Rattle.arrow_csv.specs.Records.{names}
 use Rattle.arrow_csv.proofs.Naming.{name_before}
 use Rattle.arrow_csv.proofs.records.push_name.Goals as goal
 
--- the field there is the one whose name stands behind the others now
+-- the name of the field at that index now follows the others
 pub returns-in-Some-clause-name : goal.returns-in-Some-clause-name
 returns-in-Some-clause-name c =
     let fs = c.args.fields.now in

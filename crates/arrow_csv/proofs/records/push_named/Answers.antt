@@ -7,7 +7,7 @@ use Rattle.arrow_csv.specs.Records.{names}
 use Rattle.arrow_csv.proofs.Naming.{names_next}
 use Rattle.arrow_csv.proofs.records.push_named.Goals as goal
 
--- one name more stands there, where a field has it
+-- one more name was appended, if a field has it
 pub loop-name-preserved : goal.loop-name-preserved
 loop-name-preserved c =
     let ns = c.args.wanted.now in

@@ -5,7 +5,7 @@ use Rattle.arrow_csv.specs.Named.{fields_named}
 use Rattle.arrow_csv.specs.Records.{names}
 use Rattle.arrow_csv.proofs.records.push_named.Given as goal
 
--- what stands in the record, and the names to come, are the whole
+-- the names in the record, and those to come, are the complete list
 abbrev pub invariant-loop-name : goal.invariant-loop-name
 invariant-loop-name l =
     (fields_of l.line ++ names (fields_named (map (λ name. name.now) (drop l.name-index l.wanted)) (fields_view l.fields)) ≡ fields_of l.fn.line ++ names (fields_named (map (λ name. name.now) l.wanted) (fields_view l.fields)))

@@ -15,7 +15,7 @@ use Rattle.arrow_csv.proofs.Joining.{appends_weaker, as_many, items_more, list_t
 use Rattle.arrow_csv.proofs.texts.+text.Goals as goal
 use Rattle.arrow_csv.proofs.texts.+text.Goals.{push_items-then-k-start+in_ok-push-2, push_items-else-k-start, push_parts-then-k-gt0+in_ok-push-2, push_parts-else-k-gt0}
 
--- the items of a slot lie inside of the child, which is smaller
+-- the items of a slot lie inside the child, which is smaller
 pub push_value-push_items-requires : goal.push_value-push_items-requires
 push_value-push_items-requires t c =
     let h = subst (HoldsValue c.args.column.now c.args.i) c.in-List.is c.requires.holds in
@@ -30,7 +30,7 @@ push_value-push_parts-requires t c =
     let same = c.children.ensures.fields ∙ ap (λ x. x.children) c.data_type-in-Struct.ensures in
     (omega (arith, c.decreases, m), (subst (λ f. AreOf f c.in-Struct.children.now) (sym same) h.typed, h.inside))
 
--- what the items make is a text of the list
+-- the text made of the items is a text of the list
 pub push_value-returns-in-List : goal.push_value-returns-in-List
 push_value-returns-in-List t c =
     let column = c.args.column.now in
@@ -60,7 +60,7 @@ push_value-returns-in-Bytes t c =
     on_ok_weaker c.push_binary.result (appends_weaker (IsPlain (λ text. text ≡ bytes_text type.tag bytes)) (IsItemText column.data_type (value_at column.resolved c.args.i)) _ _
     (λ text is. binary_text (codes "null") column.data_type type (value_at column.resolved c.args.i) bytes text h c.data_type-in-Bytes.ensures is.0)) c.push_binary.ensures
 
--- what the fields make is a text of the struct
+-- the text made of the fields is a text of the struct
 pub push_value-returns-in-Struct : goal.push_value-returns-in-Struct
 push_value-returns-in-Struct t c =
     let column = c.args.column.now in

@@ -1,4 +1,4 @@
--- The three patterns are those of what is no number and of the infinite numbers.
+-- The three patterns are those of NaN and of the infinite numbers.
 use Rattle.std.proofs.Common.{◌∙◌, ap, arith, cond, ne_eqb, eq-eqb, sym}
 use Rattle.std.specs.Float.{inf, nan}
 use Rattle.arrow_data.proofs.Widened.{inf_is, minus_inf_is, nan_is}

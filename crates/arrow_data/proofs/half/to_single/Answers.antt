@@ -1,4 +1,4 @@
--- The number is that of the fields, with one digit more.
+-- The number is that of the fields, with one more digit.
 use Rattle.std.proofs.Common.{◌∙◌, ap₂, arith, leb}
 use Rattle.arrow_data.proofs.Widened.{half_of_others, half_of_small}
 use Rattle.arrow_data.specs.Half.{half_of_fields}

@@ -1,7 +1,7 @@
 use Rattle.arrow_data.proofs.Indices.{indices_at_most}
 use Rattle.arrow_data.proofs.layout.are_all_indices.Goals as goal
 
--- no number is above the last index exactly where each slot has an index
+-- no number is above the last index exactly when each slot has an index
 pub returns : goal.returns
 returns c =
     let same = indices_at_most c.args.indices.values.now c.args.len c.args.indices.width c.args.count c.last_index-last.result c.args.indices.signed c.hold_bytes.ensures c.requires.inside c.last_index-last.ensures in

@@ -4,7 +4,7 @@ use Rattle.arrow_data.specs.Slots.{place_of}
 use Rattle.arrow_data.proofs.Cuts.{ascii_texts, cuts_texts}
 use Rattle.arrow_data.proofs.texts.are_slots_utf8.Goals as goal
 
--- where all bytes are ASCII each slot is a text
+-- if all bytes are ASCII, each slot is a text
 pub returns-then-is_ascii : goal.returns-then-is_ascii
 returns-then-is_ascii c =
     let s = c.args.strings in

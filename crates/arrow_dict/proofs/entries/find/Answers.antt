@@ -2,7 +2,7 @@ use Rattle.std.proofs.Common.{refl, sym}
 use Rattle.arrow_dict.proofs.Places.{at_passed, found_at, gap_passed, listed_gap}
 use Rattle.arrow_dict.proofs.entries.find.Goals as goal
 
--- the entry at the place of the id is listed for it
+-- the entry at the index of the id is listed for it
 pub returns-in-Ok : goal.returns-in-Ok
 returns-in-Ok c =
     let ds = c.args.entries.now in

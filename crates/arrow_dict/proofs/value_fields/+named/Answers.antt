@@ -7,13 +7,13 @@ use Rattle.arrow_types.proofs.Fields.{fewer_below, fields_from}
 use Rattle.arrow_dict.proofs.Naming.{same_step}
 use Rattle.arrow_dict.proofs.value_fields.+named.Goals as goal
 
--- fewer fields stand below a field
+-- there are fewer fields below a field
 pub add_fields-requires : goal.add_fields-requires
 add_fields-requires t c =
     let fewer = fewer_below c.args.fields.now c.loop-field.field-index c.field-item.result c.loop-field-test.true c.field-item.is in
     (omega (arith, c.decreases, fewer, ap count c.children.ensures.fields), tt)
 
--- one field is done, with all that stand below it
+-- one field is done, with all fields below it
 pub loop-field-preserved : goal.loop-field-preserved
 loop-field-preserved t c =
     let f = c.field-item.result in

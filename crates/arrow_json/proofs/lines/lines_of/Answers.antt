@@ -2,7 +2,7 @@ use Rattle.std.proofs.Common.{arith}
 use Rattle.arrow_json.proofs.Rows.{between_more}
 use Rattle.arrow_json.proofs.lines.lines_of.Goals as goal
 
--- one row more is written
+-- one more row is written
 pub loop-i-preserved : goal.loop-i-preserved
 loop-i-preserved c =
     let l = c.loop-i.invariant in (

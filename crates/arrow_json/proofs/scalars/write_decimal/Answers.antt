@@ -7,7 +7,7 @@ use Rattle.arrow_json.proofs.Asciis.{decimal_utf8, in_room}
 use Rattle.arrow_json.proofs.DecimalNumbers.{decimal_is_number}
 use Rattle.arrow_json.proofs.scalars.write_decimal.Goals as goal
 
--- the text in the room is that of the decimal, which is a number
+-- the text in the scratch buffer is that of the decimal, which is a JSON number
 pub number-requires-clause-number : goal.number-requires-clause-number
 number-requires-clause-number c =
     let scale = to_z w8 (of_z w8 c.args.scale) in

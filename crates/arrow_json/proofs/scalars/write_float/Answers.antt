@@ -7,7 +7,7 @@ use Rattle.arrow_json.specs.Scalars.{IsFloatJson}
 use Rattle.arrow_json.specs.Written.{Adds}
 use Rattle.arrow_json.proofs.scalars.write_float.Goals as goal
 
--- of 16 bits the equal number of 32 bits is written
+-- for 16 bits the equal number of 32 bits is written
 pub returns-in-Half : goal.returns-in-Half
 returns-in-Half c =
     let old = c.args.pen.now.writer in
@@ -17,7 +17,7 @@ returns-in-Half c =
     subst (λ (x : Float). OnOk c.write_single.result (Adds (IsFloatJson (text_format Half) x) old new)) value c.write_single.ensures in
     subst (λ p. OnOk c.write_single.result (Adds (IsFloatJson (text_format p) (number_of p c.args.bits)) old new)) (sym c.in-Half.is) own
 
--- of 32 bits the number itself
+-- for 32 bits the number itself
 pub returns-in-Single : goal.returns-in-Single
 returns-in-Single c =
     let old = c.args.pen.now.writer in
@@ -27,7 +27,7 @@ returns-in-Single c =
     subst (λ (x : Float). OnOk c.write_single-in-Single.result (Adds (IsFloatJson (text_format Single) x) old new)) value c.write_single-in-Single.ensures in
     subst (λ p. OnOk c.write_single-in-Single.result (Adds (IsFloatJson (text_format p) (number_of p c.args.bits)) old new)) (sym c.in-Single.is) own
 
--- and of 64 bits
+-- and for 64 bits
 pub returns-in-Double : goal.returns-in-Double
 returns-in-Double c =
     let old = c.args.pen.now.writer in

@@ -9,7 +9,7 @@ use Rattle.arrow_json.specs.Scalars.{IsNumberJson}
 use Rattle.arrow_json.proofs.Joining.{adds_same}
 use Rattle.arrow_json.proofs.scalars.write_int.Goals as goal
 
--- a decimal is one of its scale
+-- a decimal has its scale
 pub returns-in-Decimal : goal.returns-in-Decimal
 returns-in-Decimal c =
     let z = c.args.number in
@@ -20,7 +20,7 @@ returns-in-Decimal c =
     let is : IsNumberJson c.args.kind z (number text) = subst (λ kind. IsNumberJson kind z (number text)) (sym c.in-Decimal.is) (λ i. number (decimal_text (scale i) (whole i))) in
     on_ok_weaker c.write_decimal.result (adds_same (IsNumberJson c.args.kind z) (number text) c.args.pen.now.writer c.write_decimal.new.pen.writer is) c.write_decimal.ensures
 
--- an interval is so many months
+-- an interval is that many months
 pub returns-in-Interval : goal.returns-in-Interval
 returns-in-Interval c =
     let z = c.args.number in
@@ -29,7 +29,7 @@ returns-in-Interval c =
     let is : IsNumberJson c.args.kind z (string text) = subst (λ kind. IsNumberJson kind z (string text)) (sym c.in-Interval.is) (λ i. string (months_text (whole i))) in
     on_ok_weaker c.write_months.result (adds_same (IsNumberJson c.args.kind z) (string text) c.args.pen.now.writer c.write_months.new.pen.writer is) c.write_months.ensures
 
--- any other number is a whole one
+-- any other number is a whole number
 pub returns-in-Plain : goal.returns-in-Plain
 returns-in-Plain c =
     let z = c.args.number in

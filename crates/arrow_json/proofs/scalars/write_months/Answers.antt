@@ -5,7 +5,7 @@ use Rattle.arrow_csv.specs.Intervals.{months_text}
 use Rattle.arrow_json.proofs.Asciis.{in_room, months_utf8}
 use Rattle.arrow_json.proofs.scalars.write_months.Goals as goal
 
--- the text in the room is that of the months
+-- the text in the scratch buffer is that of the months
 pub string-requires : goal.string-requires
 string-requires c =
     let months = to_z w128 (of_z w128 c.args.months) in

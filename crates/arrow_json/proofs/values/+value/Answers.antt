@@ -15,7 +15,7 @@ use Rattle.arrow_json.specs.Values.{IsArrayOf, IsJson, IsObjectOf}
 use Rattle.arrow_json.proofs.Joining.{adds_token, adds_weaker, binary_json, items_done, items_more, list_json, number_json, parts_done, parts_more, struct_json}
 use Rattle.arrow_json.proofs.values.+value.Goals as goal
 
--- the items of a slot lie inside of the child, which is smaller
+-- the items of a slot lie inside the child, which is smaller
 pub write_value-write_items-requires : goal.write_value-write_items-requires
 write_value-write_items-requires t c =
     let h = subst (HoldsValue c.args.column.now c.args.i) c.in-List.is c.requires.holds in
@@ -30,7 +30,7 @@ write_value-write_parts-requires t c =
     let same = c.children.ensures.fields ∙ ap (λ x. x.children) c.data_type-in-Struct.ensures in
     (omega (arith, c.decreases, m), (subst (λ f. AreOf f c.in-Struct.children.now) (sym same) h.typed, h.inside))
 
--- a null is one
+-- a null is written as null
 pub write_value-returns-in-Null : goal.write_value-returns-in-Null
 write_value-returns-in-Null t c =
     let column = c.args.column.now in
@@ -38,7 +38,7 @@ write_value-returns-in-Null t c =
     let is : IsJson column.data_type (value_at column.resolved c.args.i) null = subst (λ v. IsJson column.data_type v null) (sym h) refl in
     on_ok_weaker c.null.result (λ put. adds_token (IsJson column.data_type (value_at column.resolved c.args.i)) null c.args.pen.now.writer c.null.new.self is put c.null.ensures.room.0) c.null.ensures.ok
 
--- so is a truth value
+-- a truth value as true or false
 pub write_value-returns-in-Bool : goal.write_value-returns-in-Bool
 write_value-returns-in-Bool t c =
     let column = c.args.column.now in
@@ -47,7 +47,7 @@ write_value-returns-in-Bool t c =
     let is : IsJson column.data_type (value_at column.resolved c.args.i) (boolean b) = subst (λ v. IsJson column.data_type v (boolean b)) (sym h) refl in
     on_ok_weaker c.boolean.result (λ put. adds_token (IsJson column.data_type (value_at column.resolved c.args.i)) (boolean b) c.args.pen.now.writer c.boolean.new.self is put c.boolean.ensures.room.0) c.boolean.ensures.ok
 
--- and a text
+-- and a text as a string
 pub write_value-returns-in-Text : goal.write_value-returns-in-Text
 write_value-returns-in-Text t c =
     let column = c.args.column.now in
@@ -67,7 +67,7 @@ write_value-returns-in-Int t c =
     on_ok_weaker c.write_int.result (adds_weaker (IsNumberJson c.of.result (to_z w128 (of_z w128 z))) (IsJson column.data_type (value_at column.resolved c.args.i)) c.args.pen.now.writer c.write_int.new.pen.writer
     (λ json is. number_json column.data_type c.of.result (value_at column.resolved c.args.i) (to_z w128 (of_z w128 z)) json (h ∙ ap int_value (sym same)) kind is)) c.write_int.ensures
 
--- that of the bytes is that of the value
+-- the JSON of the bytes is that of the value
 pub write_value-returns-in-Bytes : goal.write_value-returns-in-Bytes
 write_value-returns-in-Bytes t c =
     let column = c.args.column.now in

@@ -1,5 +1,5 @@
 use Rattle.std.proofs.Common.{◌≡◌, ◌≤◌, ℕ, Some, sym, rules, arith}
-use Rattle.arrow_flatbuf.specs.Place.{behind}
+use Rattle.arrow_flatbuf.specs.Place.{past}
 use Rattle.arrow_flatbuf.specs.Table.{field_place, table_at}
 use Rattle.arrow_meta_reader.specs.Means.{header_view}
 use Rattle.arrow_meta_reader.specs.Codes.{metadata_version}
@@ -12,9 +12,9 @@ returns c =
     let t = c.in_ok-table.table in
     let inner = c.in-Ok-Some.inner in
     let n = c.in_ok-body_len.body_len in
-    let there : (p : ℕ) × (field_place t 2 ≡ Some p) × (behind table_at t.bytes p ≡ Some inner) = rw c.in-Ok-Some.field-0-is at c.in-Ok-Some.ensures.answer in
+    let there : (p : ℕ) × (field_place t 2 ≡ Some p) × (past table_at t.bytes p ≡ Some inner) = rw c.in-Ok-Some.field-0-is at c.in-Ok-Some.ensures.answer in
     let same : inner.bytes ≡ t.bytes = rw c.in-Ok-Some.field-0-is at c.in-Ok-Some.ensures.bytes in
-    let root : behind table_at bytes 0 ≡ Some t = sym c.in_ok-table.ensures.value in
+    let root : past table_at bytes 0 ≡ Some t = sym c.in_ok-table.ensures.value in
     let read : metadata_version c.in_ok-number.number ≡ Some c.in_ok-version.version = search rules in
     let high : n ≤ c.args.limits.now.max_body = search rules in
     let low : n ≤ 9223372036854775807 = omega (arith, high, c.max_body.ensures.value, c.max_body.ensures.ceiling) in

@@ -12,7 +12,7 @@ returns-in-Some-clause-fields c = children_fields 5 (plain_all c.args.parts.now)
 pub returns-in-Some-clause-smaller : goal.returns-in-Some-clause-smaller
 returns-in-Some-clause-smaller c = children_size 5 (plain_all c.args.parts.now) _ (plain_all c.tables_of.result.now) c.in-Some.ensures.found c.tables_of.ensures.smaller
 
--- where no vector stands there are no children
+-- without a vector there are no children
 pub returns-in-None-clause-fields : goal.returns-in-None-clause-fields
 returns-in-None-clause-fields c = sym (fields_at_nth 5 (plain_all c.args.parts.now) ∙ ap fields_in c.in-None.ensures.found)
 

@@ -16,8 +16,8 @@ decreases-fields c = size (plain c.tree)
 abbrev pub decreases-fields_of : goal.decreases-fields_of
 decreases-fields_of c = size_all (plain_all c.tables.items)
 
--- The tables to come are no more than all of them, and what is found in them is found in all. The fields so far, and
--- those to come, are all, and so is what is noted at them.
+-- The remaining tables are no more than all of them, and a misfit in them is one in all. The fields so far and those
+-- still to be built are all of them, and so are their custom metadata.
 abbrev pub invariant-fields_of-loop-table : goal.invariant-fields_of-loop-table
 invariant-fields_of-loop-table l =
     (goal.iterator-fields_of-loop-table).can_next l.table-iterator ×

@@ -15,14 +15,14 @@ returns-in_ok-tree_counted-in-None-clause-decoded c =
     let read = c.in_ok-tree_counted-in-None.ensures.found in
     decoded c.judge.result c.args.limits.now c.args.bytes.now c.in_ok-tree_counted-in-None.field-0 (record { lies = read.0; within = read.1 }) c.judge.ensures.judged
 
--- what was counted is what the tree has
+-- the counts taken are those of the tree
 pub returns-in_ok-tree_counted-in-None-clause-counted : goal.returns-in_ok-tree_counted-in-None-clause-counted
 returns-in_ok-tree_counted-in-None-clause-counted c =
     let read = c.in_ok-tree_counted-in-None.ensures.found in
     counted c.judge.result c.args.limits.now c.args.bytes.now c.in_ok-tree_counted-in-None.field-0 c.tree_counted.new.work
     (record { lies = read.0; within = read.1 }) c.in_ok-tree_counted-in-None.ensures.counted
 
--- with a fault of its own too
+-- also with a fault of the tree
 pub returns-in_ok-tree_counted-in-None-clause-ends : goal.returns-in_ok-tree_counted-in-None-clause-ends
 returns-in_ok-tree_counted-in-None-clause-ends c =
     let read = c.in_ok-tree_counted-in-None.ensures.found in

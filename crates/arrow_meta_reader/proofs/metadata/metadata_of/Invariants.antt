@@ -5,7 +5,7 @@ use Rattle.arrow_meta_reader.specs.SchemaMeaning.{metadata_from}
 use Rattle.arrow_meta_reader.specs.Views.{plain_all}
 use Rattle.arrow_meta_reader.proofs.metadata.metadata_of.Given as goal
 
--- the pairs so far, and those to come, are all
+-- the pairs so far, and those still to be built, are all
 abbrev pub invariant-loop-table : goal.invariant-loop-table
 invariant-loop-table l =
     (goal.iterator-loop-table).can_next l.table-iterator ×

@@ -2,19 +2,19 @@ use Rattle.std.proofs.Common.{◌≡◌, false, ℕ, ◌≤◌, ◌-◌, List, s
 use Rattle.std.proofs.lemmas.Result.{err_from_is_err_and}
 use Rattle.arrow_types.specs.declared.type_set.TypeSet.{TypeSet}
 use Rattle.arrow_meta_reader.specs.Reads.{Ends, NoneFits, Faulty, room}
-use Rattle.arrow_meta_reader.specs.Lies.{Stands, LiesAtRoot}
+use Rattle.arrow_meta_reader.specs.Lies.{Placed, LiesAtRoot}
 use Rattle.arrow_meta_reader.specs.Trees.{Tree}
 use Rattle.arrow_meta_reader.specs.Views.{plain}
 use Rattle.arrow_meta_reader.specs.Within.{levels, visits, entries, text_bytes, Room, Spends, IsWithin}
 use Rattle.arrow_meta_reader.specs.Grows.{Grows, root, whole}
-use Rattle.arrow_meta_reader.proofs.Roots.{root_lies, root_stands}
+use Rattle.arrow_meta_reader.proofs.Roots.{root_lies, root_placed}
 use Rattle.arrow_meta_reader.proofs.Spots.{faulty_so}
 use Rattle.arrow_meta_reader.proofs.reader.tree_counted.Goals as goal
 
--- where no tree fits, none is within the limits
+-- if no tree fits, none is within the limits
 none_within : (types : TypeSet) (bytes : List ℕ) (max_metadata : ℕ) → NoneFits bytes (root types) 32 (whole max_metadata) → (x : Tree) → LiesAtRoot types x bytes → ¬ (IsWithin max_metadata x)
 none_within types bytes max_metadata never x h w =
-    never x (root_stands types bytes x h) (record {
+    never x (root_placed types bytes x h) (record {
       levels_fit = w.shallow.levels_within;
       visits_fit = w.shallow.visits_within;
       entries_fit = w.shallow.entries_within;
@@ -22,7 +22,7 @@ none_within types bytes max_metadata never x h w =
     })
 
 -- a tree that was read at the root within the whole room lies there, and is within the limits
-lies_within : (types : TypeSet) (bytes : List ℕ) (max_metadata : ℕ) (x : Tree) (new : Room) → Stands bytes (root types) x × (levels x ≤ 32) × Spends (whole max_metadata) new (visits x) (entries x) (text_bytes x) → LiesAtRoot types x bytes × IsWithin max_metadata x
+lies_within : (types : TypeSet) (bytes : List ℕ) (max_metadata : ℕ) (x : Tree) (new : Room) → Placed bytes (root types) x × (levels x ≤ 32) × Spends (whole max_metadata) new (visits x) (entries x) (text_bytes x) → LiesAtRoot types x bytes × IsWithin max_metadata x
 lies_within types bytes max_metadata x new h = (
   root_lies types bytes x h.0,
   record {
@@ -35,7 +35,7 @@ lies_within types bytes max_metadata x new h = (
   },
 )
 
--- what a reader may spend that has read nothing
+-- the room of a reader that has read nothing
 abbrev unspent : ℕ → Room
 unspent max_metadata = record { visits = 65536; entries = 65536; text = max_metadata - 0 }
 
@@ -49,7 +49,7 @@ pub returns-clause-found : goal.returns-clause-found
 returns-clause-found c =
     let x = plain c.in_ok-found.field-0 in
     let n = c.max_metadata.result in
-    let P : Room → Type 0 = λ left. Stands c.args.bytes.now (root c.types.result) x × (levels x ≤ 32) × Spends left (room c.root-found.new.self) (visits x) (entries x) (text_bytes x) in
+    let P : Room → Type 0 = λ left. Placed c.args.bytes.now (root c.types.result) x × (levels x ≤ 32) × Spends left (room c.root-found.new.self) (visits x) (entries x) (text_bytes x) in
     rw (← c.max_metadata.ensures.value, ← c.types.ensures)
     (lies_within c.types.result c.args.bytes.now n x (room c.root-found.new.self) (subst P (all_left n) c.in_ok-found.ensures.read))
 
@@ -61,7 +61,7 @@ returns-in_err-found-clause-none c =
     rw (← c.max_metadata.ensures.value, ← c.types.ensures, failed.1, failed.2)
     (faulty_so c.in_err-found.field-0.0 _ _ _ _ (none_within c.types.result c.args.bytes.now n) (λ g. g) (subst P (all_left n) c.in_err-found.ensures.read))
 
--- what was counted is what the whole room had, and no longer has
+-- the counts are the difference between the whole room and the room that is left
 pub returns-in_err-found-clause-ends : goal.returns-in_err-found-clause-ends
 returns-in_err-found-clause-ends c =
     let n = c.max_metadata.result in

@@ -1,6 +1,6 @@
 use Rattle.std.proofs.Common.{refl, ◌≡◌, ℕ, ◌+◌, ◌-◌, List, [], ◌∷◌, length, map, arith, rules, sym}
 use Rattle.std.proofs.Common.{ap, ◌∙◌}
-use Rattle.arrow_flatbuf.specs.declared.layout.Slot.TheVariants.{Scalar, Target}
+use Rattle.arrow_flatbuf.specs.declared.layout.FieldValue.TheVariants.{Scalar, Target}
 use Rattle.arrow_flatbuf.specs.declared.layout.Width.TheVariants.{Eight}
 use Rattle.arrow_flatbuf.specs.Layout.{up, gap}
 use Rattle.arrow_flatbuf.specs.Nodes.{cells_place, after, pairs, offset, last}
@@ -24,8 +24,8 @@ returns-clause-slots c =
     let rest = offset (pairs buffers) last in
     let at_nodes = exact_table c.batch_table_end-nodes.result p p cs (c.batch_table_end-nodes.ensures.end b) refl c.requires.room in
     let counted = ap (λ (ns : List FieldNode). length ns) c.as_slice.ensures.value ∙ sym (length-map b.nodes node_pair) in
-    let behind_nodes = pairs_after c.batch_table_end-nodes.result _ nodes c.pairs_end-buffers.result counted c.pairs_end-buffers.ensures.end in
-    let at_buffers = exact_after c.batch_table_end-nodes.result c.pairs_end-buffers.result q (pairs nodes) rest behind_nodes at_nodes c.requires.room in
+    let after_nodes = pairs_after c.batch_table_end-nodes.result _ nodes c.pairs_end-buffers.result counted c.pairs_end-buffers.ensures.end in
+    let at_buffers = exact_after c.batch_table_end-nodes.result c.pairs_end-buffers.result q (pairs nodes) rest after_nodes at_nodes c.requires.room in
     let r = after q (pairs nodes) in
     let first_place : c.aligned.result - 4 ≡ q + gap 8 (q + 4) = ap (λ (n : ℕ). n - 4) (c.aligned.ensures.value ∙ ap (λ (n : ℕ). up 8 (n + 4)) at_nodes) ∙ omega arith in
     let second_place : c.aligned-2.result - 4 ≡ r + gap 8 (r + 4) = ap (λ (n : ℕ). n - 4) (c.aligned-2.ensures.value ∙ ap (λ (n : ℕ). up 8 (n + 4)) at_buffers) ∙ omega arith in

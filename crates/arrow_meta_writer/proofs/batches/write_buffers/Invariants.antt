@@ -4,7 +4,7 @@ use Rattle.arrow_meta_writer.specs.Layouts.{buffer_pair}
 use Rattle.arrow_meta_writer.specs.Writable.{AreBuffers}
 use Rattle.arrow_meta_writer.proofs.batches.write_buffers.Given as goal
 
--- what stands there and the pairs to come are the whole vector
+-- the bytes so far and the remaining pairs are the complete vector
 abbrev pub invariant-loop-buffer : goal.invariant-loop-buffer
 invariant-loop-buffer l = record {
   left : l.writer ++ pair_bytes (map buffer_pair (drop l.buffer-index l.buffers)) ≡ l.fn.writer ++ laid (length l.fn.writer) (pairs (map buffer_pair l.buffers));

@@ -1,5 +1,5 @@
 use Rattle.std.proofs.Common.{◌≡◌, ℕ, [], ◌∷◌, length, arith, rules, ap, ◌∙◌}
-use Rattle.arrow_flatbuf.specs.declared.layout.Slot.TheVariants.{Scalar, Target}
+use Rattle.arrow_flatbuf.specs.declared.layout.FieldValue.TheVariants.{Scalar, Target}
 use Rattle.arrow_flatbuf.specs.declared.layout.Width.TheVariants.{One, Two, Eight}
 use Rattle.arrow_flatbuf.specs.Layout.{table_place}
 use Rattle.arrow_flatbuf.specs.Nodes.{cells_place, slots, table, scalar, last}

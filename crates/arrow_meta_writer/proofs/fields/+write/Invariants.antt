@@ -9,7 +9,7 @@ use Rattle.arrow_meta_writer.proofs.fields.+write.Given as goal
 abbrev pub decreases-write_fields : goal.decreases-write_fields
 decreases-write_fields l = count (fields_view l.fields.now)
 
--- what stands there and the tables of the fields to come are the whole vector
+-- the bytes so far and the tables of the remaining fields are the complete vector
 abbrev pub invariant-loop-field : goal.invariant-loop-field
 invariant-loop-field l = record {
   left : TablesLeft l.fn.writer l.writer (nodes_from l.fields l.field-index) (nodes_of l.fields);

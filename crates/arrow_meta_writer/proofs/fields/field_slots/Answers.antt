@@ -1,13 +1,13 @@
 use Rattle.std.proofs.Common.{refl, ◌≡◌, ◌≤◌, ℕ, suc, List, [], ◌∷◌, take, is_some, Option, arith, sym, ap}
 use Rattle.std.proofs.Common.{◌∙◌}
-use Rattle.arrow_flatbuf.specs.declared.layout.Slot.{Slot}
-use Rattle.arrow_flatbuf.specs.declared.layout.Slot.TheVariants.{Scalar, Target}
+use Rattle.arrow_flatbuf.specs.declared.layout.FieldValue.{FieldValue}
+use Rattle.arrow_flatbuf.specs.declared.layout.FieldValue.TheVariants.{Scalar, Target}
 use Rattle.arrow_flatbuf.specs.declared.layout.Width.TheVariants.{One}
 use Rattle.arrow_flatbuf.specs.Layout.{up, table_place}
 use Rattle.arrow_flatbuf.specs.Nodes.{cells_place, count, after, after_cells, slots, table, tables}
 use Rattle.arrow_flatbuf.specs.Nodes.{text, offset}
 use Rattle.arrow_flatbuf.proofs.Laid.{ahead_cells, reaches}
-use Rattle.arrow_types.specs.DataType.{Tag}
+use Rattle.arrow_types.specs.DataType.{TypeId}
 use Rattle.arrow_types.specs.Field.{width}
 use Rattle.arrow_types.specs.Notes.{KeyValue, pairs_view}
 use Rattle.arrow_types.specs.View.{field_notes, field_view}
@@ -53,7 +53,7 @@ returns-clause-slots c =
     c.text_after-name.ensures.end ∙ ap (λ (s : List ℕ). capped (after c.field_table_end-table.result (text s))) (c.deref-2.ensures ∙ field_name f) in
     let at_name = exact_after c.field_table_end-table.result c.text_after-name.result q name (offset type rest) wrote_name at_table c.requires.room in
     let wrote_type : c.type_end-data_type.result ≡ capped (after c.text_after-name.result type) =
-    c.type_end-data_type.ensures.end ∙ ap (λ (t : Tag). capped (after c.text_after-name.result (table (type_cells t)))) (field_tag f) in
+    c.type_end-data_type.ensures.end ∙ ap (λ (t : TypeId). capped (after c.text_after-name.result (table (type_cells t)))) (field_tag f) in
     let at_type = exact_after c.text_after-name.result c.type_end-data_type.result (after q name) type rest wrote_type at_name c.requires.room in
     let wrote_encoding : c.encoding_end-children.result ≡ capped z =
     c.encoding_end-children.ensures.end ∙ ap (λ (e : Option Encoding). capped (after_encoding c.type_end-data_type.result e)) (field_encoding f) ∙ ap (λ (n : ℕ). capped (after_encoding n head.encoding)) at_type in
@@ -68,17 +68,17 @@ returns-clause-slots c =
     let at_1 = c.bit.ensures.value ∙ ap flag (field_nullable f) in
     let at_2 = c.type_code.ensures.code ∙ ap tag_code (field_tag f) in
     let at_3 : c.table_place.result ≡ table_place (after q name) (count (type_cells head.tag)) =
-    c.table_place.ensures.value ∙ ap (λ (n : ℕ). table_place c.text_after-name.result n) (c.type_fields.ensures.count ∙ ap (λ (t : Tag). count (type_cells t)) (field_tag f))
+    c.table_place.ensures.value ∙ ap (λ (n : ℕ). table_place c.text_after-name.result n) (c.type_fields.ensures.count ∙ ap (λ (t : TypeId). count (type_cells t)) (field_tag f))
     ∙ ap (λ (n : ℕ). table_place n (count (type_cells head.tag))) at_name in
     let at_4 : c.encoding_slot.result ≡ encoding_slot y head.encoding =
     c.encoding_slot.ensures ∙ ap (λ (n : ℕ). encoding_slot n f.dictionary) at_type ∙ ap (λ (e : Option Encoding). encoding_slot y e) (field_encoding f) in
     let at_5 : c.aligned-2.result ≡ up 4 z = c.aligned-2.ensures.value ∙ ap (up 4) at_children in
     let at_6 : c.aligned-3.result ≡ up 4 m = c.aligned-3.ensures.value ∙ ap (up 4) at_metadata in
     let k = count (metadata_cells ps) in
-    let ss : List Slot = Target c.aligned.result ∷ Scalar One c.bit.result ∷ Scalar One c.type_code.result ∷ Target c.table_place.result ∷ c.encoding_slot.result ∷ Target c.aligned-2.result ∷ Target c.aligned-3.result ∷ [] in
+    let ss : List FieldValue = Target c.aligned.result ∷ Scalar One c.bit.result ∷ Scalar One c.type_code.result ∷ Target c.table_place.result ∷ c.encoding_slot.result ∷ Target c.aligned-2.result ∷ Target c.aligned-3.result ∷ [] in
     let tail : take k (Target c.aligned-3.result ∷ []) ≡ slots m (metadata_cells ps) =
     ap (λ (x : ℕ). take k (Target x ∷ [])) at_6 ∙ metadata_slots m ps in
-    let front = λ (later : List Slot). Target (up 4 q) ∷ Scalar One (flag head.nullable) ∷ Scalar One (tag_code head.tag) ∷ Target (table_place (after q name) (count (type_cells head.tag))) ∷ later in
+    let front = λ (later : List FieldValue). Target (up 4 q) ∷ Scalar One (flag head.nullable) ∷ Scalar One (tag_code head.tag) ∷ Target (table_place (after q name) (count (type_cells head.tag))) ∷ later in
     let literal : take (suc (suc (suc (suc (suc (suc k)))))) ss ≡ front (encoding_slot y head.encoding ∷ Target (up 4 z) ∷ slots m (metadata_cells ps)) =
     λ i. Target (at_0 i) ∷ Scalar One (at_1 i) ∷ Scalar One (at_2 i) ∷ Target (at_3 i) ∷ at_4 i ∷ Target (at_5 i) ∷ tail i in
     ap (λ (n : ℕ). take n ss) (field_count (field_view f) (field_notes f)) ∙ literal ∙ ap front (sym (last_slots y head.encoding last))

@@ -1,5 +1,5 @@
 use Rattle.std.proofs.Common.{◌≡◌, ℕ, List, [], ◌∷◌, take, refl, arith, sym, ap, ◌∙◌}
-use Rattle.arrow_flatbuf.specs.declared.layout.Slot.TheVariants.{Scalar, Target}
+use Rattle.arrow_flatbuf.specs.declared.layout.FieldValue.TheVariants.{Scalar, Target}
 use Rattle.arrow_flatbuf.specs.declared.layout.Width.TheVariants.{Two}
 use Rattle.arrow_flatbuf.specs.Layout.{up}
 use Rattle.arrow_flatbuf.specs.Nodes.{cells_place, count, after, slots, table, tables}

@@ -3,7 +3,7 @@ use Rattle.std.specs.Str.{is_utf8}
 use Rattle.std.proofs.lemmas.Str.{is_utf8-from_IsUtf8}
 use Rattle.arrow_flatbuf.specs.Nodes.{after, cells_place, laid, slots, table, text}
 use Rattle.arrow_flatbuf.proofs.Left.{begun}
-use Rattle.arrow_types.specs.DataType.{Tag}
+use Rattle.arrow_types.specs.DataType.{TypeId}
 use Rattle.arrow_types.specs.View.{field_notes, field_view}
 use Rattle.arrow_types.specs.declared.field.Encoding.{Encoding}
 use Rattle.arrow_meta_writer.specs.Appends.{after_encoding, laid_encoding}
@@ -45,7 +45,7 @@ write_type-requires c =
     let x = c.text.new.self in
     let wrote_name = c.in_ok-text.ensures.ok ∙ ap (λ (s : List ℕ). t ++ laid (length t) (text s)) (c.deref.ensures ∙ field_name c.args.field.now) in
     let begins = named old t x f n (begun old t ss cs c.in_ok-table.ensures.ok same) wrote_name in
-    record { room = subst (λ (y : Tag). after (length x) (table (type_cells y)) ≤ 1073741824) (sym (field_tag c.args.field.now)) (type_room old x f n begins c.requires.room) }
+    record { room = subst (λ (y : TypeId). after (length x) (table (type_cells y)) ≤ 1073741824) (sym (field_tag c.args.field.now)) (type_room old x f n begins c.requires.room) }
 
 pub write_encoding-requires : goal.write_encoding-requires
 write_encoding-requires c =
@@ -61,7 +61,7 @@ write_encoding-requires c =
     let w = c.write_type.new.writer in
     let wrote_name = c.in_ok-text.ensures.ok ∙ ap (λ (s : List ℕ). t ++ laid (length t) (text s)) (c.deref.ensures ∙ field_name c.args.field.now) in
     let begins = named old t x f n (begun old t ss cs c.in_ok-table.ensures.ok same) wrote_name in
-    let wrote_type = c.in_ok-write_type.ensures.bytes ∙ ap (λ (y : Tag). x ++ laid (length x) (table (type_cells y))) (field_tag c.args.field.now) in
+    let wrote_type = c.in_ok-write_type.ensures.bytes ∙ ap (λ (y : TypeId). x ++ laid (length x) (table (type_cells y))) (field_tag c.args.field.now) in
     let left = typed old x w f n begins wrote_type in
     record { room = subst (λ (e : Option Encoding). after_encoding (length w) e ≤ 1073741824) (sym (field_encoding c.args.field.now)) (encoding_room old w f n left c.requires.room) }
 
@@ -79,7 +79,7 @@ returns-clause-bytes c =
     let w = c.write_type.new.writer in
     let wrote_name = c.in_ok-text.ensures.ok ∙ ap (λ (s : List ℕ). t ++ laid (length t) (text s)) (c.deref.ensures ∙ field_name c.args.field.now) in
     let begins = named old t x f n (begun old t ss cs c.in_ok-table.ensures.ok same) wrote_name in
-    let wrote_type = c.in_ok-write_type.ensures.bytes ∙ ap (λ (y : Tag). x ++ laid (length x) (table (type_cells y))) (field_tag c.args.field.now) in
+    let wrote_type = c.in_ok-write_type.ensures.bytes ∙ ap (λ (y : TypeId). x ++ laid (length x) (table (type_cells y))) (field_tag c.args.field.now) in
     let left = typed old x w f n begins wrote_type in
     let wrote_encoding = c.in_ok-write_encoding.ensures.bytes ∙ ap (λ (e : Option Encoding). w ++ laid_encoding (length w) e) (field_encoding c.args.field.now) in
     encoding_written old w c.write_encoding.new.writer f.head.encoding (children_cells f n) (field_node f n) left wrote_encoding

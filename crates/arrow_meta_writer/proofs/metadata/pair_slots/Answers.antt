@@ -1,5 +1,5 @@
 use Rattle.std.proofs.Common.{◌≡◌, ℕ, List, [], ◌∷◌, refl, ap, ◌∙◌}
-use Rattle.arrow_flatbuf.specs.declared.layout.Slot.TheVariants.{Target}
+use Rattle.arrow_flatbuf.specs.declared.layout.FieldValue.TheVariants.{Target}
 use Rattle.arrow_flatbuf.specs.Layout.{up}
 use Rattle.arrow_flatbuf.specs.Nodes.{after, cells_place, byte_string, offset, last}
 use Rattle.arrow_types.specs.Notes.{pair_view}

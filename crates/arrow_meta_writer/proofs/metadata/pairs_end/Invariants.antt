@@ -4,7 +4,7 @@ use Rattle.arrow_meta_writer.specs.Capped.{capped}
 use Rattle.arrow_meta_writer.proofs.Noting.{pair_nodes_of, pairs_left}
 use Rattle.arrow_meta_writer.proofs.metadata.pairs_end.Given as goal
 
--- the pairs to come end where all do
+-- the remaining pairs end where all pairs end
 abbrev pub invariant-loop-pair : goal.invariant-loop-pair
 invariant-loop-pair l = record {
   same : capped (after_all l.end (pairs_left l.pairs l.pair-index)) ≡ capped (after l.place (tables (pair_nodes_of l.pairs)));

@@ -9,7 +9,7 @@ use Rattle.arrow_meta_writer.proofs.sizes.+sizes.Given as goal
 abbrev pub decreases-fields_end : goal.decreases-fields_end
 decreases-fields_end l = count (fields_view l.fields.now)
 
--- the fields to come end where all do
+-- the remaining fields end where all fields end
 abbrev pub invariant-loop-field : goal.invariant-loop-field
 invariant-loop-field l = record {
   same : capped (after_all l.end (nodes_from l.fields l.field-index)) ≡ capped (after l.place (tables (nodes_of l.fields)));

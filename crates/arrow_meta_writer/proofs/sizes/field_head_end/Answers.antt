@@ -1,7 +1,7 @@
 use Rattle.std.proofs.Common.{◌≡◌, ℕ, List, is_some, Option, arith, sym, ap, ◌∙◌}
 use Rattle.arrow_flatbuf.specs.Nodes.{after, after_cells, cells_place, count, offset, table, tables, text}
 use Rattle.arrow_flatbuf.proofs.Laid.{ahead_cells, reaches}
-use Rattle.arrow_types.specs.DataType.{Tag}
+use Rattle.arrow_types.specs.DataType.{TypeId}
 use Rattle.arrow_types.specs.Notes.{KeyValue, pairs_view}
 use Rattle.arrow_types.specs.View.{field_notes, field_view}
 use Rattle.arrow_types.specs.declared.field.Encoding.{Encoding}
@@ -31,7 +31,7 @@ returns-clause-end c children =
     c.text_after-name.ensures.end ∙ ap (λ (s : List ℕ). capped (after c.field_table_end.result (text s))) (c.deref-2.ensures ∙ field_name f) in
     let at_name = caps (λ q. after q name) (λ q. omega (arith, reaches q name)) c.field_table_end.result c.text_after-name.result place at_table wrote_name in
     let wrote_type : c.type_end.result ≡ capped (after c.text_after-name.result type) =
-    c.type_end.ensures.end ∙ ap (λ (t : Tag). capped (after c.text_after-name.result (table (type_cells t)))) (field_tag f) in
+    c.type_end.ensures.end ∙ ap (λ (t : TypeId). capped (after c.text_after-name.result (table (type_cells t)))) (field_tag f) in
     let at_type = caps (λ q. after q type) (λ q. omega (arith, reaches q type)) c.text_after-name.result c.type_end.result (after place name) at_name wrote_type in
     let wrote_encoding : c.encoding_end.result ≡ capped (after_encoding c.type_end.result head.encoding) =
     c.encoding_end.ensures.end ∙ ap (λ (e : Option Encoding). capped (after_encoding c.type_end.result e)) (field_encoding f) in

@@ -5,7 +5,7 @@ use Rattle.std.proofs.lemmas.List.{take_all, length-drop}
 use Rattle.std.specs.Io.KnownBytes.{Appends}
 use Rattle.arrow_sink.proofs.sending.send.Goals as goal
 
--- one more part is sent
+-- one more piece is sent
 pub loop-sent-preserved : goal.loop-sent-preserved
 loop-sent-preserved g c =
     let l = c.loop-sent in

@@ -11,7 +11,7 @@ returns-in_err-message-clause-says c =
     let failed = err_from_is_err_and c.from_residual.result c.from_residual.ensures.1 in
     let stop = c.in_err-message.field-0.0 in
     rw (failed.1, failed.2) (fault_stops c.args.start.now.limits.now (plain c.args.start.now.state.now) c.args.start.now.place c.args.metadata.now _ c.decode-decoded.result stop c.decode-decoded.ensures.decoded c.in_err-message.ensures.cases
-    (λ fault k. let told : StopsBy stop c.is_some-has_schema.result end fault = search rules in subst (λ b. StopsBy stop b end fault) c.is_some-has_schema.ensures told))
+    (λ fault k. let reported : StopsBy stop c.is_some-has_schema.result end fault = search rules in subst (λ b. StopsBy stop b end fault) c.is_some-has_schema.ensures reported))
 
 pub returns-clause-says : goal.returns-clause-says
 returns-clause-says c =

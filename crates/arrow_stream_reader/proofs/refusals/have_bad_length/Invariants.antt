@@ -3,6 +3,6 @@ use Rattle.std.specs.List.{list_any}
 use Rattle.arrow_stream_reader.specs.Batch.{is_bad_length}
 use Rattle.arrow_stream_reader.proofs.refusals.have_bad_length.Given as goal
 
--- some of all are bad exactly where some of those to come are
+-- there is a bad one among all of them exactly if there is one among those to come
 abbrev pub invariant-loop-node : goal.invariant-loop-node
 invariant-loop-node l = list_any (λ n. is_bad_length l.max n.length) (drop l.node-index l.nodes) ≡ list_any (λ n. is_bad_length l.max n.length) l.nodes

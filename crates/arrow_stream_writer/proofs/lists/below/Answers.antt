@@ -1,5 +1,5 @@
 use Rattle.std.proofs.Common.{◌≡◌, sym, ap, ◌∙◌, subst, inl, inr}
-use Rattle.arrow_types.specs.Field.{Fields, none, TypeShape}
+use Rattle.arrow_types.specs.Field.{FieldTree, none, TypeShape}
 use Rattle.arrow_types.specs.View.{type_view}
 use Rattle.arrow_data.specs.Form.{HasFieldsOf}
 use Rattle.arrow_data.specs.declared.form.Form.{Form}
@@ -7,8 +7,8 @@ use Rattle.arrow_data.specs.declared.form.Form.TheVariants as forms
 use Rattle.arrow_stream_writer.proofs.Gathering.{leaf_lists}
 use Rattle.arrow_stream_writer.proofs.lists.below.Goals as goal
 
--- no field stands below a type of a form that has none
-no_field : (form leaf : Form) (fields : Fields) → HasFieldsOf form fields → (HasFieldsOf leaf fields → fields ≡ none) → form ≡ leaf → fields ≡ none
+-- there is no field below a type of a form that has none
+no_field : (form leaf : Form) (fields : FieldTree) → HasFieldsOf form fields → (HasFieldsOf leaf fields → fields ≡ none) → form ≡ leaf → fields ≡ none
 no_field form leaf fields has none_of is = none_of (subst (λ f. HasFieldsOf f fields) is has)
 
 -- slots hold neither lists nor structs

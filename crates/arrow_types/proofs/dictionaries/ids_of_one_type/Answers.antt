@@ -8,7 +8,7 @@ use Rattle.arrow_types.proofs.Look.{known_below, look_same, look_other, look_new
 use Rattle.arrow_types.proofs.dictionaries.ids_of_one_type.Goals as goal
 use Rattle.arrow_types.proofs.dictionaries.ids_of_one_type.Goals.{in-Some+else-not-same, in-None+in_ok-insert-in-None+in_ok-push-in-None}
 
--- the place that the map has for a known id lies before the field at hand
+-- the index that the map has for a known id is below the current field's
 pub bounds-fields-first : goal.bounds-fields-first
 bounds-fields-first c =
     omega (
@@ -17,7 +17,7 @@ bounds-fields-first c =
           c.loop-i.invariant (omega arith) c.in-Some.ensures.value,
     )
 
--- and so its place in memory lies inside too
+-- and so its offset in memory is in bounds too
 pub offset_bounds-fields-first : goal.offset_bounds-fields-first
 offset_bounds-fields-first c =
     let below : c.in-Some.first.now < length c.args.fields.now =
@@ -28,14 +28,14 @@ offset_bounds-fields-first c =
     ) in
     search rules
 
--- the type at that place is another one
+-- the type at that index is another one
 pub returns-then-not-same : goal.returns-then-not-same
 returns-then-not-same c =
     look_other c.loop-i.i c.in-Some.first.now c.args.fields.now c.index-fields-i.result c.index-fields-first.result c.loop-i.ids.items
     (λ q. get int_cmp c.loop-i.places q) c.loop-i.invariant c.loop-i-test.true c.index-fields-i.is c.in-Some.ensures.value
     c.index-fields-first.is (ap not (sym c.same.ensures.gives ∙ c.if-not-same.true))
 
--- one more field is looked at
+-- one more field is checked
 pub loop-i-preserved : goal.loop-i-preserved
 loop-i-preserved c =
     elim c.match-get.branch [
@@ -54,7 +54,7 @@ loop-i-preserved c =
           rw (w.ids-is, pushed, w.places-is) here
     ]
 
--- all fields are looked at
+-- all fields have been checked
 pub returns : goal.returns
 returns c =
     look_done c.loop-i.i c.args.fields.now c.loop-i.ids.items (λ q. get int_cmp c.loop-i.places q) c.loop-i.invariant (omega arith)

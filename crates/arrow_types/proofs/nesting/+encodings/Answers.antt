@@ -2,7 +2,7 @@ use Rattle.std.proofs.Common.{arith}
 use Rattle.arrow_types.proofs.Fields.{fewer_below}
 use Rattle.arrow_types.proofs.nesting.+encodings.Goals as goal
 
--- fewer fields stand below one of them
+-- the fields below one of them are fewer
 pub have_encoding-has_encoding-requires : goal.have_encoding-has_encoding-requires
 have_encoding-has_encoding-requires t c =
     let fewer = fewer_below c.args.fields.now c.loop-field.field-index c.field-item.result c.loop-field-test.true c.field-item.is in

@@ -4,7 +4,7 @@ use Rattle.arrow_types.specs.Schema.{has_encoding}
 use Rattle.arrow_types.specs.View.{field_view, fields_view}
 use Rattle.arrow_types.proofs.nesting.+encodings.Given as goal
 
--- what stands below a field is less than the field, and that less than the fields among which it stands
+-- the fields below a field are fewer than with it, and these fewer than all fields of its list
 abbrev pub decreases-have_encoding : goal.decreases-have_encoding
 decreases-have_encoding l = 2 * count (fields_view l.fields.now)
 

@@ -2,7 +2,7 @@ use Rattle.std.proofs.Common.{arith}
 use Rattle.arrow_types.proofs.Fields.{fewer_below}
 use Rattle.arrow_types.proofs.size.+counting.Goals as goal
 
--- fewer fields stand below one of them
+-- the fields below one of them are fewer
 pub after_fields-after_field-requires : goal.after_fields-after_field-requires
 after_fields-after_field-requires t c =
     let fewer = fewer_below c.args.fields.now c.loop-field.field-index c.field-item.result c.loop-field-test.true c.field-item.is in

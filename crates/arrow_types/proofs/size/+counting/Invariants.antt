@@ -4,14 +4,14 @@ use Rattle.arrow_types.specs.Room.{left_of}
 use Rattle.arrow_types.specs.View.{field_view, fields_view}
 use Rattle.arrow_types.proofs.size.+counting.Given as goal
 
--- what stands below a field is less than the field, and that less than the fields among which it stands
+-- the fields below a field are fewer than with it, and these fewer than all fields of its list
 abbrev pub decreases-after_fields : goal.decreases-after_fields
 decreases-after_fields l = 2 * count (fields_view l.fields.now)
 
 abbrev pub decreases-after_field : goal.decreases-after_field
 decreases-after_field l = 2 * count (field_view l.field.now).children + 1
 
--- what is left after the fields to come is what is left after all
+-- what is left after the remaining fields is what is left after all
 abbrev pub invariant-after_fields-loop-field : goal.invariant-after_fields-loop-field
 invariant-after_fields-loop-field l =
     left_of l.left (count (fields_view (drop l.field-index l.fields))) ≡ left_of l.most (count (fields_view l.fields))

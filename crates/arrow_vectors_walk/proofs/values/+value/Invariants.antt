@@ -1,7 +1,7 @@
 use Rattle.std.proofs.Common.{◌+◌, ◌*◌}
 use Rattle.arrow_vectors_walk.proofs.values.+value.Given as goal
 
--- a value's own slot, then the values below it, on one level less
+-- a value's own slot, then the values below it, with one level less
 abbrev pub decreases-push_value : goal.decreases-push_value
 decreases-push_value l = 3 * l.levels
 

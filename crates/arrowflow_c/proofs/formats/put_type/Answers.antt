@@ -1,18 +1,18 @@
 use Rattle.std.proofs.Common.{codes, rules, to_z, of_z, w8, refl, ◌≡◌, ◌≤◌, ◌-◌, ◌^◌, ◌++◌, List, ℕ, length, Some, arith, ap, ◌∙◌, sym, subst, string_bytes}
 use Rattle.arrow_types.specs.DataType as tags
 use Rattle.std.specs.Fmt.{decimal, signed_decimal}
-use Rattle.arrowflow_report.specs.TypeWords.{format_width}
-use Rattle.arrow_types.specs.DataType.{Tag, fixed_size_binary, fixed_size_list, timestamp}
+use Rattle.arrowflow_text.specs.TypeWords.{format_width}
+use Rattle.arrow_types.specs.DataType.{TypeId, fixed_size_binary, fixed_size_list, timestamp}
 use Rattle.arrow_types.specs.View.{type_view}
 use Rattle.arrow_types.specs.declared.data_type.DataType.{the_lemmas}
-use Rattle.arrowflow_c.specs.declared.pens.Pen.{Pen}
+use Rattle.arrowflow_c.specs.declared.pens.TextPen.{TextPen}
 use Rattle.arrowflow_c.specs.Pens.{Puts}
 use Rattle.arrowflow_c.proofs.Writing.{puts_more}
 use Rattle.arrowflow_c.proofs.formats.put_type.Goals as goal
-use Rattle.arrowflow_report.specs.TypeWords.{format_end, format_of, words_of}
+use Rattle.arrowflow_text.specs.TypeWords.{format_end, format_of, words_of}
 
 -- a width, a size or a time zone was put after the fixed text
-puts_end : (old between new : List ℕ) (p q s : Pen) (tag : Tag) (front end : List ℕ) → length old ≤ 2 ^ 64 - 1 → front ≡ (words_of tag).format → end ≡ format_end tag
+puts_end : (old between new : List ℕ) (p q s : TextPen) (tag : TypeId) (front end : List ℕ) → length old ≤ 2 ^ 64 - 1 → front ≡ (words_of tag).format → end ≡ format_end tag
     → Puts old p front q between → Puts between q end s new → Puts old p (format_of tag) s new
 puts_end old between new p q s tag front end fits at_front at_end first then =
     let whole : front ++ end ≡ format_of tag = ap (λ (l : List ℕ). l ++ end) at_front ∙ ap (λ (l : List ℕ). (words_of tag).format ++ l) at_end in
@@ -20,7 +20,7 @@ puts_end old between new p q s tag front end fits at_front at_end first then =
 
 pub returns-in-Decimal : goal.returns-in-Decimal
 returns-in-Decimal c =
-    let tag : Tag = (type_view c.args.data_type.now).tag in
+    let tag : TypeId = (type_view c.args.data_type.now).tag in
     let it = c.in-Decimal in
     let is : tag ≡ tags.decimal it.width it.precision it.scale = search (rules, the_lemmas) in
     let same : to_z w8 (of_z w8 it.scale) ≡ it.scale = search rules in
@@ -38,7 +38,7 @@ returns-in-Decimal c =
 
 pub returns-in-FixedSizeBinary : goal.returns-in-FixedSizeBinary
 returns-in-FixedSizeBinary c =
-    let tag : Tag = (type_view c.args.data_type.now).tag in
+    let tag : TypeId = (type_view c.args.data_type.now).tag in
     let is : tag ≡ fixed_size_binary c.in-FixedSizeBinary.width = search (rules, the_lemmas) in
     let end = c.as_bytes-in-FixedSizeBinary in
     puts_end c.args.room.now c.put-pen.new.room c.put-in-FixedSizeBinary.new.room c.args.pen c.put-pen.result c.put-in-FixedSizeBinary.result tag c.as_bytes.result.now end.result.now
@@ -47,7 +47,7 @@ returns-in-FixedSizeBinary c =
 
 pub returns-in-FixedSizeList : goal.returns-in-FixedSizeList
 returns-in-FixedSizeList c =
-    let tag : Tag = (type_view c.args.data_type.now).tag in
+    let tag : TypeId = (type_view c.args.data_type.now).tag in
     let is : tag ≡ fixed_size_list c.in-FixedSizeList.size = search (rules, the_lemmas) in
     let end = c.as_bytes-in-FixedSizeList in
     puts_end c.args.room.now c.put-pen.new.room c.put-in-FixedSizeList.new.room c.args.pen c.put-pen.result c.put-in-FixedSizeList.result tag c.as_bytes.result.now end.result.now
@@ -56,7 +56,7 @@ returns-in-FixedSizeList c =
 
 pub returns-in-Timestamp-default-Some : goal.returns-in-Timestamp-default-Some
 returns-in-Timestamp-default-Some c =
-    let tag : Tag = (type_view c.args.data_type.now).tag in
+    let tag : TypeId = (type_view c.args.data_type.now).tag in
     let it = c.in-Timestamp-default-Some in
     let is : tag ≡ timestamp it.field-0 (Some (string_bytes it.zone)) = search (rules, the_lemmas) in
     let end = c.as_bytes-in-Timestamp-default-Some in

@@ -4,7 +4,7 @@ use Rattle.arrow_types.specs.Notes.{pairs_view}
 use Rattle.arrowflow_c.specs.Fields.{counted, pair_bytes}
 use Rattle.arrowflow_c.specs.Pens.{Puts}
 use Rattle.arrowflow_c.proofs.Pairing.{pairs_next}
-use Rattle.arrowflow_c.proofs.Writing.{IsTold, puts_more, same_length}
+use Rattle.arrowflow_c.proofs.Writing.{IsReported, puts_more, same_length}
 use Rattle.arrowflow_c.proofs.metadata.put_pairs.Goals as goal
 
 -- one more pair was put
@@ -16,7 +16,7 @@ loop-pair-preserved c =
     let before = flat_map pair_bytes (pairs_view (take l.pair-index pairs)) in
     let key = c.put_counted-pen in
     let value = c.put_counted-pen-in-loop-pair in
-    let fits : IsTold (length old) = omega (arith, key.ensures.fits, same_length old l.room before c.args.pen l.pen l.invariant) in
+    let fits : IsReported (length old) = omega (arith, key.ensures.fits, same_length old l.room before c.args.pen l.pen l.invariant) in
     let pair = c.pair-item.result in
     let within : l.pair-index < length pairs = search rules in
     let is : pair ≡ get_or pairs l.pair-index pair = search rules in

@@ -12,7 +12,7 @@ returns-in-Some c =
     let got = slice_get_read c.args.fields.now (length c.args.fields.now) c.args.n c.in-Some.field.now refl within is in
     sym (nth_is c.args.fields.now c.args.n ∙ ap (option_map noted_field) got)
 
--- there are not so many
+-- there are not that many fields
 pub returns-in-None : goal.returns-in-None
 returns-in-None c =
     let past : length c.args.fields.now ≤ c.args.n = search rules in

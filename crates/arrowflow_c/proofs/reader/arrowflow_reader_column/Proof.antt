@@ -1,4 +1,5 @@
--- `arrowflow_reader_column` passes on what it was given: the reader is lent out, and the column is told by what is lent.
+-- `arrowflow_reader_column` passes on what it was given: the reader is lent out, and the column is determined by the
+-- lent reader.
 use Rattle.std.proofs.Common.{◌≡◌, ℕ, List, [], ◌∷◌, refl, sym, ap, subst}
 use mir.Syntax.{Ty, named, erased}
 use mir.Val.{Val, vunit}
@@ -53,7 +54,8 @@ path_slot = SliceRefOf (1 ∷ []) tt (plain (λ κs. usize)) (λ κs. tt)
 abbrev column_slot : Slot 3
 column_slot = plain (λ κs. column.the_row (named_lft 3 0 tt κs))
 
--- at the return the handle is lent and the path is let go; of the column, which was passed on, its last value is known
+-- at the return the handle is lent out and the path is dropped; the last value of the column, which was passed on, is
+-- known
 abbrev stayed : Stays (F.ended).signature.params (F.ended).kept
 stayed = (stay_dropped _ _, (stay_dropped _ _, (gave_ref (2 ∷ []) tt column_slot, tt)))
 
@@ -68,11 +70,11 @@ local_type = layout (option.the_row (ShrRef erased [] held.the_row))
 lent_laws : (κ : Lft) → Laws (Lent κ)
 lent_laws κ = option_laws.the_row_laws (ShrRef (named 0) κ held.the_row) (shared_laws (record { mir = named 0; lft = κ }) held.the_row held_laws.the_row_laws)
 
--- what is told of the reader that is lent out is told of the one that the handle has
-told_of : (r : Option (Bor Reading)) (o : Option Reading) (path : List ℕ) (c : ColumnC) → MatchOption r (o ≡ None) (λ b. o ≡ Some b.now)
+-- what is reported of the reader that is lent out is reported of the one that the handle has
+stated_of : (r : Option (Bor Reading)) (o : Option Reading) (path : List ℕ) (c : ColumnC) → MatchOption r (o ≡ None) (λ b. o ≡ Some b.now)
     → ColumnIf (option_map (λ b. b.now) r) path c → ColumnIf o path c
-told_of None o path c e told = subst (λ (x : Option Reading). ColumnIf x path c) (sym e) told
-told_of (Some b) o path c e told = subst (λ (x : Option Reading). ColumnIf x path c) (sym e) told
+stated_of None o path c e stated = subst (λ (x : Option Reading). ColumnIf x path c) (sym e) stated
+stated_of (Some b) o path c e stated = subst (λ (x : Option Reading). ColumnIf x path c) (sym e) stated
 
 pub arrowflow_reader_column_spec : {M : Type 1} → statement M
 arrowflow_reader_column_spec 𝓤 𝓛 𝓜 𝓡 wired =
@@ -112,10 +114,10 @@ arrowflow_reader_column_spec 𝓤 𝓛 𝓜 𝓡 wired =
     use1 𝓛 (later (some (λ (u : Unit {0}). ((‵ (flft κa qa) ⊛ rest) ⊛ ‵ (unit.own_val u (w ∷ []))) ⊛
     some (λ (ws : Unit {0} × (Unit {0} × (ColumnC × Unit {0}))). ‵ (lasts showing.ended κs (r, (path, (col, tt))) ws) ⊛ raw (fact 𝓤 (ColumnIf (option_map (λ b. b.now) r) path.now ws.1.1.0)))))) (id⊢ 𝓤 _) $
     await ! tt $ pick ! (λ u. split ! $ split ! $ move ! (1 ∷ []) $ feq_l ! (λ is_unit. lands_as ! (ap only is_unit) refl (tt, tt) $
-    move ! (1 ∷ []) $ pick ! (λ ws'. split ! $ move ! (1 ∷ []) $ heard ! _ (λ told.
+    move ! (1 ∷ []) $ pick ! (λ ws'. split ! $ move ! (1 ∷ []) $ heard ! _ (λ stated.
     -- [what is left of the parameters; the tokens; the clause on the reader]
     sets ! (of_opd ! (unit_lit !)) refl (tt, tt) $ returns ! (look_at ! 0 refl) $ free_all ! refl $
-    let so = told_of r reader.now.slot.value path.now ws'.1.1.0 shown told in
+    let so = stated_of r reader.now.slot.value path.now ws'.1.1.0 shown stated in
     let φ = ColumnIf reader.now.slot.value path.now ws'.1.1.0 in
     use0 𝓛 (raw (fact 𝓤 φ)) (fact_i 𝓤 φ (emp 𝓤) so) $ move ! (3 ∷ 0 ∷ []) $ join ! $
     feq_i ! (List Val) (vunit ∷ []) (vunit ∷ []) refl $ move ! (3 ∷ 2 ∷ 0 ∷ 1 ∷ []) $

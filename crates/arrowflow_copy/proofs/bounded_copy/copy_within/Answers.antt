@@ -2,13 +2,13 @@ use Rattle.std.proofs.Common.{◌≡◌, [], None, ◌∙◌, refl, sym, ap, sub
 use Rattle.std.specs.Prelude.{OnOk}
 use Rattle.arrow_stream_reader.specs.Stream.{ReaderView}
 use Rattle.arrow_stream_writer.specs.Shown.{options_view}
-use Rattle.arrowflow_report.specs.Driver.{CallForMore}
-use Rattle.arrowflow_report.specs.Reports.{IsOpenAt}
-use Rattle.arrowflow_report.specs.Within.{Within, left_of}
-use Rattle.arrowflow_report.proofs.Through.{call_within, passed_within}
+use Rattle.arrowflow_input.specs.Driver.{CallForMore}
+use Rattle.arrowflow_input.specs.Endings.{IsOpenAt}
+use Rattle.arrowflow_input.specs.Within.{Within, left_of}
+use Rattle.arrowflow_input.proofs.Through.{call_within, passed_within}
 use Rattle.arrowflow_copy.specs.Copy.{Copies}
 use Rattle.arrowflow_copy.specs.Copying.{Began, IsCopying, failures_at, held_at}
-use Rattle.arrowflow_copy.specs.Target.{IsPassedOn, at_of}
+use Rattle.arrowflow_copy.specs.WriterState.{IsPassedOn, at_of}
 use Rattle.arrowflow_copy.specs.WithinCopy.{CopiesWithin}
 use Rattle.arrowflow_copy.proofs.Copied.{call_through, failures_are, full, held_is}
 use Rattle.arrowflow_copy.proofs.bounded_copy.copy_within.Goals as goal
@@ -36,7 +36,7 @@ returns-clause-written g c =
     let failed = failures_are g.S.Sink.contents g.S.Sink.failed copied.target ∙ ap g.S.Sink.failed (sym c.into_sink.ensures) in
     let said = call_within (IsCopying began copied.terms.limits o at number) (full began copied.terms.limits o at number passed [] None c.drive_within-copier.new.reader)
     (CallForMore (λ k. IsCopying began k.terms.limits (options_view k.terms.options) (at_of g.S.Sink.contents g.S.Sink.failed k.target) k.number) own) (IsOpenAt own)
-    (λ t more. record { entries = more.entries; standing = more.standing; front = more.front; goes_on = more.is_open })
+    (λ t more. record { entries = more.entries; snapshot = more.snapshot; front = more.front; goes_on = more.is_open })
     (λ bytes rest end. Copies limits options bytes rest began.first began.failures end (held_at at) (failures_at at)) (λ bytes. ⊥) whole own had left
     (λ bytes r same end d. let called = call_through began copied.terms.limits o at number passed bytes left r end d in (called.0, called.2))
     c.drive_within-copier.new.reader c.drive_within-copier.ensures.limits answer excess driven in

@@ -2,12 +2,12 @@ use Rattle.std.proofs.Common.{◌≡◌, ◌∙◌, refl, sym, ap, subst}
 use Rattle.std.specs.Prelude.{OnOk}
 use Rattle.arrow_stream_reader.specs.Stream.{ReaderView}
 use Rattle.arrow_stream_writer.specs.Shown.{options_view}
-use Rattle.arrowflow_report.specs.Reads.{IsReadWhile}
-use Rattle.arrowflow_report.specs.Reports.{IsOpenAt}
-use Rattle.arrowflow_report.proofs.Driving.{read_while_so}
+use Rattle.arrowflow_input.specs.Reads.{IsReadWhile}
+use Rattle.arrowflow_input.specs.Endings.{IsOpenAt}
+use Rattle.arrowflow_input.proofs.Driving.{read_while_so}
 use Rattle.arrowflow_copy.specs.Copy.{Copies}
 use Rattle.arrowflow_copy.specs.Copying.{Began, failures_at}
-use Rattle.arrowflow_copy.specs.Target.{IsPassedOn, at_of}
+use Rattle.arrowflow_copy.specs.WriterState.{IsPassedOn, at_of}
 use Rattle.arrowflow_copy.proofs.Copied.{call_through, failures_are, held_is}
 use Rattle.arrowflow_copy.proofs.copying.copy.Goals as goal
 
@@ -30,7 +30,7 @@ returns-clause-written g c =
     let failed = failures_are g.S.Sink.contents g.S.Sink.failed copied.target ∙ ap g.S.Sink.failed (sym c.into_sink.ensures) in (
       driven.0,
       driven.1,
-      subst (λ l. IsReadWhile (IsOpenAt l) driven.0) limits_are (read_while_so (λ t more. record { entries = more.entries; standing = more.standing; front = more.front; goes_on = more.is_open }) driven.2),
+      subst (λ l. IsReadWhile (IsOpenAt l) driven.0) limits_are (read_while_so (λ t more. record { entries = more.entries; snapshot = more.snapshot; front = more.front; goes_on = more.is_open }) driven.2),
       subst (λ k. Copies limits options driven.0 left began.first began.failures answer (g.S.Sink.contents c.into_sink.result) k) failed
           (subst (λ h. Copies limits options driven.0 left began.first began.failures answer h (failures_at at)) held called.0),
     )

@@ -1,8 +1,8 @@
 use Rattle.std.proofs.Common.{◌≡◌, ◌<◌, length, arith}
 use Rattle.std.proofs.lemmas.Result.{err_from_is_err_and}
-use Rattle.arrowflow_drill.specs.Terms.{asks_of}
+use Rattle.arrowflow_drill.specs.DrillOptions.{asks_of}
 use Rattle.arrowflow_drill.proofs.Inputs.{read_next, rest_same, stopped_here}
-use Rattle.arrowflow_drill.proofs.Told.{ended_well}
+use Rattle.arrowflow_drill.proofs.Reported.{ended_well}
 use Rattle.arrowflow_drill.proofs.reading.read_all.Goals as goal
 
 pub loop-number-preserved : goal.loop-number-preserved

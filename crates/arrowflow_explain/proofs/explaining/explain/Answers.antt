@@ -1,7 +1,7 @@
 use Rattle.std.proofs.Common.{[]}
 use Rattle.std.proofs.KnownBytes.{Consumes-nil}
-use Rattle.arrowflow_report.specs.Reports.{IsOpenAt}
-use Rattle.arrowflow_report.proofs.Reading.{read_all}
+use Rattle.arrowflow_input.specs.Endings.{IsOpenAt}
+use Rattle.arrowflow_input.proofs.Reading.{read_all}
 use Rattle.arrowflow_explain.proofs.Keeping.{fresh_kept, fresh_open}
 use Rattle.arrowflow_explain.proofs.explaining.explain.Goals as goal
 

@@ -2,8 +2,8 @@ use Rattle.std.proofs.Common.{◌≡◌, ◌<◌, [], ◌++◌, take, length, Ok
 use Rattle.std.specs.Io.KnownBytes.{Consumes}
 use Rattle.std.proofs.KnownBytes.{Consumes-kept, Consumes-nil, Consumes-trans}
 use Rattle.arrow_stream_reader.specs.Stream.{ended_by, ended_so}
-use Rattle.arrowflow_report.specs.Reports.{IsOpenAt}
-use Rattle.arrowflow_report.proofs.Reading.{less_left, piece_some, read_all, read_last}
+use Rattle.arrowflow_input.specs.Endings.{IsOpenAt}
+use Rattle.arrowflow_input.proofs.Reading.{less_left, piece_some, read_all, read_last}
 use Rattle.arrowflow_explain.specs.Explains.{IsMadeOf, KeepsPiece}
 use Rattle.arrowflow_explain.proofs.Keeping.{open_at, refused_at, sound_at}
 use Rattle.arrowflow_explain.proofs.explaining.explain_pieces.Goals as goal
@@ -32,7 +32,7 @@ returns-in-Ok-end-clause-explains g c =
       inv.0,
       subst (Consumes had left) none (Consumes-trans _ _ _ _ _ inv.1 c.in-Ok.ensures.bytes.0),
       read_all (IsOpenAt limits) inv.0 goes_on,
-      sound_at limits inv.0 left r (inv.3 ∙ inv.4) (record { entries = inv.2.entries; stands = inv.2.stands; well = (well, inr (c.in-Ok.ensures.bytes.1 c.if-count-eq0.true room)) }),
+      sound_at limits inv.0 left r (inv.3 ∙ inv.4) (record { entries = inv.2.entries; position = inv.2.position; well = (well, inr (c.in-Ok.ensures.bytes.1 c.if-count-eq0.true room)) }),
     )
 
 pub returns-in-Err-end-clause-explains : goal.returns-in-Err-end-clause-explains
@@ -65,7 +65,7 @@ loop-count-smaller g c =
     let goes = c.in-Ok-GoesOn.is ∙ ap Ok (rw c.in-Ok-GoesOn.is at c.in-Ok-GoesOn.field-0-is) in
     let new = c.take-next.new.self in
     let taken = subst (λ a. KeepsPiece (inv.0 ++ take n room) a new.reader new.kept.items) goes (c.take-next.ensures.keeps inv.0 inv.2 inv.5) in
-    less_left c.loop-count.work.reader new.reader inv.0 (take n room) inv.2.entries taken.0.entries inv.2.stands inv.5 taken.0.stands taken.1 (piece_some n room c.if-count-eq0.false c.in-Ok.ensures.bound)
+    less_left c.loop-count.work.reader new.reader inv.0 (take n room) inv.2.entries taken.0.entries inv.2.position inv.5 taken.0.position taken.1 (piece_some n room c.if-count-eq0.false c.in-Ok.ensures.bound)
 
 pub loop-count-preserved : goal.loop-count-preserved
 loop-count-preserved g c =
@@ -100,7 +100,7 @@ returns-in-Ok-Marker-clause-explains g c =
       Consumes-trans _ _ _ _ _ inv.1 c.in-Ok.ensures.bytes.0,
       read_last (IsOpenAt limits) inv.0 n room (omega arith) c.in-Ok.ensures.bound goes_on,
       sound_at limits bytes left new.reader (c.take-next.ensures.limits ∙ inv.3 ∙ inv.4)
-          (record { entries = taken.0.entries; stands = taken.0.stands; well = (ap (λ v. ended_by v (is_some at.state.schema) at.rest at.place) taken.1, inl taken.1) }),
+          (record { entries = taken.0.entries; position = taken.0.position; well = (ap (λ v. ended_by v (is_some at.state.schema) at.rest at.place) taken.1, inl taken.1) }),
     )
 
 pub returns-in-Ok-Stopped-clause-explains : goal.returns-in-Ok-Stopped-clause-explains

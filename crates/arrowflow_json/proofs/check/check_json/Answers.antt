@@ -25,7 +25,7 @@ with_fault-requires g c fault is =
     let kept = fault_kept g.S.Sink.contents g.S.Sink.failed g.S.Sink.is_passed_on began lines own had left c.drive-lines.new.reader c.drive-lines.ensures.limits c.drive-lines.result.1 driven fault is in
     subst (λ n. n < 2 ^ 64 - 1) (sym kept) c.requires
 
--- what was written of the input
+-- what was written for the input
 pub returns-clause-written : goal.returns-clause-written
 returns-clause-written g c =
     let output = c.args.output in
@@ -43,7 +43,7 @@ returns-clause-written g c =
     subst (λ l. ChecksInput file l had left held failed answer (g.S.Sink.contents after) (g.S.Sink.failed after)) (ap (λ (r : ReaderView). r.limits) c.new-reader.ensures.fresh)
     (loud_input g.S.Sink.contents g.S.Sink.failed g.S.Sink.is_passed_on began lines own had left c.drive-lines.new.reader c.drive-lines.ensures.limits c.drive-lines.result.1 driven answer (g.S.Sink.contents after) (g.S.Sink.failed after) c.with_fault.ensures.adds)
 
--- after a good end the output has passed on what it accepted
+-- after a good end the output has flushed everything that it accepted
 pub returns-clause-passed : goal.returns-clause-passed
 returns-clause-passed g c =
     let output = c.args.output in
@@ -59,6 +59,6 @@ returns-clause-passed g c =
     let passed = (quiet_input g.S.Sink.contents g.S.Sink.failed g.S.Sink.is_passed_on began lines own had left c.drive-lines.new.reader c.drive-lines.ensures.limits c.drive-lines.result.1 driven).1 in
     on_ok_weaker c.with_fault.result.1 (λ s. subst g.S.Sink.is_passed_on (sym s.1) (subst (λ a. OnOk a (g.S.Sink.is_passed_on lines.output)) s.0 passed)) c.with_fault.ensures.same
 
--- the answer blames the input only if that failed
+-- the result blames the input only if the input failed
 pub returns-clause-blameless : goal.returns-clause-blameless
 returns-clause-blameless g c = blames_same (g.R.Input.has_failed c.drive-lines.new.input) c.drive-lines.result.1 c.with_fault.result.1 c.with_fault.ensures.blameless c.drive-lines.ensures.blameless

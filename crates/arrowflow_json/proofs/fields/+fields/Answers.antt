@@ -41,7 +41,7 @@ write_field-returns t c =
     subst (λ ts. Adds ts w w8) (field_tokens file head pairs children)
     (adds_more (begin_object ∷ []) (members_tokens (in_file file) ++ (head_tokens head pairs ++ children_tokens children)) w w1 w8 (c.in_ok-begin_object.ensures.ok, c.in_ok-begin_object.ensures.room.0) named)) c.end_object.ensures.ok
 
--- fewer fields are below one of them
+-- the fields below one of them are fewer
 pub write_fields-write_field-requires : goal.write_fields-write_field-requires
 write_fields-write_field-requires t c =
     let fewer = fewer_below c.args.fields.now c.loop-field.field-index c.field-item.result c.loop-field-test.true c.field-item.is in

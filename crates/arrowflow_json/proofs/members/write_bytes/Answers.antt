@@ -16,7 +16,7 @@ returns-in-Ok c =
     on_ok_weaker c.string.result
     (λ put. subst (λ j. Adds (json_tokens j) old new) (ap json.string is.0 ∙ sym (text_is c.args.bytes.now is.1)) (put, c.string.ensures.room.0)) c.string.ensures.ok
 
--- they are none
+-- the bytes are not a text
 pub returns-in_ok-write_text-in-Err : goal.returns-in_ok-write_text-in-Err
 returns-in_ok-write_text-in-Err c =
     let bytes = c.args.bytes.now in

@@ -6,7 +6,7 @@ use Rattle.arrowflow_json.specs.Messages.{message_members}
 use Rattle.arrowflow_json.specs.Tokens.{Adds, members_tokens}
 use Rattle.arrowflow_json.proofs.message_texts.write_message.Goals as goal
 
--- the end marker has its name alone
+-- the end marker has only its name
 pub returns-in-End : goal.returns-in-End
 returns-in-End c =
     let message = c.args.message in

@@ -1,15 +1,15 @@
 use Rattle.std.proofs.Common.{◌≡◌, [], ap, refl, subst, Err, is_some}
 use Rattle.std.proofs.lemmas.Result.{err_from_is_err_and}
 use Rattle.arrow_stream_reader.specs.Stream.{ReaderView}
-use Rattle.arrowflow_report.specs.Driver.{Driven}
-use Rattle.arrowflow_report.proofs.Driving.{read_while_so}
-use Rattle.arrowflow_report.proofs.Found.{keeping, more_waits, no_text}
+use Rattle.arrowflow_input.specs.Driver.{Driven}
+use Rattle.arrowflow_input.proofs.Driving.{read_while_so}
+use Rattle.arrowflow_text.proofs.Found.{keeping, more_waits, no_text}
 use Rattle.arrowflow_json.specs.Fields.{name_by}
 use Rattle.arrowflow_json.specs.SchemaLines.{AnswersLines, HasSchema}
 use Rattle.arrowflow_json.proofs.SchemaWritten.{lines_read, memory_blames}
 use Rattle.arrowflow_json.proofs.schema.lines_of_input.Goals as goal
 
--- no schema came
+-- no schema was read
 pub returns-in_err-answer-clause-answers : goal.returns-in_err-answer-clause-answers
 returns-in_err-answer-clause-answers g c =
     let driven = c.drive-answer.ensures.driven tt refl in
@@ -31,7 +31,7 @@ lines_of_schema-requires g c =
     let found = subst (Driven keeping HasSchema driven.0 left c.drive-answer.new.reader) c.in_ok-answer.was driven.3 in
     ap is_some found.2
 
--- its lines, or allocation failed
+-- its lines, or a failed allocation
 pub returns-clause-answers : goal.returns-clause-answers
 returns-clause-answers g c =
     let driven = c.drive-answer.ensures.driven tt refl in

@@ -10,7 +10,7 @@ returns-in-Ok-clause-written g c =
     lines_sent (name_by c.args.file) c.args.limits.now (g.R.Input.remaining c.args.input.now) (g.R.Input.remaining c.lines_of_input.new.input) (g.S.Sink.contents before) (g.S.Sink.contents after) (g.S.Sink.failed before) (g.S.Sink.failed after)
     c.in-Ok.text c.deref.result.now c.send_all-answer.result c.in-Ok.ensures.answers c.deref.ensures.value c.send_all-answer.ensures.sent
 
--- there are none
+-- there are no lines
 pub returns-in-Err-clause-written : goal.returns-in-Err-clause-written
 returns-in-Err-clause-written g c =
     let output = c.args.output in

@@ -7,7 +7,7 @@ use Rattle.arrowflow_json.specs.Showing.{SendsLines}
 use Rattle.arrowflow_json.proofs.Sent.{sends_after, three_parts}
 use Rattle.arrowflow_json.proofs.sending.send_batch.Goals as goal
 
--- some rows were not sent to their end
+-- some rows were not sent completely
 pub returns-in_err-send_rows : goal.returns-in_err-send_rows
 returns-in_err-send_rows g c =
     let i = c.loop-start.invariant in

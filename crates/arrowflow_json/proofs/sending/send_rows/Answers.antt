@@ -4,7 +4,7 @@ use Rattle.arrow_json.specs.Lines.{AreLines, rows_between}
 use Rattle.arrowflow_json.proofs.Sent.{sends_nothing, sends_text}
 use Rattle.arrowflow_json.proofs.sending.send_rows.Goals as goal
 
--- there was no memory for their text
+-- the allocation for their text failed
 pub returns-in_err-text : goal.returns-in_err-text
 returns-in_err-text g c =
     let failed = err_from_is_err_and c.from_residual.result c.from_residual.ensures.1 in

@@ -6,7 +6,7 @@ use Rattle.arrowflow_json.proofs.Showing.{rows_fit}
 use Rattle.arrowflow_json.proofs.Writing.{input_written, nothing_written}
 use Rattle.arrowflow_json.proofs.show.show_json.Goals as goal
 
--- what was written of the input
+-- what was written for the input
 pub returns-clause-written : goal.returns-clause-written
 returns-clause-written g c =
     let output = c.args.output in
@@ -20,7 +20,7 @@ returns-clause-written g c =
     subst (λ l. ShowsInput l had left began.first began.failures answer (g.S.Sink.contents after) (g.S.Sink.failed after)) (ap (λ (r : ReaderView). r.limits) c.new-reader.ensures.fresh)
     (input_written rows_form rows_fit began (g.S.Sink.contents after) (g.S.Sink.failed after) (g.S.Sink.is_passed_on after) (HaveShown g.S.Sink.contents g.S.Sink.failed began) own had left c.drive-lines.new.reader c.drive-lines.ensures.limits answer driven).0
 
--- after a good end the output has passed on what it accepted
+-- after a good end the output has flushed everything that it accepted
 pub returns-clause-passed : goal.returns-clause-passed
 returns-clause-passed g c =
     let output = c.args.output in

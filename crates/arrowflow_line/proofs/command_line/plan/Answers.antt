@@ -9,7 +9,7 @@ use Rattle.arrowflow_line.proofs.Asked.{met_as, name_met}
 use Rattle.arrowflow_line.proofs.Named.{command_found, line}
 use Rattle.arrowflow_line.proofs.command_line.plan.Goals as goal
 
--- the program's command line as it is written
+-- the program's command line, written out
 abbrev line_of : (app : App) → IsProgram app → App
 line_of app p =
     line p.reads.has_schema.types p.reads.has_check.types p.reads.has_show.types p.reads.has_explain.types p.copies.updates p.copies.aligns p.copies.types p.drills.updates p.drills.aligns p.drills.types
@@ -19,7 +19,7 @@ written app p =
     let reading = p.reads.is ∙ (λ i. reading_app (p.reads.has_schema.is i) (p.reads.has_check.is i) (p.reads.has_show.is i) (p.reads.has_explain.is i)) in
     p.is ∙ (λ i. program_app (reading i) (p.copies.is i) (p.drills.is i))
 
--- there is what can be missing only where something does not hold
+-- a value that is absent only if something does not hold is there
 is_there : {A : Type 0} (o : Option A) (X : Type 0) (P : A → Type 0) → MatchOption o (X → ⊥) P → X → IsSome o
 is_there (Some a) X P h holds = refl
 is_there None X P h holds = absurd (h holds)
@@ -67,7 +67,7 @@ returns c =
     } in
     (app_of c.in_ok-command.field-0, program, asked, c.in_ok-matches.ensures.kinds (ap is_simple_and_free app))
 
--- what is wrong with the command that is found is wrong with the line
+-- a fault of the command that is found is a fault of the line
 faulty : (app : App) (words : List (List ℕ)) (name : List ℕ) (rows : List Row) (fault : ArgFault) → IsProgram app → subcommand_of app words ≡ Some (name, rows) → fault_of app words ≡ []
     → IsFaultIn name rows fault → AnswersLine words (Err fault)
 faulty app words name rows (Line error) program found sound is = absurd is

@@ -7,16 +7,16 @@ use Rattle.std.specs.List.{slice_split}
 use Rattle.arrowflow_line.specs.CommandLine.{names_by}
 use Rattle.arrowflow_line.proofs.reading.parts_of.Goals as goal
 
--- the byte at which names are parted
+-- the byte that separates names
 abbrev is_comma : ℕ → Bool
 is_comma b = b == 44
 
--- one part more is there
+-- one more part is in the list
 pub loop-part-preserved : goal.loop-part-preserved
 loop-part-preserved c =
     let rest = c.loop-part.rest.now in
     let part = c.in-Some.part.now in
-    let later = names_by c.in-Some.behind.now in
+    let later = names_by c.in-Some.after.now in
     let old = c.loop-part.parts.items in
     let cut = c.in-Some.ensures.byte (omega arith) (λ w o f. f) in
     let first : names_by rest ≡ part ∷ later = slice_split_first is_comma rest 0 cut.2 ∙ ap₂ (λ x ys. x ∷ slice_split is_comma ys) (sym cut.0) (sym cut.1) in
@@ -24,7 +24,7 @@ loop-part-preserved c =
     ap (map string_bytes) c.in_ok-push.ensures.items ∙ map-append string_bytes old (c.in_ok-from_str.field-0 ∷ []) ∙ ap (λ t. map string_bytes old ++ t ∷ []) c.in_ok-from_str.ensures.ok in
     (ap (λ ts. ts ++ later) now ∙ append_assoc (map string_bytes old) (part ∷ []) later ∙ ap (λ ts. map string_bytes old ++ ts) (sym first) ∙ c.loop-part.invariant.0, search rules)
 
--- the rest is the last part
+-- the remaining text is the last part
 pub returns : goal.returns
 returns c =
     let rest = c.loop-part.rest.now in

@@ -2,7 +2,7 @@ use Rattle.std.proofs.Common.{◌≡◌, ◌++◌, length, map, string_bytes, Is
 use Rattle.arrowflow_line.specs.CommandLine.{names_by}
 use Rattle.arrowflow_line.proofs.reading.parts_of.Given as goal
 
--- the parts that are there, and those of the rest, are all
+-- the parts in the list and those of the remaining text are all parts
 abbrev pub invariant-loop-part : goal.invariant-loop-part
 invariant-loop-part l = (map string_bytes l.parts.items ++ names_by l.rest ≡ names_by l.text) × IsUtf8 l.rest
 

@@ -5,13 +5,13 @@ use Rattle.clap.proofs.WalkLemmas.{first_value-rows}
 use Rattle.arrowflow_line.specs.CommandLine.{name_if_any}
 use Rattle.arrowflow_line.proofs.reading.size_if_any.Goals as goal
 
--- the text that was found is that of the option
+-- the text that was found is the option's
 pub returns-in-Ok : goal.returns-in-Ok
 returns-in-Ok c =
     let found = c.in-Some.ensures ∙ first_value-rows (found_of c.args.matches.now) c.name.result.now ∙ ap (λ n. name_if_any n (rows_of (found_of c.args.matches.now))) c.name.ensures in
     (sym (ap is_some found), c.in-Ok.ensures)
 
--- and has no size
+-- and it has no size within the bounds
 pub returns-in-Err : goal.returns-in-Err
 returns-in-Err c =
     let found = c.in-Some.ensures ∙ first_value-rows (found_of c.args.matches.now) c.name.result.now ∙ ap (λ n. name_if_any n (rows_of (found_of c.args.matches.now))) c.name.ensures in

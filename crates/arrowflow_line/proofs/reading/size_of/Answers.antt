@@ -4,7 +4,7 @@ use Rattle.arrowflow_line.specs.CommandLine.{least_size, most_size, name_in, siz
 use Rattle.arrowflow_line.specs.Sizes.{LacksSize}
 use Rattle.arrowflow_line.proofs.reading.size_of.Goals as goal
 
--- the text that has no size is that of the option
+-- the text that has no size within the bounds is the option's
 pub returns-in-None : goal.returns-in-None
 returns-in-None c =
     let option = c.args.option in

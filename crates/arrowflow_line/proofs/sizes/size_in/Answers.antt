@@ -3,7 +3,7 @@ use Rattle.std.specs.Str.Parse.{digits_value, without_leading_plus}
 use Rattle.arrowflow_line.proofs.Sized.{has_bytes, lacks, short_factor}
 use Rattle.arrowflow_line.proofs.sizes.size_in.Goals as goal
 
--- the number is none of 64 bits, so that no unit makes it one
+-- the number does not fit into 64 bits, so its product with a unit does not either
 pub returns-in_default : goal.returns-in_default
 returns-in_default c =
     let number = c.parted-bytes.result.0.now in
@@ -19,7 +19,7 @@ returns-in-Some-2 c =
     let size : c.in-Some.size ≡ digits_value 10 (without_leading_plus c.parted-bytes.result.0.now) * c.parted-bytes.result.1 = c.in-Some.ensures.1 ∙ ap (λ n. n * c.parted-bytes.result.1) count in
     omega (arith, size, high, c.if-size-most.false))
 
--- it is below them
+-- the size is below the bounds
 pub returns-in-Some-2-2 : goal.returns-in-Some-2-2
 returns-in-Some-2-2 c =
     lacks c.args.least c.args.most c.args.text.now c.parted-bytes.result.0.now c.parted-bytes.result.1 c.parted-bytes.ensures (λ numeral low high.
@@ -27,7 +27,7 @@ returns-in-Some-2-2 c =
     let size : c.in-Some.size ≡ digits_value 10 (without_leading_plus c.parted-bytes.result.0.now) * c.parted-bytes.result.1 = c.in-Some.ensures.1 ∙ ap (λ n. n * c.parted-bytes.result.1) count in
     omega (arith, size, low, c.if-least-size.false))
 
--- it is none of 64 bits
+-- the size does not fit into 64 bits
 pub returns-in-Some-2-3 : goal.returns-in-Some-2-3
 returns-in-Some-2-3 c =
     lacks c.args.least c.args.most c.args.text.now c.parted-bytes.result.0.now c.parted-bytes.result.1 c.parted-bytes.ensures (λ numeral low high.

@@ -35,15 +35,15 @@ returns c =
     let P : Sent → Type 0 = λ s. (s.parts ≡ now.parts) × (s.refused ≡ now.refused) × (s.dictionaries.items ≡ (shown_kept now.writer).sent) × (Some s.bytes.items ≡ (shown_kept now.writer).contents) in
     let Q : Sent → Type 0 = λ s. IsSent c.args.limits a (sent_plain s) in
     if_ok c.sent_of.result P Q c.sent_of.ensures (λ s h.
-    let told : List (Vec ℕ Global) → List Refusal → Type 0 = λ ps rs. IsSent c.args.limits a (record { parts = items_of ps; refused = rs; dictionaries = s.dictionaries.items; bytes = s.bytes.items }) in
+    let reported : List (Vec ℕ Global) → List Refusal → Type 0 = λ ps rs. IsSent c.args.limits a (record { parts = items_of ps; refused = rs; dictionaries = s.dictionaries.items; bytes = s.bytes.items }) in
     elim now.branch [
       | then-connection+in_ok-finish b ↦
           let u = shown_kept b.finish.new.writer in
           let x = sent_ended c.args.limits a v (items_of parts) refused end over u (items_of b.finish.new.parts.items) b.finish.new.refused.items s.dictionaries.items s.bytes.items b.if-connection.true b.in_ok-finish.ensures
           (h.3 ∙ ap (λ y. (shown_kept y).contents) b.writer-is) (h.2 ∙ ap (λ y. (shown_kept y).sent) b.writer-is) in
-          subst (λ r. told s.parts.items r) (sym (ap (λ r. r.items) (h.1 ∙ b.refused-is))) (subst (λ r. told r b.finish.new.refused.items) (sym (ap (λ r. r.items) (h.0 ∙ b.parts-is))) x)
+          subst (λ r. reported s.parts.items r) (sym (ap (λ r. r.items) (h.1 ∙ b.refused-is))) (subst (λ r. reported r b.finish.new.refused.items) (sym (ap (λ r. r.items) (h.0 ∙ b.parts-is))) x)
       | else-connection b ↦
           let x = sent_open c.args.limits a v (items_of parts) refused end over s.dictionaries.items s.bytes.items b.if-connection.false
           (h.3 ∙ ap (λ y. (shown_kept y).contents) b.writer-is) (h.2 ∙ ap (λ y. (shown_kept y).sent) b.writer-is) in
-          subst (λ r. told s.parts.items r) (sym (ap (λ r. r.items) (h.1 ∙ b.refused-is))) (subst (λ r. told r refused) (sym (ap (λ r. r.items) (h.0 ∙ b.parts-is))) x)
+          subst (λ r. reported s.parts.items r) (sym (ap (λ r. r.items) (h.1 ∙ b.refused-is))) (subst (λ r. reported r refused) (sym (ap (λ r. r.items) (h.0 ∙ b.parts-is))) x)
     ])

@@ -10,7 +10,7 @@ use Rattle.arrow_bits.proofs.bitmap_builder.BitsBuilder.push.Goals.{then-place-e
 pub index_mut-requires : goal.index_mut-requires
 index_mut-requires c = omega (arith, c.self.invariant.few, length_bits c.self.inside.len c.self.inside.bytes.items)
 
--- the bytes after the write, by what was written
+-- the bytes after the write, by the bit that was written
 grows : (c : goal.After-self-2-1) → IsGrown c.self.inside.len c.self.inside.bytes.items c.if-place-eq0.self-inside.bytes.items c.args.bit
 grows c =
     let len = c.self.inside.len in
@@ -36,6 +36,6 @@ counted c = grind (arith, common_steps)
 pub invariant_of-self-2 : goal.invariant_of-self-2
 invariant_of-self-2 c = rw (counted c) (grows c).packed
 
--- they hold one bit more
+-- they hold one more bit
 pub returns-clause-ok : goal.returns-clause-ok
 returns-clause-ok c = ap (λ n. bits_of n c.if-place-eq0.self-inside.bytes.items) (counted c) ∙ (grows c).more ∙ ap (λ bs. bs ++ c.args.bit ∷ []) c.self.view_is

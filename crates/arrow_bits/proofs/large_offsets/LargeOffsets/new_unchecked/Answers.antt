@@ -6,7 +6,7 @@ use Rattle.arrow_bits.proofs.large_offsets.LargeOffsets.new_unchecked.Goals as g
 pub invariant_of-result : goal.invariant_of-result
 invariant_of-result c = (omega (arith, c.requires.there), offsets_rise 8 c.args.bytes.now c.args.len c.args.top (λ i. (c.type_inv.bytes i).fits) c.requires)
 
--- each is the signed number at its place
+-- each is the signed number at its index
 pub returns-clause-signed : goal.returns-clause-signed
 returns-clause-signed c = offsets_signed 8 c.args.bytes.now c.args.len c.args.top (λ i. (c.type_inv.bytes i).fits) c.requires
 

@@ -33,7 +33,7 @@ take_items-take_along-requires t c =
       (record { order = run.ordered; inside = run.inside }, (lead_on _ child.data_type child.encoding steps (first_typed a.data_type.children child run.typed) c.requires.down, room)),
     )
 
--- the lists up to the next null more
+-- the lists up to the next null are added
 pub take_items-loop-i-preserved : goal.take_items-loop-i-preserved
 take_items-loop-i-preserved t c =
     let a = c.args.lists.array.now in
@@ -53,7 +53,7 @@ take_items-loop-i-preserved t c =
     let low : c.args.lists.start ≤ end = omega (arith, c.loop-i.invariant.0, before.low) in
     (low, before.high, taken)
 
--- and the nulls under that one
+-- and the nulls under that null list
 pub take_items-loop-i-preserved-then-i-stop : goal.take_items-loop-i-preserved-then-i-stop
 take_items-loop-i-preserved-then-i-stop t c =
     let a = c.args.lists.array.now in
@@ -119,7 +119,7 @@ take_field-take_along-requires t c =
       (record { order = before.low; inside = omega (arith, high, field.longer) }, (lead_on _ child.data_type child.encoding steps (child_typed a child k children fields field) c.requires.down, room)),
     )
 
--- the structs up to the next null more, and that one
+-- the structs up to the next null are added, and that null
 pub take_field-loop-i-preserved : goal.take_field-loop-i-preserved
 take_field-loop-i-preserved t c =
     let a = c.args.structs.array.now in

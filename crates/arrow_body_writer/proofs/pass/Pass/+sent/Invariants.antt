@@ -22,7 +22,7 @@ decreases-take_items-loop-i l = l.lists.stop - l.i
 abbrev pub decreases-take_field-loop-i : goal.decreases-take_field-loop-i
 decreases-take_field-loop-i l = l.structs.stop - l.i
 
--- each call has a step less to go
+-- each call has one step less left
 abbrev pub decreases-take_along : goal.decreases-take_along
 decreases-take_along l = 2 * count_steps l.steps.now
 

@@ -7,7 +7,7 @@ use Rattle.arrow_body_writer.specs.Pass.{Takes}
 use Rattle.arrow_body_writer.specs.Sent.{sent_along}
 use Rattle.arrow_body_writer.specs.Slice.{values_in}
 use Rattle.arrow_body_writer.specs.declared.pass.Pass.TheVariants.{Count, Put}
-use Rattle.arrow_body_writer.specs.declared.steps.Steps.{Steps}
+use Rattle.arrow_body_writer.specs.declared.steps.ChildPath.{ChildPath}
 use Rattle.arrow_body_writer.proofs.pass.Pass.take_masked.Goals as goal
 
 -- the bitmap has a bit for each of the structs
@@ -45,7 +45,7 @@ returns-in-Put-clause-taken c =
     let raw = structs.array.now.raw in
     let k = c.args.k in
     let masked = c.in-Some.ensures k c.in-Here-Some.ensures in
-    let T : Steps → Type 0 = λ steps. Takes c.args.self.now (Put c.in-Put.part c.put_masked.new.self) (sent_along steps (map (field_value k) (values_in structs))) in
+    let T : ChildPath → Type 0 = λ steps. Takes c.args.self.now (Put c.in-Put.part c.put_masked.new.self) (sent_along steps (map (field_value k) (values_in structs))) in
     IfOk-weaker c.put_masked.result _ (λ done. IsTrue done → T c.args.steps.now)
     (λ _ added done. subst T (sym c.in-Here-Some.is-0)
     (puts_masked c.args.self.now c.in-Put.part c.in-Put.writing c.put_masked.new.self k raw structs.start structs.stop c.in-Put.is

@@ -10,7 +10,7 @@ pub put-requires-clause-room : goal.put-requires-clause-room
 put-requires-clause-room c =
     of_slot (HasRoom c.args.part) c.args.slice.array.now.raw c.args.slice.start c.args.slice.stop c.loop-i.i c.requires.slots.inside c.loop-i.invariant.0 c.loop-i-test.true c.requires.room
 
--- one slot more
+-- one more slot
 pub loop-i-preserved : goal.loop-i-preserved
 loop-i-preserved c =
     let raw = c.args.slice.array.now.raw in

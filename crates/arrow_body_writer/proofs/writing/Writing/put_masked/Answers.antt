@@ -1,7 +1,7 @@
 use Rattle.arrow_body_writer.proofs.Marking.{bits_written}
 use Rattle.arrow_body_writer.proofs.Masking.{masked_numbers}
 use Rattle.arrow_body_writer.proofs.Numbering.{numbers_written}
-use Rattle.arrow_body_writer.specs.declared.masked.Masked.{Masked}
+use Rattle.arrow_body_writer.specs.declared.masked.NullMasked.{NullMasked}
 use Rattle.arrow_body_writer.proofs.writing.Writing.put_masked.Goals as goal
 
 -- the bits are added
@@ -15,7 +15,7 @@ returns-in_ok-push_range-in-Validity-clause-added c done raw masked inside =
 pub returns-in_ok-put-in-Numbers-clause-added : goal.returns-in_ok-put-in-Numbers-clause-added
 returns-in_ok-put-in-Numbers-clause-added c done raw masked inside =
     let bits = c.args.bits in
-    let n : Masked = record { width = c.width-width.result; values = c.in-Some.values; bits = bits.bytes } in
+    let n : NullMasked = record { width = c.width-width.result; values = c.in-Some.values; bits = bits.bytes } in
     numbers_written c.args.part c.in-Numbers.form c.args.self.now (record c.args.self.now { out = c.put.new.out }) n raw bits.start bits.stop
     c.in-Numbers.is c.width-width.ensures.same
     (c.in_ok-put-in-Numbers.ensures raw (masked_numbers n c.args.array.now.raw raw masked c.in-Some.ensures) inside)

@@ -52,7 +52,7 @@ put_run-requires-clause-room c =
     (all_last (HasRoom c.args.part) (values_from raw c.args.slice.start i) (values_from raw i c.args.slice.stop)
     (subst (AllByRecursion (HasRoom c.args.part)) (from_both raw c.args.slice.start i c.args.slice.stop c.loop-i.invariant.0 c.loop-i.invariant.1) c.requires.room))
 
--- the slots up to the next null more
+-- the slots up to the next null are added
 pub loop-i-preserved : goal.loop-i-preserved
 loop-i-preserved c =
     let raw = c.args.slice.array.now.raw in

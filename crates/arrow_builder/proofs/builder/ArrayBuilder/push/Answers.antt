@@ -11,7 +11,7 @@ use Rattle.arrow_builder.proofs.Counting.{counted_within}
 use Rattle.arrow_builder.proofs.builder.ArrayBuilder.push.Goals as goal
 use Rattle.arrow_builder.proofs.builder.ArrayBuilder.push.Goals.{After-push_value}
 
--- the value may be put where it was counted
+-- a value that fits and was counted can be put
 takes : (c : After-push_value) → TakesValue c.args.self.now (value_view c.args.value.now)
 takes c =
     let v = value_view c.args.value.now in

@@ -21,7 +21,7 @@ returns-in-Some-entry c =
     (on_appended c.extend_from_slice.result old _ _ c.extend_from_slice.ensures.items
     (copied_field (null_by c.args.null) slots c.in-Some.fields c.args.i c.in-Some-entry.n _ _ old _ _ has c.in-Some-entry.ensures c.index.ensures c.index-in-Some-entry.ensures c.deref.ensures.value))
 
--- a value that is at hand
+-- the value that was read from the slot
 pub returns-in_default : goal.returns-in_default
 returns-in_default c =
     let null = null_by c.args.null in

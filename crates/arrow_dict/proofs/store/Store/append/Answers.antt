@@ -29,14 +29,14 @@ append-requires-clause-plain c =
     let at = at_passed ds c.deref.result.now c.args.id c.in-Ok.at (sym c.deref.ensures.value) c.ranges.id c.in-Ok.ensures in
     c.requires.plain c.index_mut.result.now.1 (rw (← c.self.view_is) (found ds c.args.id c.in-Ok.at c.index_mut.result.now c.self.invariant at c.index_mut.ensures.value))
 
--- the ids stay as they were
+-- the ids are unchanged
 pub invariant_of-self-2 : goal.invariant_of-self-2
 invariant_of-self-2 c =
     let ds = c.self.inside.entries.items in
     let at = at_passed ds c.deref.result.now c.args.id c.in-Ok.at (sym c.deref.ensures.value) c.ranges.id c.in-Ok.ensures in
     still_rising ds c.args.self.now c.args.id c.in-Ok.at c.index_mut.result.now c.args.values c.self.invariant at c.index_mut.ensures.value c.self.view_is c.append.new.self
 
--- the values are appended, or a growth was refused
+-- the values are appended, or an allocation failed
 pub returns : goal.returns
 returns c =
     let ds = c.self.inside.entries.items in

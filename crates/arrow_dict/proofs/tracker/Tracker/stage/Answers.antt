@@ -6,7 +6,7 @@ use Rattle.arrow_dict.specs.Tracking.{Tracked, merged}
 use Rattle.arrow_dict.proofs.Merging.{merged_placed, on_ok}
 use Rattle.arrow_dict.proofs.tracker.Tracker.stage.Goals as goal
 
--- both lists rise, and there is room
+-- both lists rise, and there is enough capacity
 pub invariant_of-self-2 : goal.invariant_of-self-2
 invariant_of-self-2 c =
     let old = c.self.inside in
@@ -17,7 +17,7 @@ invariant_of-self-2 c =
       room = omega (arith, len, c.in_ok-reserve.ensures.ok, c.place.ensures.length);
     }
 
--- one more is placed
+-- one more dictionary is placed
 pub returns-clause-ok : goal.returns-clause-ok
 returns-clause-ok c =
     let old = c.self.inside in

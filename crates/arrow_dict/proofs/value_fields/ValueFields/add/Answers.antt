@@ -15,7 +15,7 @@ returns-then-contains_key c =
     subst (λ ds. NameSame ds (ds ++ d ∷ [])) c.self.view_is
     (kept_old c.self.inside.fields.entries d _ (to_z-of_z w64 c.args.id c.ranges.id) c.if-contains_key.ensures)
 
--- one field more
+-- one more field
 pub invariant_of-self-2 : goal.invariant_of-self-2
 invariant_of-self-2 c =
     subst (λ es. AllByRecursion IsValueField es) (sym c.in_ok-insert.ensures.entries)

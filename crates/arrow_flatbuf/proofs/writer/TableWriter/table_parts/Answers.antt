@@ -1,6 +1,6 @@
 use Rattle.std.proofs.Common.{ℕ, ◌+◌, subst, sym, ◌∙◌}
 use Rattle.arrow_flatbuf.specs.Layout.{slots_end}
-use Rattle.arrow_flatbuf.specs.Stands.{SlotsFit}
+use Rattle.arrow_flatbuf.specs.Placed.{SlotsFit}
 use Rattle.std.proofs.lemmas.Result.{on_err_weaker}
 use Rattle.arrow_flatbuf.proofs.Writing.{table_at_end, begun, begun_more, begun_again}
 use Rattle.arrow_flatbuf.proofs.writer.TableWriter.table_parts.Goals as goal
@@ -11,7 +11,7 @@ fields-requires-clause-fits c =
     let at = table_at_end _ _ _ _ _ _ _ _ c.args.slots.now c.in_ok-pad.ensures.ok c.in_ok-number.ensures.ok c.in_ok-number-2.ensures.ok c.in_ok-entries.ensures.ok c.in_ok-pad-2.ensures.ok in
     subst P (sym (c.place-table.ensures ∙ at)) c.requires.fits
 
--- Where the last part fails, the bytes still begin with those of before.
+-- If the last part fails, the bytes still begin with the earlier ones.
 pub returns-clause-err : goal.returns-clause-err
 returns-clause-err c =
     let old = c.args.self.now in

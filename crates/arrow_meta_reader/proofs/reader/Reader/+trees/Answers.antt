@@ -1,6 +1,6 @@
 use Rattle.std.proofs.Common.{IfErr, Bool, false, true, ◌≡◌, ℕ, ◌+◌, ◌*◌, ◌≤◌, List, length, Some, ap, sym, subst, ◌∙◌, option_map, arith, add-one, refl}
 use Rattle.std.proofs.lemmas.Result.{err_from_is_err_and, IfErr-weaker}
-use Rattle.arrow_flatbuf.specs.Place.{behind}
+use Rattle.arrow_flatbuf.specs.Place.{past}
 use Rattle.arrow_flatbuf.specs.Table.{field_place, table_at}
 use Rattle.arrow_flatbuf.specs.Vector.{vector_at}
 use Rattle.arrow_meta_reader.specs.Reads.{Ends, RowEnds, ends_unpaid, ends_paid, ends_below, ends_inside, NoRowFits, Faulty, room}
@@ -9,7 +9,7 @@ use Rattle.arrow_meta_reader.specs.declared.fault.MetaFault.TheVariants.{Metadat
 use Rattle.arrow_meta_reader.specs.Views.{plain, plain_all}
 use Rattle.arrow_meta_reader.specs.Trees.{Tree, table}
 use Rattle.arrow_meta_reader.specs.Within.{visit, levels, levels_all, visits, visits_all, entries, entries_all, text_bytes, text_bytes_all, Spends}
-use Rattle.arrow_meta_reader.specs.Lies.{Stands, AllStand, layer, table_layer, tables_layer, elements}
+use Rattle.arrow_meta_reader.specs.Lies.{Placed, AllPlaced, layer, table_layer, tables_layer, elements}
 use Rattle.arrow_meta_reader.specs.Grows.{RowGrows, table_grows, tables_grow}
 use Rattle.arrow_meta_reader.specs.declared.kinds.FieldForm.TheVariants as forms
 use Rattle.arrow_meta_reader.proofs.Layers.{layer_there, unreadable, unreadable_child, vector_layer, element_layer, no_room, no_room_at, no_fields, no_elements}
@@ -60,7 +60,7 @@ pub children-returns-in_err-elements-in-Some-clause-read : goal.children-returns
 children-returns-in_err-elements-in-Some-clause-read t c =
     let h = c.in_err-elements-in-Some.ensures.read in
     let v = c.in-Some.vector in
-    let there : (p : ℕ) × (field_place c.args.table.now c.args.field ≡ Some p) × (behind (vector_at 4) c.args.table.now.bytes p ≡ Some v) = rw c.in-Some.is at c.in_ok-vector.ensures.answer in
+    let there : (p : ℕ) × (field_place c.args.table.now c.args.field ≡ Some p) × (past (vector_at 4) c.args.table.now.bytes p ≡ Some v) = rw c.in-Some.is at c.in_ok-vector.ensures.answer in
     let same : (v.bytes ≡ c.args.table.now.bytes) × (v.size ≡ 4) = rw c.in-Some.is at c.in_ok-vector.ensures.bytes in
     let p = err_from_is_err_and c.from_residual-in_err-elements-in-Some.result c.from_residual-in_err-elements-in-Some.ensures.1 in
     let P : List ℕ → Type 0 = λ bytes. Faulty c.in_err-elements-in-Some.field-0.0 (NoRowFits bytes (elements c.args.kind v.place v.count) c.args.levels (room c.args.self.now)) (RowGrows bytes (elements c.args.kind v.place v.count) c.args.levels (room c.args.self.now)) in
@@ -129,17 +129,17 @@ element-returns-clause-read t c =
     let xs = plain_all c.in_ok-fields.fields.items in
     let there = c.in_ok-table.ensures in
     let paid = c.in_ok-below.ensures.paid in
-    let P : List ℕ → Type 0 = λ bytes. AllStand bytes ss xs × (levels_all xs ≤ c.in_ok-below.below) × Spends (room c.enter.new.self) (room c.fields.new.self) (visits_all xs) (entries_all xs) (text_bytes_all xs) in
+    let P : List ℕ → Type 0 = λ bytes. AllPlaced bytes ss xs × (levels_all xs ≤ c.in_ok-below.below) × Spends (room c.enter.new.self) (room c.fields.new.self) (visits_all xs) (entries_all xs) (text_bytes_all xs) in
     let h = subst P there.bytes c.in_ok-fields.ensures.read in
     let x : Tree = table c.args.kind xs in
-    let stands : Stands b (record { form = forms.Table c.args.kind; place = Some q }) x = (ss, element_layer b c.args.kind q c.in_ok-table.table (sym there.value), h.0) in
+    let placed : Placed b (record { form = forms.Table c.args.kind; place = Some q }) x = (ss, element_layer b c.args.kind q c.in_ok-table.table (sym there.value), h.0) in
     let deep : levels x ≤ c.args.levels = omega (arith, h.1, paid.0) in
     let paid_all : Spends (room c.args.self.now) (room c.fields.new.self) (visits x) (entries x) (text_bytes x) = record {
       visits_paid = omega (arith, h.2.visits_paid, paid.1.visits_paid);
       entries_paid = omega (arith, h.2.entries_paid, paid.1.entries_paid);
       text_paid = omega (arith, h.2.text_paid, paid.1.text_paid);
     } in
-    rw c.joined.ensures.table (stands, deep, paid_all)
+    rw c.joined.ensures.table (placed, deep, paid_all)
 
 pub elements-returns-in_err-tree-clause-read : goal.elements-returns-in_err-tree-clause-read
 elements-returns-in_err-tree-clause-read t c =
@@ -206,7 +206,7 @@ children-returns-in_err-vector-clause-ends t c =
 pub children-returns-in_err-elements-in-Some-clause-ends : goal.children-returns-in_err-elements-in-Some-clause-ends
 children-returns-in_err-elements-in-Some-clause-ends t c =
     let v = c.in-Some.vector in
-    let there : (p : ℕ) × (field_place c.args.table.now c.args.field ≡ Some p) × (behind (vector_at 4) c.args.table.now.bytes p ≡ Some v) = rw c.in-Some.is at c.in_ok-vector.ensures.answer in
+    let there : (p : ℕ) × (field_place c.args.table.now c.args.field ≡ Some p) × (past (vector_at 4) c.args.table.now.bytes p ≡ Some v) = rw c.in-Some.is at c.in_ok-vector.ensures.answer in
     let same : (v.bytes ≡ c.args.table.now.bytes) × (v.size ≡ 4) = rw c.in-Some.is at c.in_ok-vector.ensures.bytes in
     let p = err_from_is_err_and c.from_residual-in_err-elements-in-Some.result c.from_residual-in_err-elements-in-Some.ensures.1 in
     let P : List ℕ → Type 0 = λ bytes. RowEnds bytes true c.in_err-elements-in-Some.field-0.0 (elements c.args.kind v.place v.count) c.args.levels (room c.args.self.now) (room c.elements.new.self) in
@@ -261,7 +261,7 @@ child-returns-in-Some-2-clause-ends t c =
     let b = c.args.table.now.bytes in
     let kind = c.in-Some.opened in
     let child = c.in-Some-2.child in
-    let there : (p : ℕ) × (field_place c.args.table.now c.args.field ≡ Some p) × (behind table_at b p ≡ Some child) = rw c.in-Some-2.is at c.in_ok-table-in-Some.ensures.answer in
+    let there : (p : ℕ) × (field_place c.args.table.now c.args.field ≡ Some p) × (past table_at b p ≡ Some child) = rw c.in-Some-2.is at c.in_ok-table-in-Some.ensures.answer in
     let same : child.bytes ≡ b = rw c.in-Some-2.is at c.in_ok-table-in-Some.ensures.bytes in
     let s = opened c.args.kind (field_place c.args.table.now c.args.field) in
     let at = opened_spot c.args.kind kind (field_place c.args.table.now c.args.field) there.0 c.in-Some.is there.1 in

@@ -1,6 +1,6 @@
 use Rattle.std.proofs.Common.{◌≡◌, ℕ, Some, ap, ◌∙◌, option_map, length, refl}
 use Rattle.std.proofs.lemmas.Result.{err_from_is_err_and}
-use Rattle.arrow_flatbuf.specs.Place.{behind}
+use Rattle.arrow_flatbuf.specs.Place.{past}
 use Rattle.arrow_flatbuf.specs.Table.{field_place}
 use Rattle.arrow_flatbuf.specs.Text.{bytes_at}
 use Rattle.arrow_meta_reader.specs.Grows.{field_grows}
@@ -19,11 +19,11 @@ returns-in_err-bytes-clause-read c =
     let failed = err_from_is_err_and c.from_residual.result c.from_residual.ensures.1 in
     rw (failed.1, failed.2) (none_fits _ _ _ _ (layer_there c.args.table.now.bytes forms.Bytes _ there.0 there.1 ∙ ap (option_map (λ t. leaf_layer (byte_string t))) there.2))
 
--- no room for the bytes, or a refused growth for bytes that there is room for
+-- no room for the bytes, or a failed allocation for bytes that there is room for
 pub returns-in_err-copied-in-Some-clause-read : goal.returns-in_err-copied-in-Some-clause-read
 returns-in_err-copied-in-Some-clause-read c =
     λ most. let bytes = c.in-Some.bytes.now in
-    let there : (p : ℕ) × (field_place c.args.table.now c.args.field ≡ Some p) × (behind bytes_at c.args.table.now.bytes p ≡ Some bytes) = rw c.in-Some.is at c.in_ok-bytes.ensures.answer in
+    let there : (p : ℕ) × (field_place c.args.table.now c.args.field ≡ Some p) × (past bytes_at c.args.table.now.bytes p ≡ Some bytes) = rw c.in-Some.is at c.in_ok-bytes.ensures.answer in
     let layered = layer_there c.args.table.now.bytes forms.Bytes _ there.0 there.1 ∙ ap (option_map (λ t. leaf_layer (byte_string t))) there.2 in
     let failed = err_from_is_err_and c.from_residual-in_err-copied-in-Some.result c.from_residual-in_err-copied-in-Some.ensures.1 in
     rw (failed.1, failed.2) (faulty_so c.in_err-copied-in-Some.field-0.0 _ _ _ _
@@ -39,7 +39,7 @@ returns-in_err-bytes-clause-ends c =
 pub returns-in_err-copied-in-Some-clause-ends : goal.returns-in_err-copied-in-Some-clause-ends
 returns-in_err-copied-in-Some-clause-ends c =
     let bytes = c.in-Some.bytes.now in
-    let there : (p : ℕ) × (field_place c.args.table.now c.args.field ≡ Some p) × (behind bytes_at c.args.table.now.bytes p ≡ Some bytes) = rw c.in-Some.is at c.in_ok-bytes.ensures.answer in
+    let there : (p : ℕ) × (field_place c.args.table.now c.args.field ≡ Some p) × (past bytes_at c.args.table.now.bytes p ≡ Some bytes) = rw c.in-Some.is at c.in_ok-bytes.ensures.answer in
     let layered = layer_there c.args.table.now.bytes forms.Bytes _ there.0 there.1 ∙ ap (option_map (λ t. leaf_layer (byte_string t))) there.2 in
     let failed = err_from_is_err_and c.from_residual-in_err-copied-in-Some.result c.from_residual-in_err-copied-in-Some.ensures.1 in
     rw (failed.1, failed.2) (λ most. ends_copy _ _ (byte_string bytes) (length bytes) most (room c.args.self.now) (room c.copied.new.self) c.in_err-copied-in-Some.field-0.0 refl (λ fits. fits) layered

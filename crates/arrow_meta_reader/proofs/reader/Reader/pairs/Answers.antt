@@ -1,6 +1,6 @@
 use Rattle.std.proofs.Common.{◌≡◌, ℕ, Some, ap, ◌∙◌, option_map}
 use Rattle.std.proofs.lemmas.Result.{err_from_is_err_and}
-use Rattle.arrow_flatbuf.specs.Place.{behind}
+use Rattle.arrow_flatbuf.specs.Place.{past}
 use Rattle.arrow_flatbuf.specs.Table.{field_place}
 use Rattle.arrow_flatbuf.specs.Vector.{vector_at}
 use Rattle.arrow_meta_reader.specs.Grows.{field_grows}
@@ -24,7 +24,7 @@ pub returns-in_err-pairs_of-in-Some-clause-read : goal.returns-in_err-pairs_of-i
 returns-in_err-pairs_of-in-Some-clause-read c =
     λ most. let b = c.args.table.now.bytes in
     let v = c.in-Some.vector in
-    let there : (p : ℕ) × (field_place c.args.table.now c.args.field ≡ Some p) × (behind (vector_at 16) b p ≡ Some v) = rw c.in-Some.is at c.in_ok-vector.ensures.answer in
+    let there : (p : ℕ) × (field_place c.args.table.now c.args.field ≡ Some p) × (past (vector_at 16) b p ≡ Some v) = rw c.in-Some.is at c.in_ok-vector.ensures.answer in
     let failed = err_from_is_err_and c.from_residual-in_err-pairs_of-in-Some.result c.from_residual-in_err-pairs_of-in-Some.ensures.1 in
     rw (failed.1, failed.2) (field_grows (layer_there b forms.Pairs _ there.0 there.1 ∙ ap (option_map (λ v. leaf_layer (pairs (pairs_from b v.place v.count)))) there.2)
     (some_pairs b v.place v.count c.in_err-pairs_of-in-Some.ensures.some))
@@ -40,7 +40,7 @@ pub returns-in_err-pairs_of-in-Some-clause-ends : goal.returns-in_err-pairs_of-i
 returns-in_err-pairs_of-in-Some-clause-ends c =
     let b = c.args.table.now.bytes in
     let v = c.in-Some.vector in
-    let there : (p : ℕ) × (field_place c.args.table.now c.args.field ≡ Some p) × (behind (vector_at 16) b p ≡ Some v) = rw c.in-Some.is at c.in_ok-vector.ensures.answer in
+    let there : (p : ℕ) × (field_place c.args.table.now c.args.field ≡ Some p) × (past (vector_at 16) b p ≡ Some v) = rw c.in-Some.is at c.in_ok-vector.ensures.answer in
     let failed = err_from_is_err_and c.from_residual-in_err-pairs_of-in-Some.result c.from_residual-in_err-pairs_of-in-Some.ensures.1 in
     rw (failed.1, failed.2) (λ most. ends_refused (pairs (pairs_from b v.place v.count)) (layer_there b forms.Pairs _ there.0 there.1 ∙ ap (option_map (λ v. leaf_layer (pairs (pairs_from b v.place v.count)))) there.2)
     (some_pairs b v.place v.count c.in_err-pairs_of-in-Some.ensures.some) (nothing_spent _))

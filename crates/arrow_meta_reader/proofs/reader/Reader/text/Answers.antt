@@ -1,6 +1,6 @@
 use Rattle.std.proofs.Common.{◌≡◌, ℕ, Some, ap, ◌∙◌, option_map, length, arith}
 use Rattle.std.proofs.lemmas.Result.{err_from_is_err_and}
-use Rattle.arrow_flatbuf.specs.Place.{behind}
+use Rattle.arrow_flatbuf.specs.Place.{past}
 use Rattle.arrow_flatbuf.specs.Table.{field_place}
 use Rattle.arrow_flatbuf.specs.Text.{text_at}
 use Rattle.arrow_meta_reader.specs.Grows.{field_grows}
@@ -19,11 +19,11 @@ returns-in_err-text-clause-read c =
     let failed = err_from_is_err_and c.from_residual.result c.from_residual.ensures.1 in
     rw (failed.1, failed.2) (none_fits _ _ _ _ (layer_there c.args.table.now.bytes forms.Text _ there.0 there.1 ∙ ap (option_map (λ t. leaf_layer (text t))) there.2))
 
--- no room for the bytes, or a refused growth for bytes that there is room for
+-- no room for the bytes, or a failed allocation for bytes that there is room for
 pub returns-in_err-copy-in-Some-clause-read : goal.returns-in_err-copy-in-Some-clause-read
 returns-in_err-copy-in-Some-clause-read c =
     λ most. let bytes = c.in-Some.text.now in
-    let there : (p : ℕ) × (field_place c.args.table.now c.args.field ≡ Some p) × (behind text_at c.args.table.now.bytes p ≡ Some bytes) = rw c.in-Some.is at c.in_ok-text.ensures.answer in
+    let there : (p : ℕ) × (field_place c.args.table.now c.args.field ≡ Some p) × (past text_at c.args.table.now.bytes p ≡ Some bytes) = rw c.in-Some.is at c.in_ok-text.ensures.answer in
     let layered = layer_there c.args.table.now.bytes forms.Text _ there.0 there.1 ∙ ap (option_map (λ t. leaf_layer (text t))) there.2 in
     let failed = err_from_is_err_and c.from_residual-in_err-copy-in-Some.result c.from_residual-in_err-copy-in-Some.ensures.1 in
     rw (failed.1, failed.2) (faulty_so c.in_err-copy-in-Some.field-0.0 _ _ _ _
@@ -39,7 +39,7 @@ returns-in_err-text-clause-ends c =
 pub returns-in_err-copy-in-Some-clause-ends : goal.returns-in_err-copy-in-Some-clause-ends
 returns-in_err-copy-in-Some-clause-ends c =
     let bytes = c.in-Some.text.now in
-    let there : (p : ℕ) × (field_place c.args.table.now c.args.field ≡ Some p) × (behind text_at c.args.table.now.bytes p ≡ Some bytes) = rw c.in-Some.is at c.in_ok-text.ensures.answer in
+    let there : (p : ℕ) × (field_place c.args.table.now c.args.field ≡ Some p) × (past text_at c.args.table.now.bytes p ≡ Some bytes) = rw c.in-Some.is at c.in_ok-text.ensures.answer in
     let layered = layer_there c.args.table.now.bytes forms.Text _ there.0 there.1 ∙ ap (option_map (λ t. leaf_layer (text t))) there.2 in
     let failed = err_from_is_err_and c.from_residual-in_err-copy-in-Some.result c.from_residual-in_err-copy-in-Some.ensures.1 in
     rw (failed.1, failed.2) (λ most. ends_copy _ _ (text bytes) (length c.as_bytes.result.now) most (room c.args.self.now) (room c.copied.new.self) c.in_err-copy-in-Some.field-0.0 (ap length c.as_bytes.ensures.value) (λ fits. fits) layered

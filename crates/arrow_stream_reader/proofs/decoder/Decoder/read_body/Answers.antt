@@ -13,8 +13,8 @@ returns-then-body_len-piece c =
     let whole : length (held ++ take n piece) ≡ 8 + c.args.size + n =
     omega (arith, length-append held (take n piece), length-take-le n piece c.if-body_len-piece.true, c.len.ensures.count, c.if-len-start.true) in
     record {
-      works = finish_works c.args.self.now c.args.self.now.held c.args.self.now.phase c.finish.new.self (held ++ piece) (take n piece) (drop n piece) c.args.size (message_of c.args.message) c.finish.result
-          (append_assoc held (take n piece) (drop n piece) ∙ ap (λ x. held ++ x) (take-append-drop n piece)) (omega arith) whole c.finish.ensures.finishes;
+      works = finish_works c.args.self.now c.args.self.now.held c.args.self.now.phase c.decode_body.new.self (held ++ piece) (take n piece) (drop n piece) c.args.size (message_of c.args.message) c.decode_body.result
+          (append_assoc held (take n piece) (drop n piece) ∙ ap (λ x. held ++ x) (take-append-drop n piece)) (omega arith) whole c.decode_body.ensures.finishes;
     }
 
 pub overflow_add-whole : goal.overflow_add-whole
@@ -33,12 +33,12 @@ returns-then-len-whole c =
       };
     }
 
-pub returns-in_default-share : goal.returns-in_default-share
-returns-in_default-share c =
+pub returns-in_default-make_shared : goal.returns-in_default-make_shared
+returns-in_default-make_shared c =
     let more = drop c.in-Ok.field-0 c.args.piece.now in
-    let same = c.share.ensures.same in
+    let same = c.make_shared.ensures.same in
     let whole : length c.fill.new.self.items ≡ 8 + c.args.size + c.args.message.body_len = filled c.in-Ok.ensures.filled (omega (arith, c.len-2.ensures.count)) in
-    let all : length c.share.new.self.items ≡ 8 + c.args.size + c.args.message.body_len = ap length same ∙ whole in
+    let all : length c.make_shared.new.self.items ≡ 8 + c.args.size + c.args.message.body_len = ap length same ∙ whole in
     record {
       works = record {
         same = record { limits = refl; state = refl; place = refl };
@@ -49,17 +49,17 @@ returns-in_default-share c =
       };
     }
 
-pub finish-requires-2-clause-known : goal.finish-requires-2-clause-known
-finish-requires-2-clause-known c = metadata_held _ _ (c.share.ensures.same ∙ c.in-Ok.ensures.filled.took) c.requires.known
+pub decode_body-requires-2-clause-known : goal.decode_body-requires-2-clause-known
+decode_body-requires-2-clause-known c = metadata_held _ _ (c.make_shared.ensures.same ∙ c.in-Ok.ensures.filled.took) c.requires.known
 
 pub returns : goal.returns
 returns c =
     let more = drop c.in-Ok.field-0 c.args.piece.now in
-    let same = c.share.ensures.same in
-    let items = c.share.new.self.items in
+    let same = c.make_shared.ensures.same in
+    let items = c.make_shared.new.self.items in
     let whole : length c.fill.new.self.items ≡ 8 + c.args.size + c.args.message.body_len = filled c.in-Ok.ensures.filled (omega (arith, c.len-2.ensures.count)) in
     let all : length items ≡ 8 + c.args.size + c.args.message.body_len = ap length same ∙ whole in
     record {
-      works = finish_works c.args.self.now c.share.new.self c.args.self.now.phase c.finish-2.new.self (c.args.self.now.held.items ++ c.args.piece.now) [] more c.args.size (message_of c.args.message) c.finish-2.result
-          (ap (λ x. x ++ more) (append-nil items ∙ same) ∙ c.in-Ok.ensures.filled.rest) (omega (arith, all, c.requires.within)) (ap length (append-nil items) ∙ all) c.finish-2.ensures.finishes;
+      works = finish_works c.args.self.now c.make_shared.new.self c.args.self.now.phase c.decode_body-2.new.self (c.args.self.now.held.items ++ c.args.piece.now) [] more c.args.size (message_of c.args.message) c.decode_body-2.result
+          (ap (λ x. x ++ more) (append-nil items ∙ same) ∙ c.in-Ok.ensures.filled.rest) (omega (arith, all, c.requires.within)) (ap length (append-nil items) ∙ all) c.decode_body-2.ensures.finishes;
     }

@@ -41,7 +41,7 @@ returns-then-count-size c =
       };
     }
 
--- metadata end by the last place
+-- the metadata end by the last offset
 pub overflow_add-size : goal.overflow_add-size
 overflow_add-size c =
     let old = c.args.self.now in

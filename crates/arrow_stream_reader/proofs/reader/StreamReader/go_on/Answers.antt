@@ -6,22 +6,22 @@ use Rattle.arrow_stream_reader.specs.declared.item.Item.TheVariants.{End}
 use Rattle.arrow_stream_reader.specs.Views.{plain, given}
 use Rattle.arrow_stream_reader.specs.Decoder.{verdict_of}
 use Rattle.arrow_stream_reader.specs.Kind.{kind_of}
-use Rattle.arrow_stream_reader.specs.Stream.{ReaderStands}
+use Rattle.arrow_stream_reader.specs.Stream.{IsReaderAt}
 use Rattle.arrow_stream_reader.proofs.Firsts.{First-within, marker-within}
 use Rattle.arrow_stream_reader.proofs.Decoding.{is_open}
-use Rattle.arrow_stream_reader.proofs.Streams.{shown_by, first_moved, waits_at_nothing, short_stands, whole_stands, marker_stands, refusal_stands, taken_within, whole_some, marker_some, same_shows, beginning}
+use Rattle.arrow_stream_reader.proofs.Streams.{shown_by, first_moved, waits_at_nothing, short_position, whole_position, marker_position, refusal_position, taken_within, whole_some, marker_some, same_shows, beginning}
 use Rattle.arrow_stream_reader.proofs.reader.StreamReader.go_on.Goals as goal
 
 pub returns-in-Ok-Short-clause-reads : goal.returns-in-Ok-Short-clause-reads
 returns-in-Ok-Short-clause-reads c = λ t es at.
     let open_now : verdict_of c.self.inside.decoder.phase ≡ Open = ap (λ r. r.at.verdict) c.self.view_is ∙ c.requires.open in
-    let at' = subst (λ r. ReaderStands r t es) (sym c.self.view_is) at in
+    let at' = subst (λ r. IsReaderAt r t es) (sym c.self.view_is) at in
     let x = rw c.in-Ok-Short.field-0-is at c.in-Ok-Short.ensures.works in
     let piece = c.args.piece.now in
     let w = c.self.inside.decoder in
     record {
-      stands = subst (λ y. ReaderStands (shown_by c.step.new.self (verdict_of c.step.new.self.phase)) (t ++ y) es) (sym (take_all (length piece) piece (omega arith)))
-          (short_stands w (c.self.invariant.waiting open_now) piece (verdict_of w.phase) open_now t es at' c.step.new.self x);
+      position = subst (λ y. IsReaderAt (shown_by c.step.new.self (verdict_of c.step.new.self.phase)) (t ++ y) es) (sym (take_all (length piece) piece (omega arith)))
+          (short_position w (c.self.invariant.waiting open_now) piece (verdict_of w.phase) open_now t es at' c.step.new.self x);
       all = λ _. refl;
       same = is_open c.step.new.self x.at ∙ sym c.requires.open;
       none = λ q. absurd (let e = c.requires.open in cc);
@@ -40,7 +40,7 @@ returns-in-Ok-Whole-clause-takes c =
 pub returns-in-Ok-Whole-clause-reads : goal.returns-in-Ok-Whole-clause-reads
 returns-in-Ok-Whole-clause-reads c = λ t es at.
     let open_now : verdict_of c.self.inside.decoder.phase ≡ Open = ap (λ r. r.at.verdict) c.self.view_is ∙ c.requires.open in
-    let at' = subst (λ r. ReaderStands r t es) (sym c.self.view_is) at in
+    let at' = subst (λ r. IsReaderAt r t es) (sym c.self.view_is) at in
     let x = rw c.in-Ok-Whole.field-0-is at c.in-Ok-Whole.ensures.works in
     let piece = c.args.piece.now in
     let w = c.self.inside.decoder in
@@ -49,8 +49,8 @@ returns-in-Ok-Whole-clause-reads c = λ t es at.
     record {
       some = rw (← taken) (whole_some w waiting piece c.in-Ok-Whole.item c.step.new.self x);
       within = rw (← taken) (taken_within w waiting piece x.size (First-within x.first));
-      stands = subst (λ n. ReaderStands (shown_by c.step.new.self (verdict_of c.step.new.self.phase)) (t ++ take n piece) (es ++ record { given = given c.in-Ok-Whole.item; end = length t + n } ∷ [])) taken
-          (whole_stands w waiting piece (verdict_of w.phase) open_now t es at' c.in-Ok-Whole.item c.step.new.self x);
+      position = subst (λ n. IsReaderAt (shown_by c.step.new.self (verdict_of c.step.new.self.phase)) (t ++ take n piece) (es ++ record { given = given c.in-Ok-Whole.item; end = length t + n } ∷ [])) taken
+          (whole_position w waiting piece (verdict_of w.phase) open_now t es at' c.in-Ok-Whole.item c.step.new.self x);
     }
 
 pub invariant_of-self-in-Ok-Whole : goal.invariant_of-self-in-Ok-Whole
@@ -75,7 +75,7 @@ returns-in-Ok-EndMarker-clause-takes c =
 pub returns-in-Ok-EndMarker-clause-reads : goal.returns-in-Ok-EndMarker-clause-reads
 returns-in-Ok-EndMarker-clause-reads c = λ t es at.
     let open_now : verdict_of c.self.inside.decoder.phase ≡ Open = ap (λ r. r.at.verdict) c.self.view_is ∙ c.requires.open in
-    let at' = subst (λ r. ReaderStands r t es) (sym c.self.view_is) at in
+    let at' = subst (λ r. IsReaderAt r t es) (sym c.self.view_is) at in
     let x = rw c.in-Ok-EndMarker.field-0-is at c.in-Ok-EndMarker.ensures.works in
     let piece = c.args.piece.now in
     let w = c.self.inside.decoder in
@@ -84,14 +84,14 @@ returns-in-Ok-EndMarker-clause-reads c = λ t es at.
     record {
       some = rw (← taken) (marker_some w waiting piece c.step.new.self x);
       within = rw (← taken) (taken_within w waiting piece 8 (marker-within x.first));
-      stands = subst (λ n. ReaderStands (shown_by c.end.new.self (verdict_of c.end.new.self.phase)) (t ++ take n piece) (es ++ record { given = given End; end = length t + n } ∷ [])) taken
-          (marker_stands w waiting piece (verdict_of w.phase) open_now t es at' c.step.new.self c.end.new.self x c.end.ensures.limits c.end.ensures.state c.end.ensures.place c.end.ensures.phase);
+      position = subst (λ n. IsReaderAt (shown_by c.end.new.self (verdict_of c.end.new.self.phase)) (t ++ take n piece) (es ++ record { given = given End; end = length t + n } ∷ [])) taken
+          (marker_position w waiting piece (verdict_of w.phase) open_now t es at' c.step.new.self c.end.new.self x c.end.ensures.limits c.end.ensures.state c.end.ensures.place c.end.ensures.phase);
     }
 
 pub returns-in-Err-Refused-clause-reads : goal.returns-in-Err-Refused-clause-reads
 returns-in-Err-Refused-clause-reads c = λ t es at.
     let open_now : verdict_of c.self.inside.decoder.phase ≡ Open = ap (λ r. r.at.verdict) c.self.view_is ∙ c.requires.open in
-    let at' = subst (λ r. ReaderStands r t es) (sym c.self.view_is) at in
+    let at' = subst (λ r. IsReaderAt r t es) (sym c.self.view_is) at in
     let x = rw c.in-Err-Refused.field-0-is at c.in-Err-Refused.ensures.works in
     let y = c.fail.ensures in
     let w = c.self.inside.decoder in
@@ -101,7 +101,7 @@ returns-in-Err-Refused-clause-reads c = λ t es at.
       kind = c.kind.ensures.same;
       verdict = ap verdict_of y.phase;
       place = sym place;
-      stands = refusal_stands w (c.self.invariant.waiting open_now) c.args.piece.now (verdict_of w.phase) open_now t es at' c.in-Err-Refused.refusal c.fail.new.self x.first (y.limits ∙ x.stopped.same.limits) (y.state ∙ x.stopped.same.state) place y.phase;
+      position = refusal_position w (c.self.invariant.waiting open_now) c.args.piece.now (verdict_of w.phase) open_now t es at' c.in-Err-Refused.refusal c.fail.new.self x.first (y.limits ∙ x.stopped.same.limits) (y.state ∙ x.stopped.same.state) place y.phase;
       held = y.held;
     })
 

@@ -2,7 +2,7 @@ use Rattle.std.proofs.Common.{refl, ap, length, arith}
 use Rattle.arrow_stream_reader.specs.declared.reader.Verdict.TheVariants.{Open}
 use Rattle.arrow_stream_reader.specs.Frame.{short_prefix}
 use Rattle.arrow_stream_reader.specs.Views.{plain}
-use Rattle.arrow_stream_reader.proofs.Streams.{anew_stands}
+use Rattle.arrow_stream_reader.proofs.Streams.{anew_position}
 use Rattle.arrow_stream_reader.proofs.reader.StreamReader.new.Goals as goal
 
 pub invariant_of-result : goal.invariant_of-result
@@ -15,4 +15,4 @@ invariant_of-result c =
     }
 
 pub returns-clause-start : goal.returns-clause-start
-returns-clause-start c = anew_stands c.args.limits (plain c.new.result) 0 c.new-2.result.items Open c.new.ensures.nothing refl c.new-2.ensures.none refl
+returns-clause-start c = anew_position c.args.limits (plain c.new.result) 0 c.new-2.result.items Open c.new.ensures.nothing refl c.new-2.ensures.none refl

@@ -2,7 +2,7 @@ use Rattle.std.proofs.Common.{◌≡◌, [], ap, sym, ◌∙◌, inr}
 use Rattle.arrow_stream_reader.specs.declared.reader.Verdict.TheVariants.{Bad}
 use Rattle.arrow_stream_reader.specs.Decoder.{verdict_of}
 use Rattle.arrow_stream_reader.specs.Kind.{kind_of}
-use Rattle.arrow_stream_reader.proofs.Streams.{ended_stands, same_shows}
+use Rattle.arrow_stream_reader.proofs.Streams.{ended_position, same_shows}
 use Rattle.arrow_stream_reader.proofs.reader.StreamReader.read.Goals as goal
 
 pub returns-in-Bad-clause-reads : goal.returns-in-Bad-clause-reads
@@ -14,7 +14,7 @@ returns-in-Bad-clause-reads c = λ t es at.
       kind = c.kind.ensures.same;
       verdict = verdict;
       place = ap (λ r. r.at.place) c.self.view_is;
-      stands = ended_stands c.args.self.now t es c.args.piece.now (λ q. cc) at;
+      position = ended_position c.args.self.now t es c.args.piece.now (λ q. cc) at;
       held = ap (λ r. r.at.rest) (sym c.self.view_is) ∙ c.self.invariant.empty (λ q. cc);
     })
 

@@ -7,7 +7,7 @@ use Rattle.arrow_dict.specs.Dictionaries.{placed}
 use Rattle.arrow_meta_reader.specs.Means.{batch_view, dictionary}
 use Rattle.arrow_stream_reader.specs.State.{dictionary_given}
 use Rattle.arrow_stream_reader.specs.Frame.{BodySays}
-use Rattle.arrow_stream_reader.specs.Views.{Ready, Updates, plain, store_stop}
+use Rattle.arrow_stream_reader.specs.Views.{Ready, Updates, plain, store_error}
 use Rattle.arrow_stream_reader.proofs.States.{append_updates, append_fits, append_refused, replace_updates, replace_fits, update_refused, values_applicable}
 use Rattle.arrow_stream_reader.proofs.state.State.update.Goals as goal
 
@@ -76,7 +76,7 @@ returns-in_err-append-clause-updates c =
     let new = c.append.new.self in
     let fault = c.in_err-append.field-0.0 in
     let failed = err_from_is_err_and c.from_residual-in_err-append.result c.from_residual-in_err-append.ensures.1 in
-    rw (failed.1, failed.2) (subst (λ b. Updates s c.args.dictionary_batch.now.id b record_batch body (Err (store_stop fault)) (record { schema = s.schema; dictionaries = new })) (sym c.if-is_delta.true)
+    rw (failed.1, failed.2) (subst (λ b. Updates s c.args.dictionary_batch.now.id b record_batch body (Err (store_error fault)) (record { schema = s.schema; dictionaries = new })) (sym c.if-is_delta.true)
     (append_refused s record_batch body c.args.dictionary_batch.now.id c.in_ok-values.values fault new (subst (λ d. Ready s (dictionary c.args.dictionary_batch.now.id d record_batch)) c.if-is_delta.true c.requires.ready)
     c.in_ok-values.ensures.values
     (subst (λ i. Appends s.dictionaries i c.in_ok-values.values (Err fault) new) id c.in_err-append.ensures)))

@@ -38,7 +38,7 @@ add_columns-returns-in_err-add_column-clause-gathers t c =
     rw (failed.1, failed.2) (stops_at c.args.columns.now c.loop-column.column-index c.column-item.result c.in_err-add_column.field-0.0 (dictionary_in c.args.self.now) (dictionary_in c.loop-column.self) (dictionary_in c.add_column.new.self)
     c.loop-column-test.true c.column-item.is c.loop-column.invariant.0 c.in_err-add_column.ensures.gathers)
 
--- one column more
+-- one more column
 pub add_columns-loop-column-preserved : goal.add_columns-loop-column-preserved
 add_columns-loop-column-preserved t c =
     let i = c.loop-column.column-index in

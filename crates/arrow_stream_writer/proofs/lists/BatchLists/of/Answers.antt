@@ -6,7 +6,7 @@ use Rattle.arrow_stream_writer.specs.Lists.{Gathers, dictionary_in}
 use Rattle.arrow_stream_writer.proofs.Found.{all_found, not_found}
 use Rattle.arrow_stream_writer.proofs.lists.BatchLists.of.Goals as goal
 
--- all columns were gone through
+-- all columns were visited
 pub returns : goal.returns
 returns c =
     let find = dictionary_in c.new-lists.result in

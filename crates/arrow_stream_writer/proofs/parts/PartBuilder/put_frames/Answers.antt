@@ -13,7 +13,7 @@ pub put_updates-requires-clause-schema : goal.put_updates-requires-clause-schema
 put_updates-requires-clause-schema c =
     sym c.schema.ensures.same ∙ (is_equal_decides schema_code c.schema.result.now c.deref.result.now).0 (sym c.if-not-same.ensures.gives) ∙ c.deref.ensures
 
--- the record batch was refused
+-- the record batch was rejected
 pub returns-in_err-put_record-clause-built : goal.returns-in_err-put_record-clause-built
 returns-in_err-put_record-clause-built c =
     let terms = terms_of c.args.self.now.settings in
@@ -29,7 +29,7 @@ returns-in_err-put_record-clause-built c =
       x.is_work.sent,
     )
 
--- the part would end past the last place
+-- the batch messages would end past the last offset
 pub returns-then-len-place-clause-built : goal.returns-then-len-place-clause-built
 returns-then-len-place-clause-built c =
     let terms = terms_of c.args.self.now.settings in
@@ -47,7 +47,7 @@ returns-then-len-place-clause-built c =
       x.is_work.sent,
     )
 
--- the part was built
+-- the batch messages were built
 pub returns-clause-built : goal.returns-clause-built
 returns-clause-built c =
     let terms = terms_of c.args.self.now.settings in

@@ -19,7 +19,7 @@ returns-in-Err c =
 pub returns-in_err-put_stored : goal.returns-in_err-put_stored
 returns-in_err-put_stored c =
     let known = c.in_default.ensures in
-    let stored = stored_of (alignment_of c.args.self.now.align) c.args.batch.now c.columns.result.now (body_view c.store_in.new.body) c.schema.ensures.known c.columns.ensures.same known.raws known.told.small known.same in
+    let stored = stored_of (alignment_of c.args.self.now.align) c.args.batch.now c.columns.result.now (body_view c.store_in.new.body) c.schema.ensures.known c.columns.ensures.same known.raws known.represented.small known.same in
     let failed = err_from_is_err_and c.from_residual.result c.from_residual.ensures.1 in
     rw (failed.1, failed.2) (c.in_err-put_stored.ensures (record_load c.args.batch.now) refl (sym c.rows.ensures) stored)
 
@@ -27,6 +27,6 @@ returns-in_err-put_stored c =
 pub returns : goal.returns
 returns c =
     let known = c.in_default.ensures in
-    let stored = stored_of (alignment_of c.args.self.now.align) c.args.batch.now c.columns.result.now (body_view c.store_in.new.body) c.schema.ensures.known c.columns.ensures.same known.raws known.told.small known.same in
+    let stored = stored_of (alignment_of c.args.self.now.align) c.args.batch.now c.columns.result.now (body_view c.store_in.new.body) c.schema.ensures.known c.columns.ensures.same known.raws known.represented.small known.same in
     subst (Puts (terms_of c.args.self.now) (record_load c.args.batch.now) c.args.part.now.bytes.items (Ok tt)) (sym c.in_ok-append_short_body.ensures)
     (c.in_ok-put_stored.ensures (record_load c.args.batch.now) refl (sym c.rows.ensures) stored)

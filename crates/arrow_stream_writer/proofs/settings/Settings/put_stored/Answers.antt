@@ -53,6 +53,6 @@ returns c = λ load kind rows s.
     let buffers = c.replace-2.ensures.value in
     let is_header = c.header_of.ensures ∙ (λ i. header_of c.args.kind (record batch { length = to_z w64 c.args.rows; nodes = (nodes i).items; buffers = (buffers i).items }))
     ∙ ap (λ n. header_of c.args.kind (record batch { length = n })) count ∙ ap (λ k. header_of k batch) (sym kind) in
-    let told : c.len-2.result ≡ length b.bytes = search rules in
+    let reported : c.len-2.result ≡ length b.bytes = search rules in
     answers_load terms load b s some header c.put_head-answer.result c.args.part.now.bytes.items (c.put_head-answer.new.out.items ++ c.give_back.new.body.bytes.items) is_header (omega arith) (omega arith) (few ∙ ap not c.if-have_bad_length.false)
-    (subst (λ (body : List _). PutsMessage terms header b.bytes c.args.part.now.bytes.items c.put_head-answer.result (c.put_head-answer.new.out.items ++ body)) (sym c.give_back.ensures) (c.put_head-answer.ensures b.bytes told))
+    (subst (λ (body : List _). PutsMessage terms header b.bytes c.args.part.now.bytes.items c.put_head-answer.result (c.put_head-answer.new.out.items ++ body)) (sym c.give_back.ensures) (c.put_head-answer.ensures b.bytes reported))

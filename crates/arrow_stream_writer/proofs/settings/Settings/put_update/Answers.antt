@@ -26,7 +26,7 @@ returns-in_err-put_stored c named =
     let update = c.args.update.now in
     let d = update.dictionary.now in
     let known = c.in_default.ensures in
-    let stored = stored_rest terms update.id update.is_delta update.from d named (body_view c.store_rest_in-stored.new.body) known.raws known.told.small known.same in
+    let stored = stored_rest terms update.id update.is_delta update.from d named (body_view c.store_rest_in-stored.new.body) known.raws known.represented.small known.same in
     let rows = length-drop update.from d.values ∙ ap (λ n. n - update.from) (sym c.len-len.ensures) in
     let failed = err_from_is_err_and c.from_residual.result c.from_residual.ensures.1 in
     rw (failed.1, failed.2)
@@ -40,7 +40,7 @@ returns c named =
     let update = c.args.update.now in
     let d = update.dictionary.now in
     let known = c.in_default.ensures in
-    let stored = stored_rest terms update.id update.is_delta update.from d named (body_view c.store_rest_in-stored.new.body) known.raws known.told.small known.same in
+    let stored = stored_rest terms update.id update.is_delta update.from d named (body_view c.store_rest_in-stored.new.body) known.raws known.represented.small known.same in
     let rows = length-drop update.from d.values ∙ ap (λ n. n - update.from) (sym c.len-len.ensures) in
     let limit = c.max_rows.ensures.value in
     let long = c.len-len.ensures in

@@ -19,7 +19,7 @@ returns-in-Ok-clause-answer g c =
     let near : old.place + 8 ≤ 2 ^ 62 = omega (arith, c.if-self.false) in
     finishes old new refl refl refl refl open_before near c.in-Ok.ensures.all refl refl c.in-Ok.ensures.fine
 
--- the sink failed in it, or as it was flushed
+-- the sink failed within it, or when it was flushed
 pub returns-in-Err-clause-answer : goal.returns-in-Err-clause-answer
 returns-in-Err-clause-answer g c =
     let old = shown g.S.Sink.contents g.S.Sink.failed c.args.self.now in

@@ -40,7 +40,7 @@ returns-in-Ok-send-clause-starts g c =
     let long : c.len-place.result ≡ length part = c.len-place.ensures ∙ sym c.deref.ensures.len ∙ ap length c.deref.ensures.value in
     starts terms (g.S.Sink.contents c.args.sink) (g.S.Sink.failed c.args.sink) part new ceiling known put has more none long refl c.in-Ok-send.ensures.fine
 
--- the sink failed in it
+-- the sink failed within it
 pub returns-in-Err-send-clause-fails : goal.returns-in-Err-send-clause-fails
 returns-in-Err-send-clause-fails g c =
     let terms : Terms = record { limits = c.args.limits; align = alignment_of c.args.options.align; shape = c.args.schema.now; updates = c.args.options.updates } in

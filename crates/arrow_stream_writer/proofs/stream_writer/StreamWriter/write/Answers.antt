@@ -9,7 +9,7 @@ use Rattle.arrow_stream_writer.specs.Terms.{Terms, terms_of}
 use Rattle.arrow_stream_writer.proofs.Showing.{HasTerms, part_near, writes_accepted, writes_failed, writing}
 use Rattle.arrow_stream_writer.proofs.stream_writer.StreamWriter.write.Goals as goal
 
--- the part was accepted
+-- the batch messages were accepted
 pub returns-in-Ok-clause-answer : goal.returns-in-Ok-clause-answer
 returns-in-Ok-clause-answer g c =
     let old = shown g.S.Sink.contents g.S.Sink.failed c.args.self.now in
@@ -34,7 +34,7 @@ returns-in-Ok-clause-answer g c =
     let long = c.len.ensures ∙ built.sized in
     writes_accepted terms c.args.batch.now old new was has open_before built.frames built.is_part more (c.in-Ok.ensures.committed ∙ built.staged) (ap (λ n. old.place + n) long) open_before c.in-Ok.ensures.fine
 
--- the sink failed in it
+-- the sink failed within them
 pub returns-in-Err-clause-answer : goal.returns-in-Err-clause-answer
 returns-in-Err-clause-answer g c =
     let old = shown g.S.Sink.contents g.S.Sink.failed c.args.self.now in
@@ -59,7 +59,7 @@ returns-in-Err-clause-answer g c =
     subst (λ k. Writes old c.args.batch.now (Err k) new) (sym c.in-Err.ensures.fault)
     (writes_failed terms c.args.batch.now old new was has open_before built.frames built.is_part some (c.in-Err.ensures.discarded ∙ built.kept) refl refl c.in-Err.ensures.failed)
 
--- the part ends before the last place
+-- the batch messages end before the last offset
 pub invariant_of-self-in-Ok-clause-near : goal.invariant_of-self-in-Ok-clause-near
 invariant_of-self-in-Ok-clause-near g c =
     let old = c.args.self.now in
@@ -68,7 +68,7 @@ invariant_of-self-in-Ok-clause-near g c =
     let long = c.len.ensures ∙ built.sized in
     omega (arith, long, part_near terms old.place c.args.batch.now old.builder.tracker.sent built.frames built.is_part)
 
--- so that its end is a place
+-- so their end is an offset
 pub overflow_add-self : goal.overflow_add-self
 overflow_add-self g c =
     let old = c.args.self.now in

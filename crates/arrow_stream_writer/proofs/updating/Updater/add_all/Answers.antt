@@ -10,7 +10,7 @@ use Rattle.arrow_stream_writer.specs.Updating.{AddsAll, IsWorkOf, work_of}
 use Rattle.arrow_stream_writer.proofs.Adding.{adds_list, goes_on, refused_at}
 use Rattle.arrow_stream_writer.proofs.updating.Updater.add_all.Goals as goal
 
--- a refusal at one id is one of all
+-- a rejection at one id is a rejection of all
 pub returns-in_err-add_one : goal.returns-in_err-add_one
 returns-in_err-add_one c t same lists =
     let settings = c.args.self.now.settings.now in
@@ -30,7 +30,7 @@ returns-in_err-add_one c t same lists =
     rw (failed.1, failed.2) (subst (λ xs. AddsAll terms (sendings settings.updates c.args.tracker.now.sent (list_of t) xs) start (Err c.in_err-add_one.field-0.0) new) are
     (refused_at terms c.args.tracker.now.sent (list_of t) ids c.loop-k.k id c.in_err-add_one.field-0.0 start old new h refl refl so_far.sent one))
 
--- one id more
+-- one more id
 pub loop-k-preserved : goal.loop-k-preserved
 loop-k-preserved c t same lists =
     let settings = c.args.self.now.settings.now in

@@ -11,7 +11,7 @@ returns-in_default c d there named =
     let clash : None ≡ Some d = c.in_default.ensures ∙ ap (dictionary_in c.args.self.now.lists.now) passed ∙ there in
     absurd (cc)
 
--- a delta begins inside of the values
+-- a delta begins within the values
 pub send-requires-in-Delta : goal.send-requires-in-Delta
 send-requires-in-Delta c = record {
   inside = delta_inside c.args.self.now.settings.now.updates _ c.in-Some.dictionary.now.values c.in-Delta.from (sym c.in-Delta.ensures);

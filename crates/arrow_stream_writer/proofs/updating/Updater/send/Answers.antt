@@ -6,7 +6,7 @@ use Rattle.arrow_stream_writer.specs.Updating.{sending_of, work_of}
 use Rattle.arrow_stream_writer.proofs.Adding.{adds_frame, type_is}
 use Rattle.arrow_stream_writer.proofs.updating.Updater.send.Goals as goal
 
--- the frame is there, and its dictionary is staged
+-- the frame was appended, and its dictionary is staged
 pub returns : goal.returns
 returns c named =
     let terms = terms_of c.args.self.now.settings.now in

@@ -6,7 +6,7 @@ use Rattle.arrow_types.specs.declared.schema.SchemaFault.TheVariants.{ByteWidth,
 use Rattle.arrow_types.specs.View.{fields_view, schema_view}
 use Rattle.arrow_types.proofs.schema.Schema.with_metadata.Goals as goal
 
--- fields and pairs that pass all tests keep what a schema keeps
+-- fields and pairs that pass all tests satisfy the invariant of a schema
 pub invariant_of-result : goal.invariant_of-result
 invariant_of-result c =
     let shape = schema_view c.args.fields.items (pairs_view c.args.metadata.items) in

@@ -24,7 +24,7 @@ use Rattle.std.specs.declared.option.Option.{Option}
 use Rattle.arrowflow_c.specs.declared.pieces.Copying.{Copying}
 use Rattle.std.specs.declared.option.Option.TheVariants.{None, Some}
 use Rattle.std.proofs.alloc.Global.TheLaws as heap_laws
-use Rattle.arrowflow_c.proofs.Addresses.{Loose, Z, both, heap_al, loose_good, loose_in, one_val}
+use Rattle.arrowflow_c.proofs.Addresses.{RawBox, Z, both, heap_al, loose_good, loose_in, one_val}
 use Rattle.arrowflow_c.proofs.CopierAddresses.{slot_out}
 use Rattle.arrowflow_c.specs.contracts.pieces.Copying as held
 use Rattle.arrowflow_c.specs.contracts.copier_slot.CopierSlot as slot
@@ -39,7 +39,7 @@ held_in (Some x) some = (x, refl)
 
 pub into_loose_spec : {M : Type 1} → statement M
 into_loose_spec 𝓤 𝓛 𝓜 𝓡 wired =
-    let H = 𝓛.H in let 𝓣 = tables 𝓤 H 𝓜 𝓡 𝓡.env in let R : RattleType = held.the_row in let LZ = heap_laws.the_row_laws in let Lr : RattleType = Loose R Z LZ ghosts in
+    let H = 𝓛.H in let 𝓣 = tables 𝓤 H 𝓜 𝓡 𝓡.env in let R : RattleType = held.the_row in let LZ = heap_laws.the_row_laws in let Lr : RattleType = RawBox R Z LZ ghosts in
     let c = clauses 𝓛 𝓜.mem 𝓡.returns in let fn = code.function in let hs : Stays ended.signature.params ended.kept = (stay_dropped (plain (λ _. slot.the_row)) yes, (stay_dropped (plain (λ _. Z)) yes, tt)) in
     proved_at 𝓛 ended hs c 𝓜 𝓡 (Goes-dropped 𝓛 0 (plain (λ _. slot.the_row)) yes (λ κs x f. refl), (Goes-dropped 𝓛 0 (plain (λ _. Z)) yes (λ κs x f. refl), tt)) #self fn (code.unfolded 𝓤 H 𝓜 𝓡 wired) (λ z are.
     let κs = z.0.0 in let v = z.0.3.0 in let a = z.0.3.1.0 in let Post : Val → SProp 𝓤 = (walk_of 𝓛 ended hs c).post z in let Run : List Val → SProp 𝓤 = λ ws. WpFn 𝓤 H 𝓣.C 𝓣.Λ fn ws Post in

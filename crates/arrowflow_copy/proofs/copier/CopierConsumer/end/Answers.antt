@@ -1,5 +1,5 @@
 use Rattle.arrow_stream_writer.specs.Shown.{options_view}
-use Rattle.arrowflow_copy.specs.Target.{at_of}
+use Rattle.arrowflow_copy.specs.WriterState.{at_of}
 use Rattle.arrowflow_copy.proofs.Copied.{end_copied, end_through, end_writes}
 use Rattle.arrowflow_copy.proofs.copier.CopierConsumer.end.Goals as goal
 
@@ -13,5 +13,5 @@ returns-clause-ends g c began bytes left es ended x =
     let r = c.args._reader.now in (
       end_copied began own o at copier.number c.args._marked r bytes left es ended x c.finish.result.1 at' c.finish.ensures.closes,
       c.finish.ensures.passed (end_writes began own o at copier.number c.args._marked r bytes left es ended x),
-      end_through at c.finish.result.1 at' c.finish.ensures.closes r bytes (es, ended.stands),
+      end_through at c.finish.result.1 at' c.finish.ensures.closes r bytes (es, ended.position),
     )

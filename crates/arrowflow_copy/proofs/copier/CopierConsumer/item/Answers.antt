@@ -2,7 +2,7 @@ use Rattle.std.proofs.Common.{◌<◌, ◌++◌, sym, subst}
 use Rattle.arrow_stream_reader.specs.Views.{given}
 use Rattle.arrow_stream_writer.specs.Shown.{options_view}
 use Rattle.arrowflow_copy.specs.Copying.{TakesItem}
-use Rattle.arrowflow_copy.specs.Target.{at_of}
+use Rattle.arrowflow_copy.specs.WriterState.{at_of}
 use Rattle.arrowflow_copy.proofs.Copied.{item_through, message_copied, message_stopped, takes_failures}
 use Rattle.arrowflow_copy.proofs.copier.CopierConsumer.item.Goals as goal
 

@@ -4,7 +4,7 @@ use Rattle.arrow_stream_writer.specs.Shown.{options_view}
 use Rattle.arrowflow_copy.specs.Copying.{TakesItem}
 use Rattle.arrowflow_copy.specs.Outbox.{contents_of, failed_of}
 use Rattle.arrowflow_copy.specs.Taken.{with_taken}
-use Rattle.arrowflow_copy.specs.Target.{at_of}
+use Rattle.arrowflow_copy.specs.WriterState.{at_of}
 use Rattle.arrowflow_copy.proofs.Copied.{message_copied, message_stopped}
 use Rattle.arrowflow_copy.proofs.Taken.{takes_item}
 use Rattle.arrowflow_copy.proofs.part_copier.PartCopierConsumer.item.Goals as goal

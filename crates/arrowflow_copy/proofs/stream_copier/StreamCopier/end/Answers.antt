@@ -1,6 +1,6 @@
 use Rattle.std.proofs.Common.{ap, ◌∙◌, sym, subst, [], Some, Err}
 use Rattle.arrow_stream_reader.specs.Stream.{ReaderView}
-use Rattle.arrowflow_report.specs.declared.tool_fault.ToolFault.{ToolFault}
+use Rattle.arrowflow_input.specs.declared.tool_fault.ToolFault.{ToolFault}
 use Rattle.arrowflow_copy.specs.CopierShown.{copier_view}
 use Rattle.arrowflow_copy.specs.Pieces.{Answer, HasEndedAt, IsAtEnd}
 use Rattle.arrowflow_copy.specs.declared.part_copier.PartCopier.{PartCopier}

@@ -1,6 +1,6 @@
 use Rattle.std.proofs.Common.{◌++◌, ap, ◌∙◌, sym, subst, Ok}
 use Rattle.arrow_stream_reader.specs.Stream.{ReaderView}
-use Rattle.arrowflow_report.specs.Driver.{PieceTaken}
+use Rattle.arrowflow_input.specs.Driver.{PieceTaken}
 use Rattle.arrowflow_copy.specs.CopierShown.{copier_view, parts_view}
 use Rattle.arrowflow_copy.specs.Pieces.{IsAfterPiece}
 use Rattle.arrowflow_copy.proofs.Parts.{Keeps, Says, ended_marked, ended_piece, ended_with, goes_on_parts, lent, not_ended}

@@ -8,4 +8,4 @@ returns-in-Ok-forget-clause-keeps c bytes k is_open =
     let new = c.take_piece-next.new.reader in
     let left : c.forget.new.kept.items ≡ drop (new.at.place - old.at.place) (c.args.self.now.kept.items ++ c.args.piece.now) = search rules in
     piece_kept old new bytes c.args.piece.now c.args.self.now.kept.items c.forget.new.kept.items k is_open c.take_piece-next.ensures.limits left c.take_piece-next.result.1 (c.take_piece-next.ensures.open is_open)
-    (c.take_piece-next.ensures.takes tt bytes (record { entries = k.entries; stands = k.stands; kept = tt }))
+    (c.take_piece-next.ensures.takes tt bytes (record { entries = k.entries; position = k.position; kept = tt }))

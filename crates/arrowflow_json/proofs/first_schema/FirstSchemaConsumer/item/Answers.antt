@@ -1,6 +1,6 @@
 use Rattle.std.proofs.Common.{subst}
 use Rattle.arrow_stream_reader.specs.Stream.{GivesNext}
-use Rattle.arrowflow_report.proofs.Found.{item_found}
+use Rattle.arrowflow_text.proofs.Found.{item_found}
 use Rattle.arrowflow_json.proofs.first_schema.FirstSchemaConsumer.item.Goals as goal
 
 -- the first message is the schema

@@ -1,11 +1,11 @@
 use Rattle.std.proofs.Common.{refl}
 use Rattle.std.proofs.lemmas.Result.{err_from_is_err_and}
-use Rattle.arrowflow_report.proofs.Sent.{begun_nothing}
+use Rattle.arrowflow_input.proofs.Beginnings.{begun_nothing}
 use Rattle.arrowflow_json.specs.Fields.{name_by}
 use Rattle.arrowflow_json.proofs.Checking.{some_last}
 use Rattle.arrowflow_json.proofs.message_lines.MessageLines.send_end.Goals as goal
 
--- there was no memory for the line
+-- the allocation for the line failed
 pub returns-in_err-line : goal.returns-in_err-line
 returns-in_err-line g c =
     let last = some_last (name_by c.args.self.now.file) c.args.marked c.args.reader.now.at.place in

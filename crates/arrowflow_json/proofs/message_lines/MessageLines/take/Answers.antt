@@ -2,9 +2,9 @@ use Rattle.std.proofs.Common.{◌≡◌, Err, refl, sym, subst}
 use Rattle.std.proofs.lemmas.Result.{err_from_is_err_and}
 use Rattle.arrow_json.specs.Lines.{line_of}
 use Rattle.arrow_stream_reader.specs.Views.{given}
-use Rattle.arrowflow_report.specs.Reports.{SendsText}
-use Rattle.arrowflow_report.specs.declared.tool_fault.ToolFault.TheVariants.{Memory}
-use Rattle.arrowflow_report.proofs.Sent.{begun_nothing}
+use Rattle.arrowflow_input.specs.Endings.{SendsText}
+use Rattle.arrowflow_input.specs.declared.tool_fault.ToolFault.TheVariants.{Memory}
+use Rattle.arrowflow_input.proofs.Beginnings.{begun_nothing}
 use Rattle.arrowflow_json.specs.Fields.{name_by}
 use Rattle.arrowflow_json.specs.Messages.{message_json}
 use Rattle.arrowflow_json.proofs.message_lines.MessageLines.take.Goals as goal

@@ -1,5 +1,5 @@
 use Rattle.std.proofs.Common.{subst}
-use Rattle.arrowflow_report.specs.Reports.{SendsSome}
+use Rattle.arrowflow_input.specs.Endings.{SendsSome}
 use Rattle.arrowflow_json.specs.Showing.{IsLastBy}
 use Rattle.arrowflow_json.proofs.Checking.{end_checked}
 use Rattle.arrowflow_json.proofs.message_lines.MessageLinesConsumer.end.Goals as goal

@@ -1,6 +1,6 @@
 use Rattle.std.proofs.Common.{ap, ◌∙◌, subst, Ok, Err}
 use Rattle.arrow_stream_reader.specs.Views.{given}
-use Rattle.arrowflow_report.specs.Reports.{SendsSome}
+use Rattle.arrowflow_input.specs.Endings.{SendsSome}
 use Rattle.arrowflow_json.specs.Fields.{name_by}
 use Rattle.arrowflow_json.specs.Messages.{IsMessageLine}
 use Rattle.arrowflow_json.proofs.Checking.{message_checked, message_cut, one_more}
@@ -23,7 +23,7 @@ returns-in-Ok-clause-takes g c began old t es piece n comes x =
       written = message_checked began.file began.writing held held' failed failed' before.number c.args.place c.args.item old reader t es piece n comes x.counted x.written sent;
     }
 
--- or it was not sent to its end
+-- or it was not sent completely
 pub returns-clause-takes : goal.returns-clause-takes
 returns-clause-takes g c began old t es piece n comes x left =
     let before = c.args.self in

@@ -1,6 +1,0 @@
-use Rattle.arrow_data.proofs.Ids.{RisesTo}
-use Rattle.arrow_data.proofs.listed.is_rising.Given as goal
-
--- the ids that were looked at rise
-abbrev pub invariant-loop-k : goal.invariant-loop-k
-invariant-loop-k l = RisesTo l.entries l.k

@@ -1,0 +1,10 @@
+pub mod First
+pub mod Driving
+pub mod Kept
+pub mod Feeding
+pub mod Schemas
+pub mod Cutting
+pub mod Reading
+pub mod Needing
+pub mod Through
+pub mod Beginnings

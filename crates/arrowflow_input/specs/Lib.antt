@@ -1,0 +1,15 @@
+pub mod Blame
+pub mod Consumer
+pub mod Kept
+pub mod Driver
+pub mod Faults
+pub mod Session
+pub mod Pieces
+pub mod Quiet
+pub mod Reads
+pub mod Bounds
+pub mod Capped
+pub mod Counted
+pub mod Within
+pub mod Through
+pub mod Endings

@@ -1,7 +1,0 @@
-use Rattle.std.proofs.Common.{◌≡◌, ◌++◌, string_bytes}
-use Rattle.arrowflow_report.specs.SchemaText.{indentation}
-use Rattle.arrowflow_report.proofs.schema_lines.push_indentation.Given as goal
-
--- two spaces stand there for each level so far
-abbrev pub invariant-loop-at : goal.invariant-loop-at
-invariant-loop-at l = string_bytes l.text ≡ string_bytes l.initial.text ++ indentation l.at

@@ -1,5 +1,0 @@
-use Rattle.arrowflow_report.proofs.type_names.push_index.Goals as goal
-
--- the name of the indices' type is a row of the table
-pub returns : goal.returns
-returns c = rw (← c.int_words-index.ensures.name) c.write.ensures.bytes

@@ -1,0 +1,16 @@
+pub mod ReportWriting
+pub mod Escapes
+pub mod Windows
+pub mod SchemaCall
+pub mod SchemaText
+pub mod Lines
+pub mod Reports
+pub mod OfFront
+pub mod TypeNames
+pub mod TypeWords
+pub mod Shown
+pub mod Calls
+pub mod Chosen
+pub mod Columns
+pub mod WithinCalls
+pub mod ColumnsBlame
