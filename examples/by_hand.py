@@ -1,10 +1,11 @@
-"""The bytes that tests hold beside other code, where somebody laid them out by hand: what they have to be, by frames.py, or
-by the module struct where they are a part of no stream. Each stands under its file and the words that lead to it: a constant,
-and then places and fields in its value.
+"""The bytes in tests that somebody wrote by hand among other code: what they have to be, by tools/frames.py, or by the module
+struct if they are not part of a stream. Each is keyed by its file and the words that lead to it: a constant, and then indices
+and fields in its value.
 """
 import struct
 
-from frames import INT32, NULL, Buffer, batch, dictionary, field, metadata_in, numbers, pairs, scalar, schema, table, text, vector
+from tools.frames import (INT32, NULL, Buffer, batch, dictionary, field, metadata_in, numbers, pairs, scalar, schema, table,
+    text, vector)
 
 
 def tables():
@@ -19,12 +20,12 @@ def tables():
 
 
 def decimals(children, *numbers):
-    """The metadata of one column `n` of decimals: of this precision, this scale and so many bits."""
+    """The metadata of one column `n` of decimals with this precision, this scale and this many bits."""
     return metadata_in(schema(field("n", (7, table(*(scalar("i", it) for it in numbers))), children)))
 
 
 def fixed_size_lists(names, *children, encoding=None):
-    """The metadata of columns of lists of three nulls each, of these names, whose children have these names."""
+    """The metadata of columns of lists of three nulls each, with these names, whose children have these names."""
     return metadata_in(schema(*(field(name, (16, table(scalar("i", 3))), [field(it, NULL) for it in children], encoding=encoding)
                                 for name in names)))
 
@@ -45,8 +46,8 @@ ARRAYS = {
     },
     "crates/arrow_meta_writer_tests/src/tests/tables.rt": {"LAID_OUT": tables()},
     "crates/arrow_meta_writer_tests/src/tests/written.rt": {"DECIMAL": decimals([], 38, 10, 128), "LISTS": fixed_size_lists("l", "c")},
-    "crates/arrow_small_tests/src/tests/chunks.rt": {"BYTES": bytes((240 + 37 * at) % 256 for at in range(33))},
-    "crates/arrow_small_tests/src/tests/flatbuf.rt": {
+    "crates/arrow_csv_tests/src/tests/chunks.rt": {"BYTES": bytes((240 + 37 * at) % 256 for at in range(33))},
+    "crates/arrow_flatbuf_tests/src/tests/flatbuf.rt": {
         "TWO": ONE_VECTOR,
         "SHARED": struct.pack("<I4Hi5Ii2H", 12, 6, 8, 4, 0, 8, 4, 3, 12, 8, 0, 32, 0x12a, 0),
         "SCHEMA": metadata_in(NUMBERS),

@@ -1,13 +1,14 @@
 #!/usr/bin/env python3
-"""What `arrowflow explain` has to print of sound streams, in another language and with no code of the crates: compared with what it
-prints, or printed.
+"""What `arrowflow explain` has to print for valid streams, worked out in another language and with no code of the crates, and
+compared with its output.
 
-    examples/explained.py FILE..              prints the text of each
-    examples/explained.py --program PROGRAM   compares it with the program's, of the streams in examples/ and vectors/
+    examples/explained.py FILE..              prints the text for each
+    examples/explained.py --program PROGRAM   compares it with the program's, for the streams in examples/ and vectors/
                                               that the program calls sound
 
-fuzz/stream.py reads the streams; a copy is laid out anew by frames.py and vectors/copied.py. A byte is padding if a mask over its
-body, in which each buffer of a field is drawn, lacks it. A stream of which a message has a body over 2^20 bytes is left out.
+tools/stream_model.py reads the streams; tools/frames.py and tools/stream_copies.py write the copy. A byte is padding if a mask
+over its body, in which each buffer of a field is marked, does not have it. A stream with a message whose body has more than
+2^20 bytes is left out.
 """
 import pathlib
 import subprocess
@@ -16,12 +17,9 @@ import textwrap
 
 sys.dont_write_bytecode = True
 TOP = pathlib.Path(__file__).resolve().parent.parent
-sys.path[:0] = [str(TOP / "vectors"), str(TOP / "fuzz"), str(TOP / "examples")]
-import copied
-import frames
-import model
-import stream
-from type_table import BY_CODE, FIXED_LISTS, NULLS, STRUCTS, WITH_OFFSETS, LISTS
+sys.path.insert(0, str(TOP))
+from tools import frames, schema_model, stream_copies, stream_model
+from tools.arrow_types import BY_CODE, FIXED_LISTS, NULLS, STRUCTS, WITH_OFFSETS, LISTS
 
 # Deltas, and padding to 64 bytes.
 DEFAULT_WAY = 2
@@ -36,13 +34,13 @@ class TooLong(Exception):
 
 def buffers_of(field):
     """How many buffers a field and those below it have in a batch."""
-    layout = stream.form_of(field).layout
+    layout = stream_model.form_of(field).layout
     own = {NULLS: 0, STRUCTS: 1, FIXED_LISTS: 1}.get(layout, 3 if layout in WITH_OFFSETS and layout != LISTS else 2)
     return own + sum(map(buffers_of, () if field["encoding"] else field["children"]))
 
 
 def field_again(field):
-    """A field as frames.py lays it out."""
+    """A field as tools/frames.py writes it."""
     kind = frames.of_type(BY_CODE[field["code"]].name, *(it.decode() if isinstance(it, bytes) else it for it in field["type"] or ()))
     encoding = field["encoding"]
     return frames.field(field["name"], kind, [*map(field_again, field["children"])], field["nullable"],
@@ -55,12 +53,12 @@ def quoted(name):
     return '"' + shown[:SHOWN] + (".." if len(shown) > SHOWN else "") + '"'
 
 
-class Measured(copied.Copier):
+class Measured(stream_copies.Copier):
     """A reader that counts the bytes of what it reads, and writes it again."""
 
     def __init__(self, held, types):
-        stream.Reader.__init__(self, held, types)
-        self.has_deltas, self.align = copied.WAYS[DEFAULT_WAY]
+        stream_model.Reader.__init__(self, held, types)
+        self.has_deltas, self.align = stream_copies.WAYS[DEFAULT_WAY]
         self.written, self.sent, self.columns, self.counts = [], {}, [], {}
         self.messages = self.rows_read = self.metadata = self.padding = 0
         self.schema_bytes = self.batch_bytes = 0
@@ -108,14 +106,14 @@ class Measured(copied.Copier):
 
 
 def explained(held, types):
-    """The text, or None of a stream that is refused. A line that is too long goes on in the next one."""
+    """The text, or None if the stream is rejected. A line that is too long continues in the next one."""
     reader = Measured(held, types)
     return None if reader.run() else "".join(textwrap.fill(it, WIDTH, subsequent_indent="  ", break_long_words=False, break_on_hyphens=False) + "\n" for it in reader.summary())
 
 
 def streams():
     """The files that are compared."""
-    return sorted(it for folder in ("examples", "vectors", "vectors/all") for it in (TOP / folder).glob("*.arrows"))
+    return sorted(it for folder in ("examples", "vectors/streams", "vectors/streams/all") for it in (TOP / folder).glob("*.arrows"))
 
 
 def answer(program, command, *words):
@@ -123,12 +121,12 @@ def answer(program, command, *words):
 
 
 def differs(program, file):
-    """What the program says otherwise of a stream, in words, or None."""
+    """How the program's output for a stream differs, in words, or None."""
     printed = answer(program, "explain", str(file))
     if printed.returncode == 1:
         return None
     try:
-        text = explained(file.read_bytes(), model.ALL)
+        text = explained(file.read_bytes(), schema_model.ALL)
     except TooLong:
         return None
     if text is None or printed.stdout.decode() != text:
@@ -138,7 +136,7 @@ def differs(program, file):
 
 
 def compare(program):
-    """Prints what differs; the status."""
+    """Prints the differences; returns the status."""
     found = [(it, differs(program, it)) for it in streams()]
     for file, words in found:
         if words is not None:
@@ -149,7 +147,7 @@ def compare(program):
 def main(words):
     if words[:1] == ["--program"]:
         return compare(words[1])
-    print(*(explained(pathlib.Path(it).read_bytes(), model.ALL) for it in words), sep="", end="")
+    print(*(explained(pathlib.Path(it).read_bytes(), schema_model.ALL) for it in words), sep="", end="")
     return 0
 
 

@@ -1,12 +1,12 @@
-"""The tables of columns that the tests of arrow_body_writer hold: whether each row is as frames.py lays its columns out.
+"""The tables of columns that the tests of arrow_body_writer hold: whether each row is what tools/frames.py makes of its columns.
 
-Each row has the buffers of columns, and what a writer has to make of them. Those buffers are read here, by the columnar
-format alone, and their values laid out. What lies under nulls, before the first value and behind the last is passed over.
+Each row has the buffers of columns, and what a writer has to make of them. Those buffers are read here, by the columnar format
+alone, and their values written again. The bytes under nulls, before the first value and after the last are ignored.
 """
 import re
 import struct
 
-import frames
+from tools import frames
 
 
 def bytes_of(words):
@@ -30,7 +30,7 @@ def parts(whole, ends):
 
 
 class Columns:
-    """The columns of these types, nodes and buffers, of which each takes its own from the front."""
+    """The columns of these types, nodes and buffers; each column takes its own from the front of these."""
 
     def __init__(self, kinds, words):
         nodes, _, buffers = words.partition(" | ")
@@ -38,7 +38,7 @@ class Columns:
         self.buffers = [bytes_of(it) for it in buffers.split(", ")]
 
     def column(self):
-        """The values of the next column, and what lays such values out."""
+        """The values of the next column, and the function that makes a column of such values."""
         (kind, _, count), (length, _) = self.kinds.pop(0).rstrip("]").partition("["), self.nodes.pop(0)
         if kind == "null":
             return [None] * length, lambda values: frames.nulls(len(values))
@@ -48,7 +48,7 @@ class Columns:
         return [slots[at] if not validity or validity[at // 8] >> at % 8 & 1 else None for at in range(length)], layout
 
     def slots(self, kind):
-        """What stands in the slots, null or not."""
+        """The values in the slots, null or not."""
         buffer = self.buffers.pop(0)
         if kind == "utf8":
             return parts(self.buffers.pop(0), numbers(buffer)), frames.strings
@@ -69,44 +69,44 @@ class Columns:
         return list(zip(*(values for values, _ in fields))), layout
 
 
-def is_laid(columns, wanted):
-    """Whether the columns have these nodes and these buffers in their places, and as many bytes in all, which are 0 elsewhere."""
-    align, nodes, buffers, size = wanted.split(" | ")
+def is_written(columns, expected):
+    """Whether the columns have these nodes, these buffers at their places, and this many bytes in all, which are 0 elsewhere."""
+    align, nodes, buffers, size = expected.split(" | ")
     held = [(int(place), bytes_of(words)) for words, place in (it.split(" @") for it in buffers.split(", ") if it)]
     whole = bytearray(int(size))
     for place, buffer in held:
         whole[place:place + len(buffer)] = buffer
     places = [(place, len(buffer)) for place, buffer in held]
-    return frames.laid(columns, int(align)) == (nodes_of(nodes), places, bytes(whole))
+    return frames.body_of(columns, int(align)) == (nodes_of(nodes), places, bytes(whole))
 
 
 def read(row):
-    """What stands in front of the arrow, without the name, and what behind it."""
-    of, wanted = re.sub(r"\\\n\s*", "", row).split(" => ")
-    return of.partition(": ")[2], wanted
+    """The part of a row before the arrow, without the name, and the part after it."""
+    of, expected = re.sub(r"\\\n\s*", "", row).split(" => ")
+    return of.partition(": ")[2], expected
 
 
 def is_stored(row):
     """Columns that were read and are stored again."""
-    of, wanted = read(row)
+    of, expected = read(row)
     held, columns = Columns(*of.split(" | ", 1)), []
     while held.kinds:
         values, layout = held.column()
         columns.append(layout(values))
-    return is_laid(columns, wanted)
+    return is_written(columns, expected)
 
 
-def is_rest(row):
+def is_tail(row):
     """The values of a dictionary from one on, which came in segments."""
-    of, wanted = read(row)
+    of, expected = read(row)
     of, start = of.rsplit(" from ", 1)
     kinds, segments = of.split(" | ", 1)
     values = []
     for segment in segments.split(" + "):
         more, layout = Columns(kinds, segment).column()
         values += more
-    return is_laid([layout(values[int(start):])], wanted)
+    return is_written([layout(values[int(start):])], expected)
 
 
-# The tables by their file and their name, and what each row has to be.
-TABLES = {"crates/arrow_body_tests/src/tests/stored.rt": {"COLUMNS": is_stored, "RESTS": is_rest}}
+# The tables by their file and their name, with the check for each row.
+TABLES = {"crates/arrow_body_tests/src/tests/stored.rt": {"COLUMNS": is_stored, "RESTS": is_tail}}

@@ -1,23 +1,24 @@
-"""Streams with custom metadata of which it is worked out by hand what they are: a small one with some bytes changed, and
-some at the limits. Each has its name, its bytes, and the pairs of its schema or the kind by which it is refused.
+"""Streams with custom metadata whose meaning is worked out by hand: a small one with some bytes changed, and some at the limits.
+Each has its name, its bytes, and the pairs of its schema or the kind with which it is rejected.
 """
 import struct
 
-import schemas
-from frames import INT32, field, scalar, table, text, vector
+from tools import schemas
+from tools.frames import INT32, field, scalar, table, text, vector
 
 MOST = 65_536
-# The most bytes that names, zones, keys and values have together, by MOST visits of one string.
+# The most bytes that names, zones, keys and values may have together, divided by MOST visits of one string.
 LENGTH = 67_108_864 // MOST
 
-# The schema of one nullable signed 32-bit column `n` with the pair of `k` and `v`. Places in its metadata: the Message's
-# version at 20; the Schema's vtable at 40 and its table at 56, which names the pairs at 68; the Field at 96, its name at 120;
-# the vector of pairs at 152 with its one offset at 156; the KeyValue's vtable at 160, with entries at 164 and 166, and its
-# table at 168, which names the key at 172 and the value at 176; the key's count at 180, the value's at 188; all are 200 bytes.
+# The schema of one nullable signed 32-bit column `n` with the pair of `k` and `v`. Offsets in its metadata: the Message's version
+# at 20; the Schema's vtable at 40 and its table at 56, which refers to the pairs at 68; the Field at 96, its name at 120; the
+# vector of pairs at 152 with its one offset at 156; the KeyValue's vtable at 160, with entries at 164 and 166, and its table at
+# 168, which refers to the key at 172 and to the value at 176; the key's count at 180, the value's at 188; the metadata has 200
+# bytes.
 ONE_PAIR = schemas.framed(table(scalar("h", 4), scalar("B", 1), table(
     scalar("h", 0), vector([field("n", INT32)]), vector([table(text("k"), text("v"))])), scalar("q", 0)))
 
-# Changes of one byte of these metadata: its place, what it is set to, and what the stream is then.
+# Changes of one byte of these metadata: its offset, its new value, and what the stream is then.
 CHANGES = [
     (20, 3, [(b"k", b"v")]),  # V4
     (20, 2, "Version"), (20, 5, "Version"), (21, 1, "Version"),
@@ -26,8 +27,8 @@ CHANGES = [
     (68, 0, "Metadata"), (70, 1, "Metadata"), (71, 128, "Metadata"),
     (120, 255, "Metadata"),  # the name is not UTF-8
     (152, 0, []), (152, 2, "Metadata"), (155, 1, "Metadata"),
-    (156, 0, "Metadata"), (156, 41, "Metadata"),  # of the table at 197 the way to its vtable is cut off
-    (156, 16, [(b"", b"")]),  # the table at 172 has its vtable at 164, of no fields
+    (156, 0, "Metadata"), (156, 41, "Metadata"),  # the table at 197 is cut off before the offset of its vtable
+    (156, 16, [(b"", b"")]),  # the table at 172 has its vtable at 164, without fields
     (160, 6, [(b"k", b"")]), (160, 5, [(b"", b"")]), (160, 4, [(b"", b"")]), (160, 3, "Metadata"), (160, 41, "Metadata"),
     (160, 40, [(b"k", b"v")]),
     (164, 0, [(b"", b"v")]), (166, 0, [(b"k", b"")]), (166, 4, [(b"k", b"k")]), (164, 29, "Metadata"),
@@ -49,7 +50,8 @@ def of_fields(fields, pairs):
 
 
 def doubled(levels, pairs):
-    """Structs this deep, each but the innermost with two offsets to one field below it; that one has the pairs."""
+    """Structs this many levels deep, each but the innermost with two offsets to one field below it; the innermost has the
+    pairs."""
     def one(kind, children, more):
         return table(None, None, scalar("B", kind), None, None, vector(children), *more)
     below = one(13, [], [vector(pairs)])
@@ -59,7 +61,7 @@ def doubled(levels, pairs):
 
 
 def at_the_limits():
-    """Streams of few bytes that mean as much as may be, and a little more."""
+    """Streams of few bytes that stand for as much as is allowed, and for a little more."""
     pair = shared(table(text("k"), text("v")), 1)
     string = shared(text("k" * LENGTH), 0)
     by_key, by_value = (shared(it, 1) for it in (table(string), table(None, string)))
@@ -86,7 +88,7 @@ def at_the_limits():
 def edges():
     """All of them: names, streams, and the schema's pairs or a kind."""
     found = [("one pair", ONE_PAIR, [(b"k", b"v")])]
-    for place, byte, wanted in CHANGES:
+    for place, byte, expected in CHANGES:
         changed = ONE_PAIR[:8 + place] + struct.pack("B", byte) + ONE_PAIR[9 + place:]
-        found.append((f"one pair, place {place} set to {byte}", changed, wanted))
+        found.append((f"one pair, place {place} set to {byte}", changed, expected))
     return found + at_the_limits()

@@ -1,11 +1,11 @@
 /* usage: flood SEED COUNT FILE..
  *
- * Changes streams at random and compares what the calls of arrowflow.h say of each: check with a
- * reader in other pieces, whose columns are read, with the messages, the schema and the rows; and
- * what copy writes with what was read, with its own copy, and with itself in rooms that are too small.
- * Ends with status 1 and the stream in a file `flood.NUMBER.arrows` at the first disagreement, and
- * with a signal where the calls on one stream take more than 20 seconds of a processor. Prints how
- * many streams there were of each kind, also where it is interrupted.
+ * Changes streams at random and compares the results of the calls of arrowflow.h for each: check with a reader
+ * that gets other pieces, whose columns are read, with the messages, the schema and the rows; and what copy
+ * writes with what was read, with the copy of the copy, and with its output in buffers that are too small. At
+ * the first disagreement it exits with status 1 and writes the stream to a file `flood.NUMBER.arrows`. It is
+ * killed by a signal if the calls on one stream take more than 20 seconds of a processor. Prints how many
+ * streams there were of each kind, also if it is interrupted.
  */
 #include "arrowflow.h"
 
@@ -39,7 +39,7 @@ static size_t len;
 
 /* ---- changes ---- */
 
-/* Puts a number of 1, 2, 4 or 8 bytes somewhere, one that lengths and offsets are mostly wrong by. */
+/* Writes a number of 1, 2, 4 or 8 bytes somewhere, mostly one by which lengths and offsets are typically wrong. */
 static void put_number(void) {
     static const int64_t numbers[] = {0, 1, 2, 3, 4, 7, 8, 9, 16, 63, 64, 65, 127, 128, 255, 256, 1024, 65535, 65536,
                                       INT32_MAX, INT32_MIN, INT64_MAX, INT64_MIN, -1, -2, -8};
@@ -51,7 +51,7 @@ static void put_number(void) {
     memcpy(changed + at, &number, width);
 }
 
-/* Adds a little to the number of 4 bytes at some place. */
+/* Adds a small number to the number of 4 bytes at some offset. */
 static void add_to_number(void) {
     if (len < 4) return;
     size_t at = below(len - 3) & ~(size_t)3;
@@ -61,7 +61,7 @@ static void add_to_number(void) {
     memcpy(changed + at, &number, 4);
 }
 
-/* Takes out a part, or puts a part of another stream there. */
+/* Removes a part, or inserts a part of another stream there. */
 static void splice(void) {
     const stream *other = &streams[below(count)];
     size_t at = below(len + 1), out = below(2) ? below(len - at + 1) : 0, in = 0, from = 0;
@@ -121,7 +121,8 @@ static bool is_read(const uint8_t *bytes, size_t size) {
     return sum <= 255 * size;
 }
 
-/* Reads the buffers of a column, and of what a random path leads to below it, which have what their slots take. */
+/* Reads the buffers of a column, and of what a random path leads to below it; each must have the bytes that its
+ * slots take. */
 static void look_into(arrowflow_reader *reader, size_t column, uint64_t rows) {
     size_t path[40] = {column};
     for (size_t depth = 1; depth < 40; depth++) {
@@ -139,7 +140,7 @@ static void look_into(arrowflow_reader *reader, size_t column, uint64_t rows) {
     }
 }
 
-/* What a reader finds in pieces of random lengths, and whether cells and columns can be asked for. */
+/* What a reader returns for pieces of random lengths, and whether cells and columns can be requested. */
 static arrowflow_report in_pieces(void) {
     arrowflow_reader *reader = NULL;
     arrowflow_report found = {0, false, 0, 0, 0};
@@ -177,7 +178,7 @@ static bool is_same(arrowflow_report a, arrowflow_report b) {
     return a.kind == b.kind && a.ended == b.ended && a.place == b.place && a.batches == b.batches && a.rows == b.rows;
 }
 
-/* What is written of the stream, and read again of that. */
+/* Checks what is written for the stream, and what is read of that. */
 static void compare_copy(arrowflow_report report) {
     arrowflow_limits limits = arrowflow_standard_limits();
     arrowflow_options options = {below(2), below(2)};
@@ -202,7 +203,7 @@ static void compare_copy(arrowflow_report report) {
     }
 }
 
-/* What is told of the stream. */
+/* Checks the texts for the stream. */
 static void compare_texts(arrowflow_report report) {
     arrowflow_limits limits = arrowflow_standard_limits();
     arrowflow_text told = arrowflow_messages(changed, len, limits, copies[0], ROOM);
@@ -230,7 +231,7 @@ static void compare(void) {
     alike++;
 }
 
-/* Reads a stream. A longer one than there is room for is left out. */
+/* Reads a stream. One that is longer than the buffer is left out. */
 static bool read_stream(const char *name, stream *into) {
     FILE *file = fopen(name, "rb");
     into->bytes = file == NULL ? NULL : malloc(MOST);

@@ -1,7 +1,7 @@
 // Makes random metadata by the FlatBuffers library, and verifies others by it:
-//   verifier make SEED COUNT FILE     writes COUNT metadata to FILE, each behind the number of its bytes in four bytes
+//   verifier make SEED COUNT FILE     writes COUNT metadata to FILE, each after its number of bytes in four bytes
 //   verifier check READ WRITTEN       verifies each metadata of WRITTEN, with the alignment of its scalars, and compares
-//                                     what stands in it with what stands in that of READ
+//                                     its contents with those of READ
 //   verifier take FILE                verifies each metadata of FILE, with the alignment of its scalars
 // metadata_generated.h is made by flatc from metadata.fbs.
 #include <cstdint>
@@ -53,7 +53,7 @@ int32_t any_width() {
     }
 }
 
-// An id of its own for each dictionary, so that no two fields of one id differ in type.
+// A separate id for each dictionary, so that no two fields with the same id differ in type.
 struct Ids {
     int64_t next = -3;
     int64_t take() { return next++ * 1000003; }
@@ -73,7 +73,7 @@ Offset<DictionaryEncoding> any_encoding(FlatBufferBuilder &builder, Ids &ids) {
     return CreateDictionaryEncoding(builder, ids.take(), index, coin());
 }
 
-// A key or a value: any bytes, or none at all. The verifier does not look at what the bytes of a string are.
+// A key or a value: any bytes, or none at all. The verifier does not check the bytes of a string.
 Offset<flatbuffers::String> any_bytes(FlatBufferBuilder &builder) {
     switch (below(4)) {
         case 0: return 0;
@@ -87,7 +87,7 @@ Offset<flatbuffers::String> any_bytes(FlatBufferBuilder &builder) {
     }
 }
 
-// Pairs of which some come twice, no vector or an empty one.
+// Pairs of which some occur twice, no vector or an empty one.
 Offset<Vector<Offset<KeyValue>>> any_pairs(FlatBufferBuilder &builder) {
     if (coin()) return 0;
     std::vector<Offset<KeyValue>> pairs;
@@ -179,7 +179,7 @@ std::string any_message() {
     return std::string(reinterpret_cast<const char *>(builder.GetBufferPointer()), builder.GetSize());
 }
 
-// What stands in a message, but for its version and its own pairs, as text.
+// The contents of a message, except its version and its own pairs, as text.
 
 void tell(std::ostream &out, const Int *type) {
     if (type) out << "int " << type->bitWidth() << type->is_signed();
@@ -266,7 +266,8 @@ std::string told(const Message *message) {
     return out.str();
 }
 
-// Whether a message is one as this project writes: of V5, with no pairs of its own, and with no empty vector of pairs.
+// Whether a message is in the form that this project writes: in V5, without pairs of its own, and without an
+// empty vector of pairs.
 bool has_pairs_or_none(const Vector<Offset<Field>> *fields) {
     if (fields)
         for (const Field *field : *fields)
@@ -282,7 +283,7 @@ bool is_as_written(const Message *message) {
     return (!schema->custom_metadata() || schema->custom_metadata()->size() > 0) && has_pairs_or_none(schema->fields());
 }
 
-// The metadata of a file, each in a piece of memory of its own that begins at a multiple of 8.
+// The metadata of a file, each in a separate piece of memory that begins at a multiple of 8.
 std::vector<std::vector<uint64_t>> metadata_in(const char *name, std::vector<size_t> &sizes) {
     std::ifstream file(name, std::ios::binary);
     std::string all((std::istreambuf_iterator<char>(file)), std::istreambuf_iterator<char>());

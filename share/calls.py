@@ -1,7 +1,8 @@
-"""The manual pages of the calls for C, made of the headers and their comments alone.
+"""The manual pages of the calls for C, made only from the headers and their comments.
 
-Of a header are read its first comment, which is of all calls, the titles between rules of hyphens, and each declaration with the comment
-right before it. A comment with an empty line after it is of all calls too. What has no such form is an error that names its line.
+The script reads the first comment of a header, which is about all calls, the titles between rules of hyphens, and each
+declaration with the comment right before it. A comment with an empty line after it is about all calls too. Anything without such
+a form is an error that names its line.
 """
 import dataclasses
 import re
@@ -10,7 +11,7 @@ import roff
 import table
 
 HEADERS = "c/arrowflow.h", "c/arrowflow_stream.h"
-# The header whose calls have one page, since most of what is said of them is said of all.
+# The header whose calls share one page, since most of its text is about all of them.
 OF_ONE_PAGE = HEADERS[1]
 LINK = "Link with `-larrowflow`, or as `pkg-config --cflags --libs arrowflow` says."
 CALL = re.compile(r"([\w ]+?[ *]+)(arrowflow_\w+)\(([^()]*)\);", re.S)
@@ -21,7 +22,7 @@ KIND = re.compile(r"ARROWFLOW_KIND_(\w+) = (\d+),?\s*/\* (.*?) \*/")
 # The kinds that are faults of a stream.
 FAULTS = range(1, 19)
 CODE = "    "
-# How long the line of a page may be that says what it is about.
+# The longest line of a page that says what the page is about.
 LONG = 75
 
 
@@ -40,12 +41,13 @@ class Item:
 
 
 class Header:
-    """A header: `about` are the lines of its first comment, `shared` other comments that are of all calls, `items` what it declares."""
+    """A header: `about` has the lines of its first comment, `shared` other comments that are about all calls, `items` its
+    declarations."""
 
     def __init__(self, file, text):
         self.file, self.about, self.inside, self.shared, self.items = file, (), (), [], []
         self.name = file.rpartition("/")[2]
-        # C++ alone reads these lines
+        # only C++ reads these lines
         self.text = re.sub(r"^#ifdef __cplusplus\n.*?^#endif\n", lambda it: "\n" * it[0].count("\n"), text, flags=re.M | re.S)
         at, comment = 0, ()
         while at < len(self.text):
@@ -61,39 +63,39 @@ class Header:
                 comment, self.inside, at = (), (), end + 1
 
     def put_by(self, comment, at):
-        """Keeps a comment that a declaration does not follow at once."""
+        """Keeps a comment that is not followed at once by a declaration."""
         if not self.about:
             self.about = comment
         elif self.text.startswith("#ifndef", at):
-            # of what is declared first inside of it
+            # it is about the first declaration inside of it
             self.inside = comment
         elif comment:
             self.shared.append(comment)
 
-    def refuse(self, at, what):
+    def fail(self, at, what):
         raise SystemExit(f"{self.file}:{self.text.count(chr(10), 0, at) + 1}: {what}")
 
     def comment(self, text):
-        """The lines of a comment; none of a title between hyphens."""
+        """The lines of a comment; no lines for a title between hyphens."""
         lines = [re.sub(r"^ \* ?", "", it) for it in text.rstrip().split("\n")]
         return () if re.fullmatch(r" -{4} .* -{4}", lines[0]) else (lines[0].strip(), *lines[1:])
 
     def end_of(self, at):
-        """Where a declaration ends, which is after a semicolon outside of all brackets."""
+        """The end of a declaration, which is after a semicolon outside of all brackets."""
         depth = 0
         for it in re.compile(r"/\*.*?\*/|[{}();]", re.S).finditer(self.text, at):
             depth += {"{": 1, "(": 1, "}": -1, ")": -1}.get(it[0], 0)
             if it[0] == ";" and not depth:
                 return it.end()
-        return self.refuse(at, "a declaration without an end")
+        return self.fail(at, "a declaration without an end")
 
     def item(self, at, end, comment):
         code = self.text[at:end]
         call, its_type = CALL.fullmatch(code), TYPE.fullmatch(code)
         if not call and not its_type:
-            self.refuse(at, "a declaration that is neither a call nor a type")
+            self.fail(at, "a declaration that is neither a call nor a type")
         if call and not comment:
-            self.refuse(at, f"{call[2]} has no comment right before it")
+            self.fail(at, f"{call[2]} has no comment right before it")
         name = call[2] if call else next(filter(None, its_type.groups()))
         return Item(name, code, comment, bool(call))
 
@@ -119,7 +121,7 @@ def joined(lines):
 
 
 def blocks(lines):
-    """The lines of a comment, part by part: a paragraph, code, a point of a list, or a row with a head."""
+    """The lines of a comment in parts, each a paragraph, code, a point of a list, or a row with a head."""
     found, has_head = [[]], False
     for it in lines:
         starts = it.startswith(" - ") or HEAD.match(it)
@@ -132,7 +134,7 @@ def blocks(lines):
     return [it for it in found if it]
 
 
-def laid(lines):
+def formatted(lines):
     """A comment as a part of a page."""
     found = []
     for block in blocks(lines):
@@ -173,7 +175,7 @@ def name_section(names, lines):
 
 
 def synopsis(header, calls):
-    """How a file includes the header, and the calls as they are declared, parameters in italics."""
+    """The line that includes the header, and the calls as they are declared, with parameters in italics."""
     declared = []
     for it in calls:
         code = re.sub(r"(\w+)(?=[,)])", lambda m: m[0] if m[0] == "void" else f"\\fI{m[0]}\\fB", roff.code(it.code))
@@ -182,8 +184,8 @@ def synopsis(header, calls):
 
 
 def type_of(item):
-    """A type: what is said of it, and its declaration."""
-    return laid(item.comment) + roff.verbatim(item.code)
+    """A type: its comment and its declaration."""
+    return formatted(item.comment) + roff.verbatim(item.code)
 
 
 def reached(item, types, found):
@@ -201,7 +203,7 @@ def answered(comment):
 
 
 def returned(call, types):
-    """What a call returns: a struct, or what its comment says."""
+    """What a call returns: a struct, or what its comment says about it."""
     if call.result == "void":
         return []
     if call.result in types:
@@ -215,7 +217,7 @@ def overview(header):
 
 
 def handle(call):
-    """The handle that calls have in common, if they have one."""
+    """The handle that a call works on, if it has one."""
     return next((it for it in ("copier", "reader") if call.name.startswith(f"arrowflow_{it}_")), None)
 
 
@@ -227,20 +229,20 @@ def of_call(call, header, types, version):
     return roff.page(call.name, 3, version, header.file,
         name_section([call.name], text),
         synopsis(header, [call]),
-        roff.section("DESCRIPTION", laid(text)),
+        roff.section("DESCRIPTION", formatted(text)),
         roff.section("TYPES", *(type_of(it) for name, it in types.items() if name in its)),
         roff.section("RETURN VALUE", *returned(call, types)),
-        roff.section("EXAMPLES", laid(code)),
+        roff.section("EXAMPLES", formatted(code)),
         roff.see_also((overview(header), 3), *near))
 
 
 def of_header(header, types, version, others):
-    """The page of a header. If its calls have pages of their own it has a row for each, and the kinds, which all share."""
+    """The page of a header. If its calls have pages of their own, it has a row for each, and the kinds, which all calls share."""
     has_pages = header.file != OF_ONE_PAGE
     calls, lines = header.calls(), list(header.about)
     lines[0] = lines[0].removeprefix(f"{header.name}: ")
     names = [overview(header), *(it.name for it in calls if not has_pages)]
-    said = laid([lines[0][0].upper() + lines[0][1:], *lines[1:]]), *map(laid, header.shared)
+    said = formatted([lines[0][0].upper() + lines[0][1:], *lines[1:]]), *map(formatted, header.shared)
     if has_pages:
         rows = [roff.row(f"{roff.bold(it.name)}(3)", f"{about(it.comment)}.") for it in calls]
         more = [roff.section("CALLS", *rows), roff.section("ERRORS", type_of(types["arrowflow_kind"]))]
@@ -254,7 +256,7 @@ def of_header(header, types, version, others):
 
 
 def pages(version):
-    """The pages by their places."""
+    """The pages, keyed by their paths."""
     headers = [Header(it, table.text_of(it)) for it in HEADERS]
     types = {it.name: it for header in headers for it in header.items if not it.is_call}
     found = {}

@@ -1,4 +1,5 @@
-"""The manual pages of the program and of its commands: what help says, the kinds of faults out of the header for C, and prose.txt."""
+"""The manual pages of the program and of its commands, from the texts of help, the kinds of faults in the header for C, and
+prose.txt."""
 import re
 
 import calls
@@ -8,12 +9,12 @@ import table
 PROSE = "share/prose.txt"
 ORDER = ("DESCRIPTION", "COMMANDS", "ARGUMENTS", "OPTIONS", "FILES AND PIPES", "SIZES", "LIMITS AND TYPES", "EXIT STATUS", "DIAGNOSTICS",
          "ENVIRONMENT", "EXAMPLES")
-# How the sentence of help begins that is of the section EXIT STATUS.
+# The beginning of the sentence of help that belongs to the section EXIT STATUS.
 STATUS = "The exit status is "
 
 
 def prose(text):
-    """The texts that prose.txt has: by page and section a list of paragraphs."""
+    """The texts of prose.txt: a list of paragraphs for each page and section."""
     parts, found = re.split(r"^== (.*)\n", text, flags=re.M), {}
     for head, text in zip(parts[1::2], parts[2::2]):
         name, _, title = head.partition(": ")
@@ -23,8 +24,8 @@ def prose(text):
     return found
 
 
-def laid(paragraph):
-    """A paragraph of prose.txt as one of a page."""
+def formatted(paragraph):
+    """A paragraph of prose.txt in the form of a page."""
     row = re.match(r"\[(\w+)\] ", paragraph)
     if paragraph.startswith("    "):
         return roff.verbatim(re.sub("^    ", "", paragraph, flags=re.M))
@@ -32,7 +33,7 @@ def laid(paragraph):
 
 
 def name_of(command):
-    """The name of a page, which for the program is its own."""
+    """The name of a command's page; for the program, its own name."""
     return f"{table.PROGRAM}-{command.name}" if command.name else table.PROGRAM
 
 
@@ -55,7 +56,7 @@ def argument(it):
 
 
 def notes(command):
-    """What help says after the options: that of the exit status, and the rest."""
+    """The notes of help after the options: the one about the exit status, and the others."""
     sentences = re.split(r"(?<=\.) (?=[A-Z])", " ".join(command.notes))
     status = [it for it in sentences if it.startswith(STATUS)]
     rest = [it for it in sentences if it not in status]
@@ -63,7 +64,7 @@ def notes(command):
 
 
 def of_table(command):
-    """The sections of a page, as far as the table has them."""
+    """The sections of a page that come from the table."""
     status, said = notes(command)
     return {
         "DESCRIPTION": said,
@@ -75,7 +76,7 @@ def of_table(command):
 
 
 def of_program(its_table):
-    """The same of the program."""
+    """The same for the program."""
     return {
         **of_table(its_table.program),
         "COMMANDS": [roff.row(roff.bold(name), f"{about}.") for name, about in its_table.listed],
@@ -84,21 +85,21 @@ def of_program(its_table):
 
 
 class Book:
-    """The pages: the table, the texts of prose.txt that are in no page yet, and the version of all."""
+    """The pages: the table, the texts of prose.txt that are not yet in a page, and the version of all."""
 
     def __init__(self, version):
         self.table, self.texts, self.version = table.read(table.text_of(table.PAGES)), prose(table.text_of(PROSE)), version
         self.names = [(name_of(it), 1) for it in (self.table.program, *self.table.commands)]
 
     def page(self, command, own):
-        """A page: each section has its part of prose.txt after that of the table, but for kinds of faults."""
+        """A page: in each section the part from prose.txt comes after the part from the table, except for the kinds of faults."""
         name, about = name_of(command), f"{command.about[0].lower()}{command.about[1:]}"
         sections = [
             roff.section("NAME", f"{roff.code(name)} \\- {roff.plain(about)}\n"),
             roff.section("SYNOPSIS", usage(command)),
         ]
         for title in ORDER:
-            its, more = [*own.get(title, [])], [laid(it) for it in self.texts.pop((name, title), [])]
+            its, more = [*own.get(title, [])], [formatted(it) for it in self.texts.pop((name, title), [])]
             sections.append(roff.section(title, *(more + its if title == "DIAGNOSTICS" else its + more)))
         others = [it for it in self.names if it[0] != name] + ([] if command.name else [(table.PROGRAM, 3)])
         made_of = f"{table.PAGES}, {calls.HEADERS[0]} and {PROSE}"
@@ -106,7 +107,7 @@ class Book:
 
 
 def pages(version):
-    """The pages by their places."""
+    """The pages, keyed by their paths."""
     book = Book(version)
     found = {table.PROGRAM: book.page(book.table.program, of_program(book.table))}
     found.update((name_of(it), book.page(it, of_table(it))) for it in book.table.commands)

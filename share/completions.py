@@ -1,4 +1,4 @@
-"""What completes a line of the program in bash, zsh and fish: commands, the options of each, their values, and files."""
+"""The completion of command lines of the program in bash, zsh and fish: commands, the options of each, their values, and files."""
 import table
 
 NOTE = f"Made by share/make of {table.PAGES}."
@@ -85,7 +85,7 @@ def words(command):
 
 
 def by_values(its_table):
-    """The words of options that a value follows, by their values, which have to be the same in each command."""
+    """The options that a value follows, by their values, which must be the same in each command."""
     values, found = {}, {}
     for option in (option for it in its_table.commands for option in it.options if option.value):
         for word in option.words:
@@ -116,7 +116,7 @@ def zsh_option(option):
 
 
 def zsh_arguments(command):
-    """The words for _arguments that say what a command takes beside options."""
+    """The words for _arguments that describe the arguments of a command other than options."""
     for at, it in enumerate(command.arguments, 1):
         yield f"'{'*' if it.is_many else at}{'' if it.is_needed or it.is_many else ':'}:{it.name}:_files'"
 
@@ -156,7 +156,7 @@ def fish(its_table):
 
 
 def files(its_table):
-    """The files by their places."""
+    """The files by their paths."""
     return {
         "bash-completion/completions/arrowflow": bash(its_table),
         "zsh/site-functions/_arrowflow": zsh(its_table),

@@ -4,15 +4,15 @@ import re
 import textwrap
 import time
 
-# Words that are set in bold: those between backticks, and options.
+# Words in bold: those between backticks, and options.
 BOLD = re.compile(r"`([^`]+)`|(?<![\w-])(--[a-z][a-z-]*)")
 SENTENCE = re.compile(r"(?<=\.) (?=[A-Z`]|arrowflow)")
-# How long a line of a page's source is, but for words that are longer and for what is kept as it is.
+# The maximum length of a line of a page's source, except for longer words and verbatim lines.
 WIDTH = 79
 
 
 def code(text):
-    """Text that is copied from a page as it is there: each hyphen is one, each quote is straight."""
+    """Text that can be copied from a page unchanged: each hyphen is one, each quote is straight."""
     text = text.replace("\\", "\\e").replace("-", "\\-")
     for plain, name in (("'", "aq"), ("`", "ga"), ("^", "ha"), ("~", "ti")):
         text = text.replace(plain, f"\\({name}")
@@ -20,7 +20,7 @@ def code(text):
 
 
 def plain(text):
-    """Text as it is read, a hyphen between letters being no minus."""
+    """Text for reading, in which a hyphen between letters is not a minus."""
     kept = re.sub(r"(?<=[A-Za-z])-(?=[A-Za-z])", "\0", text)
     return code(kept).replace("\0", "-").replace("\\(aq", "'")
 
@@ -34,7 +34,7 @@ def italic(text):
 
 
 def line(text):
-    """A line of a page: one that begins as a request of roff does not become one."""
+    """A line of a page: a line that begins like a roff request does not become one."""
     return f"\\&{text}\n" if text.startswith((".", "'")) else f"{text}\n"
 
 
@@ -56,17 +56,17 @@ def paragraph(text):
 
 
 def row(head, text):
-    """A row of a list: its head, which is roff already, and its text."""
+    """A row of a list: its heading, which is roff already, and its text."""
     return f".TP\n{line(head)}{prose(text)}"
 
 
 def point(text):
-    """A point of a list."""
+    """An item of a list."""
     return f".IP \\(bu 2\n{prose(text)}"
 
 
 def verbatim(text):
-    """Lines as they are."""
+    """Lines that are kept unchanged."""
     lines = "".join(line(code(it)) for it in text.rstrip("\n").split("\n"))
     return f".PP\n.RS 4\n.nf\n{lines}.fi\n.RE\n"
 
@@ -78,19 +78,19 @@ def section(title, *parts):
 
 
 def see_also(*pages):
-    """The section with these pages, (name, number) each."""
+    """The section with these pages, each as (name, number)."""
     return section("SEE ALSO", ",\n".join(f"{bold(name)}({number})" for name, number in pages) + "\n")
 
 
 def date():
-    """The day of SOURCE_DATE_EPOCH, or none: a page hangs on nothing else."""
+    """The day of SOURCE_DATE_EPOCH, or none: a page depends on no other time."""
     at = os.environ.get("SOURCE_DATE_EPOCH")
     return time.strftime("%Y-%m-%d", time.gmtime(int(at))) if at else ""
 
 
 def page(name, number, source, made_of, *sections):
-    """A page. `source` is the name and the version of what it is of, `made_of` the files that it was made of."""
+    """A page. `source` is the name and the version of its subject, `made_of` the files that it was made from."""
     head = f'.\\" Made by share/make of {made_of}.\n'
     title = f'.TH {code(name.upper())} {number} "{date()}" "{code(source)}"\n'
-    # no word is broken at the end of a line, and only the right edge is ragged
+    # words are not hyphenated, and the text is aligned only on the left
     return "".join([head, title, ".nh\n.ad l\n", *sections])

@@ -1,11 +1,11 @@
-"""What bash, zsh and fish complete of a line of the program, with the files that share/make wrote."""
+"""How bash, zsh and fish complete a command line of the program with the files that share/make wrote."""
 import os
 import pty
 import re
 import select
 import subprocess
 
-# Where a shell goes on with names of files it is in a folder whose one file has this name.
+# A shell that completes names of files is in a folder that has one file, with this name.
 FILE = "rows.arrows"
 BASH = f"""
 source "$1"
@@ -18,7 +18,7 @@ while IFS= read -r line; do
     echo "${{COMPREPLY[@]}} $files"
 done
 """
-# How many seconds zsh may be silent.
+# How many seconds zsh may print nothing.
 PATIENCE = 120
 # What zsh and fish print after the words of a line.
 END = "- end"
@@ -39,7 +39,7 @@ FISH = "source {}; while read -l line; complete -C $line | string split -f1 \\t;
 
 
 def place(room, name):
-    """An empty folder but for one file, and what a shell gets so that it reads no settings of a user."""
+    """An empty folder except for one file, and the environment with which a shell reads no user settings."""
     folder = f"{room}/in-{name}"
     os.makedirs(folder)
     open(f"{folder}/{FILE}", "wb").close()
@@ -48,13 +48,13 @@ def place(room, name):
 
 
 def asked(room, name, words, lines):
-    """What a shell prints that reads these lines."""
+    """What a shell prints after reading these lines."""
     text = "".join(f"{it}\n" for it in lines)
     return subprocess.run(words, input=text, capture_output=True, text=True, **place(room, name)).stdout
 
 
 def bash(room, lines):
-    # bash takes = for a word
+    # bash treats = as a word
     its = [it.replace("=", " = ") for it in lines]
     found = asked(room, "bash", ["bash", "--norc", "-c", BASH, "bash", f"{room}/bash-completion/completions/arrowflow"], its)
     return dict(zip(lines, (set(it.split()) for it in found.split("\n"))))
@@ -66,7 +66,7 @@ def fish(room, lines):
 
 
 def zsh(room, lines):
-    """The same of zsh, which completes at a terminal alone."""
+    """The same for zsh, which completes only at a terminal."""
     with open(f"{room}/setup", "w", encoding="utf-8") as it:
         it.write(f"{ZSH}source {room}/zsh/site-functions/_arrowflow\n")
     own, other = pty.openpty()

@@ -1,7 +1,7 @@
-"""The program's commands, arguments and options, read out of the pages of help that a test compares with what the program prints.
+"""The program's commands, arguments and options, read from the pages of help that a test compares with what the program prints.
 
-So nothing that is made of this table can say other than `arrowflow COMMAND --help`. A row that does not have the form of its section is
-an error, which names its line: nothing is left out in silence.
+So nothing that is made from this table can differ from `arrowflow COMMAND --help`. A row that does not have the form of its
+section is an error, which names its line: nothing is left out silently.
 """
 import dataclasses
 import os
@@ -16,13 +16,13 @@ COMMAND = re.compile(r"  ([a-z]+) {2,}(\S.*)")
 ARGUMENT = re.compile(r"  ([\[<])([A-Z]+)[\]>](\.\.\.)? {2,}(\S.*)")
 OPTION = re.compile(r"  (?:-(\w), |    )--([a-z][a-z-]*)(?: <(\w+)>)? {2,}(\S.*)")
 MORE = re.compile(r" {8,}(\S.*)")
-# What clap says of an option's value after the help.
+# What clap writes about an option's value after the help.
 DEFAULT, VALUES = re.compile(r" ?\[default: ([^]]*)\]"), re.compile(r" ?\[possible values: ([^]]*)\]")
 
 
 @dataclasses.dataclass(frozen=True)
 class Argument:
-    """What a command takes beside options: its name, and whether it may be left out or given again."""
+    """An argument of a command that is not an option: its name, and whether it may be left out or repeated."""
     name: str
     is_needed: bool
     is_many: bool
@@ -31,7 +31,7 @@ class Argument:
 
 @dataclasses.dataclass(frozen=True)
 class Option:
-    """An option: `letter` and `value`, the name of what follows it, are None if there is none."""
+    """An option. `letter` is None if there is none, and so is `value`, the name of what follows it."""
     name: str
     letter: str
     value: str
@@ -41,13 +41,13 @@ class Option:
 
     @property
     def words(self):
-        """The words that ask for it."""
+        """The words that select it."""
         return [*([f"-{self.letter}"] if self.letter else []), f"--{self.name}"]
 
 
 @dataclasses.dataclass(frozen=True)
 class Command:
-    """A command, or the program itself, whose name is empty: what help says of it, and that text itself."""
+    """A command, or the program itself, whose name is empty: what help says about it, and the text of that help."""
     name: str
     about: str
     usage: str
@@ -62,7 +62,7 @@ class Command:
 class Table:
     program: Command
     commands: tuple
-    # the words of what help lists as commands, with `help`
+    # the words that help lists as commands, `help` among them
     listed: tuple
 
 
@@ -78,19 +78,19 @@ class Page:
                 self.blocks = self.blocks or [[]]
                 self.blocks[-1].append((first + at, line))
         if "\\" in text or any(not it for it in self.blocks):
-            self.refuse(first, "a backslash, or two empty lines")
+            self.fail(first, "a backslash, or two empty lines")
 
-    def refuse(self, at, what):
+    def fail(self, at, what):
         raise SystemExit(f"{PAGES}:{at}: the page {self.name} cannot be read: {what}")
 
     def block(self, at, title=None):
-        """The lines of a block; with a title, of that which begins with it, without it."""
+        """The lines of block `at`; with a title, the lines after it of the block that begins with that title."""
         if title is None:
             return self.blocks[at] if at < len(self.blocks) else []
         return next((it[1:] for it in self.blocks if it[0][1] == title), [])
 
     def rows(self, title, form):
-        """The rows of the block with this title: what the form finds in the first line of each, and its whole text."""
+        """The rows of the block with this title: what the form matches in the first line of each, and its complete text."""
         found = []
         for at, line in self.block(0, title):
             first, more = form.fullmatch(line), MORE.fullmatch(line)
@@ -99,7 +99,7 @@ class Page:
             elif more and found:
                 found[-1][1] += " " + more[1]
             else:
-                self.refuse(at, f"no row of {title} {line!r}")
+                self.fail(at, f"no row of {title} {line!r}")
         return [(first, text.strip()) for first, text in found]
 
 
@@ -116,11 +116,11 @@ def option(row, text):
 
 
 def command(page):
-    """What a page says."""
+    """The command that a page describes."""
     about, usage = page.block(0), page.block(1)
     said = re.fullmatch(rf"Usage: {PROGRAM} (?:([a-z]+) )?(\S.*)", usage[0][1] if len(usage) == 1 else "")
     if len(about) != 1 or not said:
-        page.refuse(about[0][0], "no line on what it does, or no usage")
+        page.fail(about[0][0], "no line on what it does, or no usage")
     known, notes, examples = ("Usage:", "Arguments:", "Options:", "Commands:"), [], []
     for block in page.blocks[1:]:
         (at, first), *more = block
@@ -128,12 +128,12 @@ def command(page):
             examples += [line.strip() for _, line in more]
         elif not first.startswith(known):
             if first.startswith(" ") or first.endswith(":"):
-                page.refuse(at, f"a block that is not known: {first!r}")
+                page.fail(at, f"a block that is not known: {first!r}")
             notes.append(" ".join(line for _, line in block))
     options = tuple(option(*it) for it in page.rows("Options:", OPTION))
     arguments = tuple(argument(*it) for it in page.rows("Arguments:", ARGUMENT))
     if not options or not examples:
-        page.refuse(usage[0][0], "no options, or no example")
+        page.fail(usage[0][0], "no options, or no example")
     return Command(said[1] or "", about[0][1], said[2], arguments, options, tuple(notes), tuple(examples), page.text)
 
 
@@ -144,7 +144,7 @@ def text_of(place):
 
 
 def read(text):
-    """The table that this text of the file PAGES has."""
+    """The table that is read from this text of the file PAGES."""
     pages = [Page(it[1], it[2], text[: it.start(2)].count("\n") + 1) for it in PAGE.finditer(text)]
     found = {it.name: (it, page) for page, it in ((page, command(page)) for page in pages)}
     if "" not in found or len(found) != len(pages):

@@ -1,8 +1,8 @@
-"""The small program: python -m arrowflow [--types core|all] schema|check|show IN, or sanitize IN OUT.
+"""The command-line program: python -m arrowflow [--types core|all] schema|check|show IN, or sanitize IN OUT.
 
-It prints what `arrowflow schema`, `check` and `show` print, or writes the stream again into OUT. It ends with status 0; with status
-1 and a line on standard error where the stream has a fault, once what was whole before it is written; with status 2 where it is
-called wrongly, a file is not read or written, or OUT is IN. `-` is standard input or output.
+It prints what `arrowflow schema`, `check` and `show` print, or writes a copy of the stream to OUT. It exits with status 0; with status 1
+and a line on standard error if the stream has a fault, after the output for the complete messages before it; with status 2 if the
+arguments are wrong, a file cannot be read or written, or OUT is IN. `-` is standard input or output.
 """
 import errno
 import os
@@ -17,12 +17,12 @@ _USAGE = """usage: python -m arrowflow [--types core|all] schema|check|show IN
 
 
 def opened(name: str, mode: str) -> BinaryIO:
-    """A file, or standard input or output, which are not closed."""
+    """Opens a file, or standard input or output, which are not closed."""
     return open(name, mode) if name != "-" else os.fdopen(0 if mode == "rb" else 1, mode, closefd=False)
 
 
 def print_text(command: str, name: str, limits: Limits) -> None:
-    """Prints what a call gives for a file, up to the fault if there is one."""
+    """Prints the text that a call returns for a file, up to the fault if there is one."""
     with opened(name, "rb") as file:
         data = file.read()
     with os.fdopen(1, "wb", closefd=False) as output:
@@ -34,7 +34,7 @@ def print_text(command: str, name: str, limits: Limits) -> None:
 
 
 def write_again(source: str, name: str, limits: Limits) -> None:
-    """Writes a file's stream again into another file, up to the fault where there is one."""
+    """Copies the stream of a file to another file, up to the fault if there is one."""
     with opened(source, "rb") as file:
         if os.path.isfile(name) and os.path.samestat(os.fstat(file.fileno()), os.stat(name)):
             raise OSError(errno.EINVAL, "the output is the input", name)
@@ -44,7 +44,7 @@ def write_again(source: str, name: str, limits: Limits) -> None:
 
 
 def main(words: List[str]) -> int:
-    """Does what the words say, and answers the status."""
+    """Runs the program with these arguments, and returns the status."""
     limits = STANDARD
     if words[:1] == ["--types"] and words[1:2] in (["core"], ["all"]):
         limits, words = (ALL_TYPES if words[1] == "all" else STANDARD), words[2:]
@@ -57,7 +57,7 @@ def main(words: List[str]) -> int:
         else:
             print_text(words[0], words[1], limits)
     except ArrowflowError as why:
-        # the line of the program, without what the kind means
+        # the line of the program, without the meaning of the kind
         print(str(why).partition(",")[0], file=sys.stderr)
         return 1
     except (OSError, MemoryError) as why:

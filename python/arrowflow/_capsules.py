@@ -1,8 +1,8 @@
 """The Arrow PyCapsule interface: structs of the Arrow C data and C stream interfaces in capsules, which release what no consumer
 moved out.
 
-A struct that is made here refers to Python objects by a number in `private_data`; they are let go by its `release`. C code that lets
-go of a capsule or a struct while an exception is pending in it loses that exception, since these are functions of ctypes:
+A struct that is made here refers to Python objects by a number in `private_data`; its `release` drops them. If C code frees a
+capsule or a struct while an exception is pending in it, that exception is lost, since these are functions of ctypes:
 `called_by_c` has it reported.
 """
 from __future__ import annotations
@@ -21,9 +21,9 @@ _new = ctypes.PYFUNCTYPE(ctypes.py_object, ctypes.c_void_p, ctypes.c_char_p, _DE
 _name_of = ctypes.PYFUNCTYPE(ctypes.c_void_p, ctypes.c_void_p)(("PyCapsule_GetName", ctypes.pythonapi))
 _at_of = ctypes.PYFUNCTYPE(ctypes.c_void_p, ctypes.c_void_p, ctypes.c_void_p)(("PyCapsule_GetPointer", ctypes.pythonapi))
 
-# What structs refer to that are lent to consumers.
+# The objects that structs refer to, while consumers have the structs.
 kept = Kept()
-# The structs that capsules have, by their addresses.
+# The structs in capsules, keyed by their addresses.
 _structs: Dict[int, Any] = {}
 
 
@@ -49,8 +49,8 @@ _free_schema, _free_array, _free_stream = map(_freeing, (RELEASE_SCHEMA, RELEASE
 
 
 def _releasing(prototype: Any) -> Any:
-    """The `release` of a schema or an array that was made here: of its children and its dictionary those that were not moved out are
-    released too."""
+    """The `release` of a schema or an array that was made here. It also releases those of its children and its dictionary that
+    were not moved out."""
     @prototype
     @called_by_c
     def release(at: Any) -> None:
@@ -74,7 +74,7 @@ def _address(function: Any) -> Optional[int]:
 
 
 def _table(structs: List[Any], kind: Any) -> Any:
-    """Pointers to structs, which keep these."""
+    """Pointers to structs, which keep the structs alive."""
     return (ctypes.POINTER(kind) * len(structs))(*map(ctypes.pointer, structs))
 
 
@@ -87,7 +87,7 @@ def schema_capsule(field: Field) -> object:
 
 
 def _schema(field: Field) -> ArrowSchema:
-    """An ArrowSchema of a field, with those below it."""
+    """An ArrowSchema of a field and of those below it."""
     made, children = ArrowSchema(), [_schema(it) for it in field.children]
     dictionary = _schema(field.dictionary) if field.dictionary else None
     texts = [ctypes.create_string_buffer(it.encode()) for it in (field.format, field.name)]
@@ -103,12 +103,12 @@ def _schema(field: Field) -> ArrowSchema:
 
 
 def array_capsules(owner: object, array: ArrowArray, field: Field) -> Tuple[object, object]:
-    """Capsules of a field and of an array that shares the memory of one, whose owner lives until it is released."""
+    """Capsules of a field and of an array that shares the memory of `array`, whose owner lives until it is released."""
     return schema_capsule(field), _capsule(_shared(owner, array), _ARRAY, _free_array)
 
 
 def _shared(owner: object, array: ArrowArray) -> ArrowArray:
-    """A struct with the buffers of another one, with those below it, each of which keeps their owner."""
+    """A struct with the buffers of another one, and of those below it, each of which keeps their owner alive."""
     made = ArrowArray(array.length, array.null_count, array.offset, array.n_buffers, array.n_children)
     children = [_shared(owner, array.children[k].contents) for k in range(array.n_children)]
     dictionary = _shared(owner, array.dictionary.contents) if array.dictionary else None
@@ -124,21 +124,21 @@ def _shared(owner: object, array: ArrowArray) -> ArrowArray:
 
 
 class _Moved:
-    """What a stream had that was handed on: its own calls, and what it is read from."""
+    """What belongs to a stream that was handed on: its own functions, and what it is read from."""
 
     def __init__(self, stream: ArrowArrayStream, source: Source) -> None:
-        self.release, self.tell, self.source = RELEASE_STREAM(stream.release), GET_LAST_ERROR(stream.get_last_error), source
+        self.release, self.last_error, self.source = RELEASE_STREAM(stream.release), GET_LAST_ERROR(stream.get_last_error), source
         self.text: Any = None
 
 
-# By the `private_data` of the library, of which each stream has its own.
+# Keyed by the `private_data` of the library, which is different for each stream.
 _moved: Dict[int, _Moved] = {}
 
 
 def stream_capsule(stream: ArrowArrayStream, source: Source) -> object:
-    """A capsule of a stream that is moved into it, and that is released with what it is read from."""
+    """A capsule of a stream that is moved into it, and that is released together with its source."""
     moved = _Moved(stream, source)
-    made = ArrowArrayStream(stream.get_schema, stream.get_next, _address(_tell), _address(_release_stream), stream.private_data)
+    made = ArrowArrayStream(stream.get_schema, stream.get_next, _address(_last_error), _address(_release_stream), stream.private_data)
     _moved[made.private_data] = moved
     stream.release = None
     return _capsule(made, _STREAM, _free_stream)
@@ -147,17 +147,17 @@ def stream_capsule(stream: ArrowArrayStream, source: Source) -> object:
 @RELEASE_STREAM
 @called_by_c
 def _release_stream(at: Any) -> None:
-    """The `release` of a stream that was handed on, which lets go of its source too."""
+    """The `release` of a stream that was handed on, which closes its source too."""
     moved = _moved.pop(at.contents.private_data)
     moved.release(at)
     moved.source.close()
 
 
 @GET_LAST_ERROR
-def _tell(at: Any) -> Optional[int]:
-    """What the library says of an error, or which exception of the source is why."""
+def _last_error(at: Any) -> Optional[int]:
+    """The library's text about an error, or, if an exception of the source caused it, a text about that."""
     moved = _moved[at.contents.private_data]
-    text: Optional[int] = moved.tell(at)
+    text: Optional[int] = moved.last_error(at)
     why = moved.source.raised
     if not text or why is None:
         return text

@@ -15,7 +15,8 @@ _ROOM = 1 << 16
 
 
 class _Thread(threading.local):
-    """Of each thread, the copiers that it opened and that were collected on another one: it closes them when it comes by again."""
+    """For each thread, the copiers that it opened and that were collected on another one: it closes them the next time that it
+    makes or uses a copier."""
 
     def __init__(self) -> None:
         self.left: Deque[int] = collections.deque()
@@ -31,21 +32,21 @@ def _close_left() -> None:
 
 
 class Copier:
-    """Writes a stream again while its pieces come: `feed` and `end` return the bytes that are written. All of them together are what
-    `sanitize` gives of all pieces, and what is held meanwhile is bounded by a message and what it is written as.
+    """Writes a stream again while its pieces come: `feed` and `end` return the bytes that are written. All of them together are
+    what `sanitize` returns for all pieces, and the memory in use meanwhile is bounded by a message and what it is written as.
 
         with arrowflow.Copier() as copier:
             for piece in pieces:
                 out.write(copier.feed(piece))
             out.write(copier.end())
 
-    It stays on the thread that made it: another one that uses it gets a RuntimeError. Where it is collected on another thread it is
-    closed when its own makes or uses a copier again.
+    It stays on the thread that made it: another one that uses it gets a RuntimeError. If it is collected on another thread, it is
+    closed when its own thread makes or uses a copier again.
     """
 
     def __init__(self, limits: Limits = STANDARD, *, resend: bool = False, pad_to_8: bool = False) -> None:
         """limits     how much the stream may ask for, and which types it may have
-        resend     whether a dictionary that grew is written whole, and not as a delta
+        resend     whether a dictionary that was extended is written completely, and not as a delta
         pad_to_8   whether buffers are padded to 8 bytes, and not to 64"""
         _close_left()
         self._handle: Optional[int] = None
@@ -56,26 +57,27 @@ class Copier:
         self._handle = handle.value
 
     def feed(self, piece: Data) -> bytes:
-        """Takes a piece, and returns what is written with it, b"" where no message is whole. Where some is written before a fault it
-        is returned, and the next call raises ArrowflowError; else this one does. What comes after an end marker is passed over."""
+        """Takes a piece, and returns what is written with it, b"" if it completes no message. If bytes are written before a
+        fault, they are returned, and the next call raises ArrowflowError; otherwise this one does. What comes after an end
+        marker is ignored."""
         data = bytes_of(piece)
-        told = calls["copier_put"](self._of_thread(), data, len(data))
-        written = self._take(told.waiting)
-        if told.kind and not written:
-            raise error_of(told.kind, told.place)
+        report = calls["copier_put"](self._of_thread(), data, len(data))
+        written = self._take(report.waiting)
+        if report.kind and not written:
+            raise error_of(report.kind, report.place)
         return written
 
     def end(self) -> bytes:
-        """Ends the stream, and returns the last bytes, with the end marker. ArrowflowError where the stream
-        cannot end here, inside a message or before a schema, or where it has a fault; `partial` has what was not returned yet."""
-        told = calls["copier_end"](self._of_thread())
-        written = self._take(told.waiting)
-        if told.kind:
-            raise error_of(told.kind, told.place, written)
+        """Ends the stream, and returns the last bytes, with the end marker. ArrowflowError if the stream cannot end here, inside
+        a message or before a schema, or if it has a fault; `partial` has what was not returned yet."""
+        report = calls["copier_end"](self._of_thread())
+        written = self._take(report.waiting)
+        if report.kind:
+            raise error_of(report.kind, report.place, written)
         return written
 
     def close(self) -> None:
-        """Frees what the copier holds. It is not used afterwards, which raises ValueError."""
+        """Frees what the copier holds. Using it afterwards raises ValueError."""
         self._on_its_thread()
         handle, self._handle = self._handle, None
         if handle:
@@ -108,7 +110,7 @@ class Copier:
         return self._handle
 
     def _take(self, waiting: int) -> bytes:
-        """All that waits."""
+        """All bytes that wait to be taken."""
         parts = []
         while waiting:
             room = ctypes.create_string_buffer(min(waiting, _ROOM * 16))
@@ -123,8 +125,8 @@ def sanitize_pieces(source: Input, limits: Limits = STANDARD, *, resend: bool = 
 
     source   what `open` takes: a path, a binary file, bytes, or an iterable of bytes
 
-    ArrowflowError at a fault, once the bytes before it were given: these are of the whole batches, without an end marker. What the
-    source raises is raised as it is.
+    ArrowflowError at a fault, after the bytes before it were returned: these are the complete batches, without an end marker. An
+    exception of the source is raised unchanged.
     """
     limits_in_c(limits)
     return _pieces(source_of(source), limits, resend, pad_to_8)

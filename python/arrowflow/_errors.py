@@ -11,8 +11,8 @@ from ._library import CLimits, calls
 
 
 class Kind(enum.IntEnum):
-    """How a call ended. FINE is no fault, 1 to 18 are faults of the stream (docs/FORMAT.md of the repository defines them), 32
-    and more are those of a sound stream that cannot be written again. `str(kind)` is the name that the program `arrowflow` prints."""
+    """How a call ended. FINE is no fault, 1 to 18 are faults of the stream (docs/FORMAT.md of the repository defines them), 32 and above
+    are for a valid stream that cannot be written again. `str(kind)` is the name that the program `arrowflow` prints."""
     FINE = 0
     CONTINUATION = 1
     METADATA_SIZE = 2
@@ -47,7 +47,7 @@ class Kind(enum.IntEnum):
 
 
 def _sentence(call: str, *about: Any) -> str:
-    """What a call puts into a room, which is made larger where that is needed."""
+    """The text that a call writes to a buffer, which is made larger if needed."""
     room, size = ctypes.create_string_buffer(256), 0
     while (size := calls[call](*about, room, len(room))) >= len(room):
         room = ctypes.create_string_buffer(size + 1)
@@ -55,26 +55,26 @@ def _sentence(call: str, *about: Any) -> str:
 
 
 def error_text(kind: int, place: int) -> str:
-    """A sentence on an error: "fault at byte 976: Truncated, the stream ended inside a message"."""
+    """A sentence about an error: "fault at byte 976: Truncated, the stream ended inside a message"."""
     return _sentence("error_text", kind, place)
 
 
 def fault_text(stream: bytes, limits: CLimits) -> str:
-    """A sentence on the first fault of a stream, with the column at fault where there is one."""
+    """A sentence about the first fault of a stream, with the column at fault if there is one."""
     return _sentence("fault_text", stream, len(stream), limits)
 
 
 class ArrowflowError(ValueError):
     """A stream with a fault, or one that cannot be written again.
 
-    kind      what it is (Kind); None of DictionaryTooLong alone
-    offset    where the message at fault begins, in bytes from the stream's beginning; None where the error is at no byte
-    batch     the number, from 0, of the batch that cannot be written again; else None
-    column    the number, from 0, of the column at fault, where the body of a record batch is (Kind.LAYOUT, TEXT or INDEX) and the
-              stream was given as bytes to `open`, `sanitize`, `show`, `messages` or `schema_text`; else None
-    field     the name of this column, or of the field that DictionaryTooLong is about, which the library cuts where it is long;
-              else None
-    partial   of `sanitize`, `show`, `messages` and `schema_text`: what the whole messages before the fault gave, in bytes
+    kind      the kind of the error (Kind); None only for DictionaryTooLong
+    offset    where the message at fault begins, in bytes from the start of the stream; None if the error has no offset
+    batch     the number, from 0, of the batch that cannot be written again; otherwise None
+    column    the index, from 0, of the column at fault, if the fault is in the body of a record batch (Kind.LAYOUT, TEXT or INDEX) and
+              the stream was passed as bytes to `open`, `sanitize`, `show`, `messages` or `schema_text`; otherwise None
+    field     the name of this column, or of the field that DictionaryTooLong is about, which the library cuts if it is long; otherwise
+              None
+    partial   for `sanitize`, `show`, `messages` and `schema_text`: the output for the complete messages before the fault, in bytes
     """
 
     kind: Optional[Kind]
@@ -99,8 +99,8 @@ class ArrowflowError(ValueError):
 
 
 class DictionaryTooLong(ArrowflowError):
-    """A sound stream with a dictionary whose values, joined, are too long for one array with offsets of 32 bits. `field` is the name
-    of a field that has it, which the library cuts where it is long."""
+    """A valid stream with a dictionary whose values, joined, are too long for one array with offsets of 32 bits. `field` is the name of a
+    field that has it, which the library cuts if it is long."""
 
     def __init__(self, text: str) -> None:
         ValueError.__init__(self, text)
@@ -111,14 +111,14 @@ class DictionaryTooLong(ArrowflowError):
         return type(self), (self._text,)
 
 
-# How arrowflow_error_text begins, of a fault of the stream, and how arrowflow_fault_text ends, of a column at fault.
+# How the text of arrowflow_error_text begins for a fault of the stream, and how that of arrowflow_fault_text ends for a column at fault.
 _FAULT = re.compile(r"fault at byte (\d+): (\w+)")
 _COLUMN = re.compile(r', in column (\d+), "(.*)"$')
 _KINDS = {str(it): it for it in Kind}
 
 
 def error_of_stream(status: int, text: str) -> Exception:
-    """What is raised for the number of errno.h that a stream's call answered, with the text of its get_last_error."""
+    """The exception for the number of errno.h that a stream's call returned, with the text of its get_last_error."""
     if status == errno.ENOMEM:
         return MemoryError(text)
     if status == errno.EOVERFLOW:
@@ -130,5 +130,5 @@ def error_of_stream(status: int, text: str) -> Exception:
 
 
 def error_of(kind: int, place: int, partial: bytes = b"", text: str = "") -> Union[ArrowflowError, MemoryError]:
-    """What is raised for a kind that is not FINE."""
+    """The exception for a kind that is not FINE."""
     return MemoryError(error_text(kind, place)) if kind == Kind.MEMORY else ArrowflowError(kind, place, partial, text)

@@ -1,4 +1,4 @@
-"""What the format strings of the Arrow C data interface say, of the types that are read."""
+"""The meaning of the format strings of the Arrow C data interface, for the types that are supported."""
 from __future__ import annotations
 
 import struct
@@ -10,7 +10,7 @@ _WORDS = {
     "L": "uint64", "e": "halffloat", "f": "float", "g": "double", "z": "binary", "Z": "large_binary", "u": "utf8", "U": "large_utf8",
     "+l": "list", "+L": "large_list", "+s": "struct", "+m": "map", "tdD": "date[day]", "tdm": "date[ms]",
     "tiM": "month_interval", "tiD": "day_time_interval", "tin": "month_day_nano_interval"}
-# How the module `struct` unpacks the numbers of a slot, without the order of bytes.
+# How the module `struct` unpacks the numbers of a slot, without the byte order.
 _CODES = {"c": "b", "C": "B", "s": "h", "S": "H", "i": "i", "I": "I", "l": "q", "L": "Q", "e": "e", "f": "f", "g": "d",
           "tdD": "i", "tdm": "q", "tts": "i", "ttm": "i", "ttu": "q", "ttn": "q", "tiM": "i", "tiD": "ii", "tin": "iiq"}
 _OFFSETS = {"z": "i", "u": "i", "+l": "i", "+m": "i", "Z": "q", "U": "q", "+L": "q"}
@@ -34,33 +34,33 @@ def words_of(format: str) -> str:
 
 
 def zone_of(format: str) -> Optional[str]:
-    """The time zone of a timestamp, or None where it has none."""
+    """The time zone of a timestamp, or None if it has none."""
     return format[4:] or None if format.startswith("ts") else None
 
 
 def scale_of(format: str) -> Optional[int]:
-    """How many digits of a decimal are after the point, below 0 how many zeros follow its digits; None of another type."""
+    """How many digits of a decimal are after the point, or, if negative, how many zeros follow its digits; None for another type."""
     return _decimal(format)[1] if format.startswith("d:") else None
 
 
 def list_size_of(format: str) -> Optional[int]:
-    """How many items each list has, of fixed-size lists; None of another type."""
+    """The number of items of each list, for fixed-size lists; None for another type."""
     return int(format[3:]) if format.startswith("+w:") else None
 
 
 def _decimal(format: str) -> Tuple[int, int, int]:
-    """Of a decimal how many digits it has at most, its scale, and its bits, which are 128 where the format does not say."""
+    """The maximum number of digits of a decimal, its scale, and its bits, which are 128 if the format does not give them."""
     digits, scale, bits = (*map(int, format[2:].split(",")), 128)[:3]
     return digits, scale, bits
 
 
 def code_of(format: str) -> Optional[str]:
-    """How the module `struct` unpacks the numbers of a slot of this format, or None where slots have none."""
+    """How the module `struct` unpacks the numbers of a slot of this format, or None if slots have no numbers."""
     return "q" if format[:2] in ("ts", "tD") else _CODES.get(format)
 
 
 def width_of(format: str) -> int:
-    """The bytes of a slot in the second buffer, where each one has as many; else 0."""
+    """The bytes of a slot in the second buffer, if all slots have the same number of bytes; otherwise 0."""
     if format.startswith("w:"):
         return int(format[2:])
     if format.startswith("d:"):
@@ -70,11 +70,11 @@ def width_of(format: str) -> int:
 
 
 def offset_code_of(format: str) -> Optional[str]:
-    """How the module `struct` unpacks an offset, or None where there are none."""
+    """How the module `struct` unpacks an offset, or None if there are none."""
     return _OFFSETS.get(format)
 
 
 def offset_width_of(format: str) -> int:
-    """The bytes of an offset, or 0 where there are none."""
+    """The bytes of an offset, or 0 if there are none."""
     code = offset_code_of(format)
     return struct.calcsize(f"<{code}") if code else 0

@@ -1,8 +1,8 @@
 """The library for C over ctypes: its structs and calls as c/arrowflow.h and c/arrowflow_stream.h declare them.
 
-The library is looked for in this order: the file that the environment variable ARROWFLOW_LIBRARY names; `libarrowflow.so.0` beside
-this file, where a wheel puts it; in c/out/lib of a checkout of the repository, where c/build puts it; where the system keeps its
-libraries. One of another version than the package is refused with an ImportError.
+The library is searched in this order: the file that the environment variable ARROWFLOW_LIBRARY names; `libarrowflow.so.0` next to this
+file, where a wheel puts it; in c/out/lib of a checkout of the repository, where c/build puts it; in the library folders of the system. A
+library of another version than the package raises an ImportError.
 """
 from __future__ import annotations
 
@@ -46,7 +46,7 @@ class CCopied(ctypes.Structure):
     _fields_ = [("kind", ctypes.c_uint32), ("is_over", ctypes.c_bool), ("place", ctypes.c_uint64), ("waiting", ctypes.c_uint64)]
 
 
-# ---- the structs of the Arrow C data and C stream interfaces; pointers to functions are numbers here, None being NULL
+# ---- the structs of the Arrow C data and C stream interfaces; pointers to functions are numbers here, and None is NULL
 
 
 class ArrowSchema(ctypes.Structure):
@@ -108,7 +108,7 @@ _CALLS: Dict[str, Any] = {
 
 
 def places() -> List[str]:
-    """Where the library is looked for, the first one first."""
+    """Where the library is searched, in this order."""
     named = os.environ.get("ARROWFLOW_LIBRARY")
     if named:
         return [named]
@@ -121,7 +121,7 @@ def places() -> List[str]:
 
 
 def _loaded(place: str) -> Dict[str, Callable[..., Any]]:
-    """The calls of the library at this place. ImportError where there is none, or one of another version."""
+    """The calls of the library at this path. Raises ImportError if there is none, or if it has another version."""
     try:
         library = ctypes.CDLL(place)
         calls = {name: getattr(library, f"arrowflow_{name}") for name in _CALLS}
@@ -139,11 +139,11 @@ PLACE = places()[0]
 calls = _loaded(PLACE)
 
 
-# ---- what C code has by a number
+# ---- objects that C code refers to by numbers
 
 
 class Kept:
-    """Python objects that C code refers to by a number, and that stay until it is let go."""
+    """Python objects that C code refers to by a number, and that are kept until the number is dropped."""
 
     def __init__(self) -> None:
         self._numbers = itertools.count(1)
@@ -153,17 +153,17 @@ class Kept:
         return len(self._objects)
 
     def add(self, what: Any) -> int:
-        """The number of an object from now on, never 0."""
+        """Keeps an object, and returns its number, which is never 0."""
         number = next(self._numbers)
         self._objects[number] = what
         return number
 
     def get(self, number: Optional[int]) -> Any:
-        """The object of a number."""
+        """The object with this number."""
         return self._objects[number or 0]
 
     def drop(self, number: Optional[int]) -> Any:
-        """The object of a number, which is let go."""
+        """Returns the object with this number, and drops the number."""
         return self._objects.pop(number or 0)
 
 
@@ -171,11 +171,11 @@ _no_work = ctypes.PYFUNCTYPE(ctypes.c_int)(("Py_IsInitialized", ctypes.pythonapi
 
 
 def called_by_c(work: Callable[..., Any]) -> Callable[..., Any]:
-    """A function that C code may call while an exception is pending in it. ctypes cannot hand such an exception back to the C code:
-    it is reported by sys.unraisablehook, once the work is done."""
+    """A function that C code may call while an exception is pending. ctypes cannot return such an exception to the C code: it is reported
+    by sys.unraisablehook, after the work is done."""
     def call(*given: Any) -> Any:
         try:
-            # raises what is pending, since ctypes looks for an exception after each call of Python's own library
+            # raises the pending exception, since ctypes checks for one after each call of Python's own library
             _no_work()
         finally:
             answer = work(*given)

@@ -1,4 +1,4 @@
-"""How much a stream may ask for."""
+"""How large the messages of a stream may be, and which types it may have."""
 from __future__ import annotations
 
 import dataclasses
@@ -8,11 +8,11 @@ from ._library import CLimits
 
 
 class Types(enum.IntEnum):
-    """Which types are read; a stream with another one is Kind.UNSUPPORTED.
+    """Which types are accepted; a stream with another one is Kind.UNSUPPORTED.
 
-    CORE   Null, Bool, Int, Binary, Utf8 and these Large, FixedSizeBinary, Date, Time, Timestamp, Duration, List, LargeList, Struct,
-           and dictionary encoding of any of them: never others
-    ALL    also FloatingPoint, Decimal, Interval, FixedSizeList, Map, and what later versions of the library read
+    CORE   Null, Bool, Int, Binary, Utf8 and their Large forms, FixedSizeBinary, Date, Time, Timestamp, Duration, List, LargeList, Struct,
+           and dictionary encoding of any of them: no version adds others
+    ALL    also FloatingPoint, Decimal, Interval, FixedSizeList, Map, and the types that later versions of the library support
     """
     CORE = 0
     ALL = 1
@@ -23,13 +23,13 @@ _CEILINGS = {"max_metadata": 1 << 30, "max_body": 1 << 40, "max_rows": (1 << 31)
 
 @dataclasses.dataclass(frozen=True)
 class Limits:
-    """How much a stranger's stream may ask for, and which types it may have. A TypeError where a limit is no whole number, a
-    ValueError where it is below 0 or above its ceiling, or where there is no such set of types.
+    """How large the messages of an untrusted stream may be, and which types it may have. Raises TypeError if a limit is not an integer,
+    ValueError if it is below 0 or above its maximum, or if there is no such set of types.
 
-    max_metadata   bytes of a message's metadata, at most 2^30; 64 MiB where nothing is said
-    max_body       bytes of a message's body, at most 2^40; 64 GiB where nothing is said
-    max_rows       rows of a batch and values of a dictionary, at most 2^31 - 1, which is also what is taken where nothing is said
-    types          Types.CORE or Types.ALL; the core where nothing is said
+    max_metadata   bytes of a message's metadata, at most 2^30; by default 64 MiB
+    max_body       bytes of a message's body, at most 2^40; by default 64 GiB
+    max_rows       rows of a batch and values of a dictionary, at most 2^31 - 1, which is also the default
+    types          Types.CORE or Types.ALL; by default the core
     """
     max_metadata: int = 1 << 26
     max_body: int = 1 << 36
@@ -53,7 +53,7 @@ ALL_TYPES = Limits(types=Types.ALL)
 
 
 def limits_in_c(limits: Limits) -> CLimits:
-    """The limits as the library takes them."""
+    """The limits as the struct of the library."""
     if not isinstance(limits, Limits):
         raise TypeError(f"limits are arrowflow.Limits, not {type(limits).__name__}")
     return CLimits(limits.max_metadata, limits.max_body, limits.max_rows, int(limits.types))

@@ -1,4 +1,4 @@
-"""A reader that is fed the pieces of a stream."""
+"""A reader that takes the pieces of a stream."""
 from __future__ import annotations
 
 from typing import List, Optional
@@ -12,7 +12,7 @@ from ._stream import Handle
 
 
 class Reader:
-    """Reads a stream whose pieces come one after another, as from a socket: `feed` gives the batches that a piece makes whole.
+    """Reads a stream whose pieces arrive one after another, as from a socket: `feed` returns the batches that a piece completes.
 
         with arrowflow.Reader() as reader:
             for piece in pieces:
@@ -20,8 +20,8 @@ class Reader:
                     print(batch.to_pylist())
             reader.end()
 
-    How a stream is cut into pieces changes no batch. Any thread may use it: calls wait for one another. What comes after an end
-    marker is passed over.
+    How a stream is cut into pieces has no effect on the batches. Any thread may use it: calls wait for one another. Bytes after an end
+    marker are ignored.
     """
 
     def __init__(self, limits: Limits = STANDARD) -> None:
@@ -31,16 +31,16 @@ class Reader:
 
     @property
     def schema(self) -> Optional[Schema]:
-        """The Schema, or None where its message is not whole yet. ArrowflowError where a fault came before it."""
+        """The Schema, or None if its message is not complete yet. Raises ArrowflowError if there was a fault before it."""
         try:
             return self._handle.schema()
         except NoDataYet:
             return None
 
     def feed(self, piece: Data) -> List[Batch]:
-        """Reads a piece, which is copied where it is not of the type bytes, and returns the batches that are whole with it. Where some
-        are whole before a fault they are returned, and the next call raises ArrowflowError; else this one does. After a MemoryError
-        no batch is lost: the next call, feed(b"") too, reads on."""
+        """Reads a piece, which is copied if it is not of the type bytes, and returns the batches that it completes. If there are some
+        before a fault they are returned, and the next call raises ArrowflowError; otherwise this call raises it. After a MemoryError no
+        batch is lost: the next call, even feed(b""), reads on."""
         data = bytes_of(piece)
         if self._fed.is_ended:
             raise ValueError("the reader was told that the stream has ended")
@@ -54,14 +54,14 @@ class Reader:
         return self._taken()
 
     def end(self) -> List[Batch]:
-        """Ends the stream. ArrowflowError where it cannot end here, inside a message or before a schema, or
-        where it has a fault. Returns the batches that were not returned yet, which there are after a MemoryError alone."""
+        """Ends the stream. Raises ArrowflowError if it cannot end here, because it ended inside a message or before a schema, or if it
+        has a fault. Returns the batches that were not returned yet, which there are only after a MemoryError."""
         self._fed.is_ended = True
         self._read_on()
         return self._taken()
 
     def close(self) -> None:
-        """Frees what the reader holds. It is not fed afterwards, which raises ValueError; batches stay."""
+        """Frees what the reader holds. Passing it pieces afterwards raises ValueError; batches stay valid."""
         self._handle.close()
 
     def __enter__(self) -> "Reader":
@@ -71,13 +71,13 @@ class Reader:
         self.close()
 
     def _read_on(self) -> None:
-        """Reads what was fed."""
+        """Reads the pieces that were passed."""
         try:
             while (batch := self._handle.next_batch()) is not None:
                 self._ready.append(batch)
         except NoDataYet:
             return
-        # what comes after the end marker
+        # the bytes after the end marker
         self._fed.clear()
 
     def _taken(self) -> List[Batch]:

@@ -14,15 +14,15 @@ _It = TypeVar("_It")
 
 
 class Field:
-    """A column's field, or one below it.
+    """The field of a column, or a field below one.
 
-    name             its name, "" for the values of a dictionary; it ends at a first zero byte, as the Arrow C data interface has it
-    format           the format string of the Arrow C data interface; of a dictionary-encoded field that of the indices
-    nullable         whether slots may be null, as the stream says: it is not enforced
-    ordered          whether the order of the dictionary's values means something
-    keys_sorted      of maps: whether the keys of each map are sorted, as the stream says: it is not enforced
-    children         the fields below it: of a list, a fixed-size list or a map one, of a struct each
-    dictionary       the field of the dictionary's values, or None where it is not dictionary-encoded
+    name             its name, "" for the values of a dictionary; it ends at the first zero byte, as in the Arrow C data interface
+    format           the format string of the Arrow C data interface; for a dictionary-encoded field that of the indices
+    nullable         whether slots may be null according to the stream: it is not enforced
+    ordered          whether the order of the dictionary's values has a meaning
+    keys_sorted      for maps: whether the keys of each map are sorted according to the stream: it is not enforced
+    children         the fields below it: one for a list, a fixed-size list or a map, each field of a struct
+    dictionary       the field of the dictionary's values, or None if it is not dictionary-encoded
     metadata_pairs   the custom metadata as pairs of key and value, in bytes, in their order
     """
 
@@ -40,12 +40,12 @@ class Field:
 
     @property
     def time_zone(self) -> Optional[str]:
-        """Of a timestamp with a zone its name, else None."""
+        """The zone's name for a timestamp with a zone, otherwise None."""
         return zone_of(self.format)
 
     @property
     def metadata(self) -> Dict[bytes, bytes]:
-        """The custom metadata as a dict, in which the last value of a key counts."""
+        """The custom metadata as a dict, which has the last value of each key."""
         return dict(self.metadata_pairs)
 
     @property
@@ -72,12 +72,12 @@ class Field:
 
 
 class Schema:
-    """The columns of a stream. `len(schema)` is how many there are, `schema[0]` and `schema["name"]` are fields, and a loop goes
-    through all of them.
+    """The columns of a stream. `len(schema)` is their number, `schema[0]` and `schema["name"]` are fields, and a loop iterates over all
+    of them.
 
     fields           the Field of each column
     names            the names of the columns
-    metadata_pairs   the custom metadata of the schema, as those of a Field
+    metadata_pairs   the custom metadata of the schema, as in a Field
     """
 
     def __init__(self, root: Field) -> None:
@@ -86,7 +86,7 @@ class Schema:
 
     @property
     def metadata(self) -> Dict[bytes, bytes]:
-        """The custom metadata of the schema as a dict, in which the last value of a key counts."""
+        """The custom metadata of the schema as a dict, which has the last value of each key."""
         return dict(self.metadata_pairs)
 
     def __len__(self) -> int:
@@ -113,7 +113,8 @@ class Schema:
 
 
 def found(things: Sequence[_It], names: Sequence[str], which: Union[int, str]) -> _It:
-    """The thing of this number or of this name. IndexError of no number, KeyError of a name that none or several have."""
+    """The item with this index or this name. Raises IndexError for an index that does not exist, KeyError for a name that no item or
+    several items have."""
     if isinstance(which, int) and not isinstance(which, bool):
         if not -len(things) <= which < len(things):
             raise IndexError(f"there is no column {which} of {len(things)}")
@@ -126,11 +127,11 @@ def found(things: Sequence[_It], names: Sequence[str], which: Union[int, str]) -
     return things[names.index(which)]
 
 
-# ---- out of the Arrow C data interface, and into it
+# ---- from the Arrow C data interface, and to it
 
 
 def field_of(schema: ArrowSchema) -> Field:
-    """The field of an ArrowSchema, copied out of it."""
+    """The field of an ArrowSchema, as a copy."""
     children = tuple(field_of(schema.children[k].contents) for k in range(schema.n_children))
     dictionary = field_of(schema.dictionary.contents) if schema.dictionary else None
     format, name = ((it or b"").decode() for it in (schema.format, schema.name))
@@ -158,7 +159,7 @@ def _length_at(at: int) -> int:
 
 
 def metadata_of(pairs: Pairs) -> Optional[bytes]:
-    """Pairs of custom metadata as the Arrow C data interface has them, or None where there are none."""
+    """Pairs of custom metadata in the encoding of the Arrow C data interface, or None if there are none."""
     if not pairs:
         return None
     texts = [text for pair in pairs for text in pair]

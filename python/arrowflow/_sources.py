@@ -1,4 +1,4 @@
-"""What a stream is read from: bytes, a file by its path, an open file, pieces of an iterable, pieces that are fed."""
+"""What a stream is read from: bytes, a file by its path, an open file, pieces of an iterable, pieces that are passed one by one."""
 from __future__ import annotations
 
 import collections
@@ -17,7 +17,7 @@ if TYPE_CHECKING:
     from typing_extensions import Buffer
 
     class Reads(Protocol):
-        """A binary file that is read."""
+        """A binary file with a method `read`."""
 
         def read(self, size: int, /) -> Optional[Buffer]: ...
 
@@ -35,23 +35,23 @@ PIECE = 65536
 
 
 def bytes_of(data: Data) -> bytes:
-    """The bytes of what has a buffer, copied where another one could change them. A TypeError of anything else."""
+    """The bytes of an object with the buffer protocol, copied if other code could change them. Raises TypeError for any other object."""
     return data if type(data) is bytes else memoryview(data).tobytes()
 
 
 class NoDataYet(Exception):
-    """All that was fed was read."""
+    """All pieces that were passed so far were read."""
 
 
 class Source:
     """What a stream is read from. `raised` is the exception that ended it."""
 
     raised: Optional[BaseException] = None
-    is_waiting = False  # the last read found no data yet
-    is_read = False  # a read goes on
+    is_waiting = False  # whether the last read found no data yet
+    is_read = False  # whether a read is in progress
 
     def start(self, limits: CLimits, stream: ArrowArrayStream) -> int:
-        """Makes a stream of the library that reads from here, and answers a kind."""
+        """Makes a stream of the library that reads from this source, and returns a kind."""
         raise NotImplementedError
 
     def pieces(self) -> Iterator[bytes]:
@@ -59,10 +59,10 @@ class Source:
         raise NotImplementedError
 
     def mind(self) -> None:
-        """Is called after each call of the library that reads from here."""
+        """Called after each call of the library that reads from this source."""
 
     def close(self) -> None:
-        """Lets go what was opened for the stream; the library reads no more."""
+        """Drops what was opened for the stream; the library does not read any more."""
 
 
 class OfBytes(Source):
@@ -98,7 +98,8 @@ class OfPath(Source):
 
 
 class OfPieces(Source):
-    """What a function gives piece by piece, and b"" at the end. What it raises ends the stream, and is raised to its caller."""
+    """The pieces that a function returns one by one, and b"" at the end. An exception of the function ends the stream, and is raised to
+    the caller of the stream."""
 
     def __init__(self, next_piece: Callable[[], bytes]) -> None:
         self._next_piece, self._left = next_piece, memoryview(b"")
@@ -114,7 +115,8 @@ class OfPieces(Source):
             yield piece
 
     def fill(self, state: Optional[int], room: int, size: Any) -> int:
-        """Puts bytes into a room of this size: how many, 0 at the end, or the negative of a number of errno.h. Nothing is raised."""
+        """Writes bytes to a buffer of this size, and returns their number, 0 at the end, or the negative of a number of errno.h. It
+        raises nothing."""
         try:
             self._compare(self._asked - 1)
             if self.raised is None:
@@ -124,14 +126,14 @@ class OfPieces(Source):
         return -errno.EIO
 
     def _put(self, room: int, size: int) -> int:
-        """The same, which raises what the source does."""
+        """The same, but raises the exceptions of the source."""
         self.is_read = True
         try:
             piece = self._left or memoryview(self._next_piece())
         except NoDataYet:
             self.is_waiting = True
         except StopIteration as why:
-            # which would end the loop of the caller as though the stream had ended
+            # it would end the loop of the caller as if the stream had ended
             raise RuntimeError("what the stream is read from raised StopIteration") from why
         finally:
             self.is_read = False
@@ -142,7 +144,7 @@ class OfPieces(Source):
         return -errno.ENOMEM if self.is_waiting else len(part)
 
     def _minding(self) -> Iterator[None]:
-        """Is resumed before each call of `fill`, and keeps what a handler of signals raises then, as for Ctrl-C."""
+        """Resumed before each call of `fill`; keeps the exception that a signal handler raises at that moment, as for Ctrl-C."""
         while True:
             try:
                 while True:
@@ -158,7 +160,7 @@ class OfPieces(Source):
         self._compare(self._asked)
 
     def _compare(self, asked: int) -> None:
-        """Ends the stream where one of so many calls of `fill` was lost, by a signal in the moment before it."""
+        """Ends the stream if one of this many calls of `fill` was lost, because of a signal in the moment before it."""
         if self.raised is None and asked != self._filled:
             self.raised = KeyboardInterrupt("a signal came while a stream asked for bytes")
 
@@ -167,7 +169,7 @@ class OfPieces(Source):
 
 
 class OfFed(OfPieces):
-    """Pieces that are fed."""
+    """Pieces that are passed one by one."""
 
     def __init__(self) -> None:
         super().__init__(self._next)
@@ -179,7 +181,7 @@ class OfFed(OfPieces):
             self._fed.append(piece)
 
     def clear(self) -> None:
-        """Lets go the pieces that were not read."""
+        """Drops the pieces that were not read."""
         self._fed.clear()
 
     def _next(self) -> bytes:
@@ -191,23 +193,24 @@ class OfFed(OfPieces):
 
 
 def callback_of(fill: Callable[..., int], minding: Iterator[None]) -> Any:
-    """A function of C that calls this one. A handler of signals may run when Python begins to run the function, and what it raises
-    ctypes would pass over, with anything for an answer: bytes would come twice. So `minding` is resumed first, as the __init__ of the
-    last argument, and meets what is raised. Before CPython 3.11 a handler may run between a function's last instruction inside of a
-    `try` and its return too, which is not met."""
+    """A C function that calls this one. A signal handler may run when Python begins to run the function, and ctypes would ignore the
+    exception that it raises and return an arbitrary result: bytes would be read twice. Therefore `minding` is resumed first, as the
+    __init__ of the last argument, and catches that exception. Before CPython 3.11 a handler may also run between a function's last
+    instruction inside of a `try` and its return, which is not caught."""
     next(minding)
     size = type("Size", (ctypes.c_size_t,), {"__init__": minding.__next__})
-    # CFUNCTYPE would keep the prototype for good
+    # CFUNCTYPE would keep the prototype forever
     prototype = type("Read", (CFuncPtr,), {"_argtypes_": (ctypes.c_void_p, ctypes.c_void_p, size), "_restype_": ctypes.c_ssize_t,
                                            "_flags_": FUNCFLAG_CDECL})
     return prototype(fill)
 
 
-# ---- what a caller names
+# ---- the argument of a caller
 
 
 def source_of(given: Input) -> Source:
-    """The source that a caller names. A TypeError of what is none, an OSError of a file that is not opened."""
+    """The source for a caller's argument. Raises TypeError for an argument that is not a source, OSError for a file that cannot be
+    opened."""
     if isinstance(given, (str, os.PathLike)):
         return OfPath(given)
     try:
@@ -218,7 +221,7 @@ def source_of(given: Input) -> Source:
 
 
 def _pieces_of(given: Any) -> Callable[[], bytes]:
-    """A function that gives the next piece of an open file or of an iterable."""
+    """A function that returns the next piece of an open file or of an iterable."""
     if isinstance(given, io.TextIOBase):
         raise TypeError("the file is open for text: it has to be opened with mode 'rb'")
     read = getattr(given, "read1", None) or getattr(given, "read", None)

@@ -1,4 +1,4 @@
-"""The values in the slots of a column, as Python has them."""
+"""The values in the slots of a column, as Python objects."""
 from __future__ import annotations
 
 import copy
@@ -21,7 +21,7 @@ _MICROSECONDS = {"s": 1_000_000, "m": 1_000, "u": 1}
 
 
 def values_in(of: "Column", start: int, stop: int) -> List[Any]:
-    """The values in the slots from one up to another."""
+    """The values in these slots."""
     valid = of._valid(start, stop)
     if of.field.dictionary:
         return _looked_up(of, start, stop, valid)
@@ -34,7 +34,7 @@ def values_in(of: "Column", start: int, stop: int) -> List[Any]:
 
 
 def _fixed(of: "Column", start: int, stop: int) -> List[Any]:
-    """The values in slots that all take as much; in a slot without a value it is any value."""
+    """The values in slots of fixed width; the value of a null slot is arbitrary."""
     if of.format == "b":
         return [*of._bits(1, start, stop)]
     if of.format == "+s":
@@ -71,7 +71,7 @@ def _entries(of: "Column", start: int, stop: int) -> List[Optional[Tuple[Any, An
 
 
 def _cut(of: "Column", start: int, stop: int, valid: Optional[List[bool]]) -> List[Any]:
-    """Texts, byte strings, lists or maps: what lies between one offset and the next. Nothing is made of a slot without a value."""
+    """Texts, byte strings, lists or maps: the items between one offset and the next. Nothing is read for a null slot."""
     ends = of._offsets(start, stop)
     first, last = ends[0], ends[-1]
     inside: Any
@@ -86,19 +86,19 @@ def _cut(of: "Column", start: int, stop: int, valid: Optional[List[bool]]) -> Li
 
 
 def _looked_up(of: "Column", start: int, stop: int, valid: Optional[List[bool]]) -> List[Any]:
-    """The values that indices refer to. Of a dictionary that is far longer than what is used of it no more than that is made."""
+    """The values that indices refer to. If the dictionary is far longer than the part of it that is used, only that part is converted."""
     indices = of._numbers(start, stop)
     dictionary, used = of.dictionary, {it for k, it in enumerate(indices) if valid is None or valid[k]}
     assert dictionary is not None
     values: Any = values_in(dictionary, 0, len(dictionary)) if len(used) * 8 >= len(dictionary) else {
         it: values_in(dictionary, it, it + 1)[0] for it in used}
-    # each row has a list or a dict of its own
+    # each row gets its own list or dict
     one = copy.deepcopy if dictionary.format.startswith("+") else lambda value: value
     return [one(values[it]) if valid is None or valid[k] else None for k, it in enumerate(indices)]
 
 
 def _decimal(held: bytes, scale: int) -> decimal.Decimal:
-    """A decimal by the bytes of its whole number, exactly, whatever the context is."""
+    """A decimal from the bytes of its unscaled integer, exactly, whatever the context is."""
     return decimal.Decimal(f"{int.from_bytes(held, 'little', signed=True)}e{-scale}")
 
 
@@ -106,7 +106,7 @@ def _decimal(held: bytes, scale: int) -> decimal.Decimal:
 
 
 def _converter(format: str) -> Callable[[int], Any]:
-    """What makes Python's value of a number of units, or gives the number itself where there is none that is exact."""
+    """A function that converts a number of units to a Python object, or returns the number itself if there is none that is exact."""
     if format.startswith("td"):
         return _date if format == "tdD" else _date_of_milliseconds
     make = {"tt": _time, "tD": _duration, "ts": _timestamp(zone_of(format))}[format[:2]]
@@ -155,7 +155,7 @@ def _timestamp(name: Optional[str]) -> Callable[[int], datetime.datetime]:
 
 @functools.lru_cache(maxsize=256)
 def _zone(name: str) -> datetime.tzinfo:
-    """The zone of this name or offset; UTC where it is not known."""
+    """The zone with this name or offset; UTC if it is not known."""
     offset = re.fullmatch(r"([+-])(\d\d):(\d\d)", name)
     try:
         if offset:

@@ -32,7 +32,7 @@ def names():
 
 
 def once():
-    """A stream is handed on once, with what was not read of it; whatever schema is requested."""
+    """A stream is handed on once, with what was not yet read of it, whatever schema is requested."""
     stream = arrowflow.open(GROWING)
     next(stream)
     requested = stream.__arrow_c_schema__()
@@ -52,14 +52,14 @@ def once():
 
 
 def dropped():
-    """What no consumer takes is let go with its capsule, and what one took half, with the consumer's release."""
+    """What no consumer takes is released with its capsule; what a consumer took in part, when the consumer releases it."""
     data = GROWING.read_bytes()
     before, files = lent(), len(os.listdir("/proc/self/fd"))
     for source in (data, GROWING, cut(data, 13), iter(cut(data, 13))):
         capsule = arrowflow.open(source).__arrow_c_stream__()
         del capsule
         yield "a capsule that is dropped", (lent(), len(os.listdir("/proc/self/fd"))), (before, files)
-        # of pieces that were all read there is nothing left
+        # pieces that were all read have nothing left
         capsules = [] if hasattr(source, "__next__") else [arrowflow.open(source).__arrow_c_stream__()]
         elsewhere(capsules.clear)
         yield "a capsule that is dropped on another thread", (lent(), len(os.listdir("/proc/self/fd"))), (before, files)
@@ -75,13 +75,13 @@ def dropped():
 
 
 def arrays_later():
-    """Arrays of a stream are used and released after it, on another thread and in any order."""
+    """Arrays of a stream are used and released after the stream, on another thread and in any order."""
     for source in (EVERY_TYPE, cut(EVERY_TYPE.read_bytes(), 100)):
-        wanted = [[Buffers(it).value(k) for it in batch.columns for k in range(len(it))] for batch in arrowflow.open(source)]
+        expected = [[Buffers(it).value(k) for it in batch.columns for k in range(len(it))] for batch in arrowflow.open(source)]
         _, batches, status, _ = consumed(arrowflow.open(source).__arrow_c_stream__())
         churned()
         found = [[Buffers(it).value(k) for it in batch.columns for k in range(len(it))] for batch in batches]
-        yield "arrays after their stream", (repr(found), status), (repr(wanted), 0)
+        yield "arrays after their stream", (repr(found), status), (repr(expected), 0)
         third = batches.pop(2)
         elsewhere(batches.clear)
         churned()
@@ -92,28 +92,28 @@ def arrays_later():
 def moved_children():
     """A child that was moved out of an array or a schema lives on when its parent is released."""
     before, batch = lent(), next(arrowflow.open(EVERY_TYPE))
-    wanted = repr(batch.column(8).to_pylist())
+    expected = repr(batch.column(8).to_pylist())
     schema, array = batch.__arrow_c_array__()
     field = batch.schema.fields[8]
-    out, told = moved(array, NAMES[1], _library.ArrowArray), moved(schema, NAMES[0], _library.ArrowSchema)
+    out, struct = moved(array, NAMES[1], _library.ArrowArray), moved(schema, NAMES[0], _library.ArrowSchema)
     child, of = _library.ArrowArray(), _library.ArrowSchema()
-    for parts, mine, kind in ((out, child, _library.ArrowArray), (told, of, _library.ArrowSchema)):
+    for parts, mine, kind in ((out, child, _library.ArrowArray), (struct, of, _library.ArrowSchema)):
         inside = parts.children[8].contents
         ctypes.memmove(ctypes.byref(mine), ctypes.byref(inside), ctypes.sizeof(kind))
         inside.release = None
     _library.RELEASE_ARRAY(out.release)(ctypes.byref(out))
-    _library.RELEASE_SCHEMA(told.release)(ctypes.byref(told))
+    _library.RELEASE_SCHEMA(struct.release)(ctypes.byref(struct))
     del batch, schema, array
     churned()
     column = batch_of(child, of)
-    yield "a child alone", (repr(column.to_pylist()), column.field), (wanted, field)
+    yield "a child alone", (repr(column.to_pylist()), column.field), (expected, field)
     del column
     gc.collect()
     yield "nothing is lent", lent(), before
 
 
 def batch_of(array, schema):
-    """The column that structs tell, which are released with it."""
+    """The column that these structs describe, which are released with it."""
     field = arrowflow._schema.field_of(schema)
     _library.RELEASE_SCHEMA(schema.release)(ctypes.byref(schema))
     owned = arrowflow._batches.Owned()
@@ -122,7 +122,8 @@ def batch_of(array, schema):
 
 
 def asked_meanwhile():
-    """A stream that was handed on is closed, and not one that its source asks, while a consumer reads it."""
+    """While a consumer reads a stream that was handed on, the stream is closed: a source that uses it gets a ValueError, and not a
+    RuntimeError."""
     found, data = [], GROWING.read_bytes()
 
     def pieces():
@@ -136,7 +137,7 @@ def asked_meanwhile():
 
 
 def shares():
-    """An array in a capsule has the memory of its batch, and is lent as often as it is wanted."""
+    """An array in a capsule has the memory of its batch, and is lent any number of times."""
     batch = next(arrowflow.open(EVERY_TYPE))
     first, second = batch_in(batch.__arrow_c_array__()), batch_in(batch.__arrow_c_array__())
     places = [[it._array.buffers[1] for it in each.columns[2:10]] for each in (batch, first, second)]
@@ -145,7 +146,7 @@ def shares():
 
 
 def errors():
-    """What a stream in a capsule says of a source that fails, and of a fault."""
+    """What a stream in a capsule reports about a source that fails, and about a fault."""
     data = GROWING.read_bytes()
 
     def failing():
@@ -161,7 +162,7 @@ def errors():
 
 
 def pending(room, compiler):
-    """C code lets go of a capsule while an exception is pending in it: the stream is released, and the exception reported."""
+    """C code frees a capsule while an exception is pending in it: the stream is released, and the exception reported."""
     (room / "pending.c").write_text("void drop(void *type, void (*set)(void *, const char *), void *it, void (*let_go)(void *)) {\n"
                                     "    set(type, \"pending\");\n    let_go(it);\n}\n")
     why = run(compiler, "-shared", "-fPIC", room / "pending.c", "-o", room / "pending.so")[1]

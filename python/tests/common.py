@@ -1,4 +1,4 @@
-"""What the tests of the package share. A test is a function that gives (what, found, wanted), one after another."""
+"""What the tests of the package share. A test is a generator of (what, found, wanted)."""
 import concurrent.futures
 import pathlib
 import subprocess
@@ -7,13 +7,13 @@ import sys
 TOP = pathlib.Path(__file__).resolve().parent.parent.parent
 # What the script `arrowflow` runs once it is built.
 PROGRAM = TOP / "crates/arrowflow_program/out/arrowflow_program"
-STREAMS = sorted([*(TOP / "examples").glob("*.arrows"), *(TOP / "vectors").glob("*.arrows")])
-# Streams whose types are not all in the core, which are given with both sets of types.
+STREAMS = sorted([*(TOP / "examples").glob("*.arrows"), *(TOP / "vectors/streams").glob("*.arrows")])
+# Streams with types outside of the core, which are tested with both sets of types.
 OF_ALL_TYPES = sorted([*(it.with_suffix(".arrows") for it in (TOP / "examples").glob("*.options")),
-                       *(TOP / "vectors/all").glob("*.arrows")])
+                       *(TOP / "vectors/streams/all").glob("*.arrows")])
 GROWING = TOP / "examples/growing_dictionary.arrows"
-# Three batches of nine rows, with a column of each type, and one of none.
-EVERY_TYPE = TOP / "vectors/each_type_untold.arrows"
+# Three batches of nine rows, with a column of each type, and one batch without rows.
+EVERY_TYPE = TOP / "vectors/streams/each_type_untold.arrows"
 METADATA = TOP / "examples/metadata.arrows"
 NESTED = TOP / "examples/nested_values.arrows"
 
@@ -25,7 +25,7 @@ def run(*words, **how):
 
 
 def python(*words, **how):
-    """What this Python writes with these words, and its status."""
+    """What this Python writes for these arguments, and its status."""
     return run(sys.executable, "-B", *words, **how)
 
 
@@ -34,7 +34,7 @@ def left_out(what):
 
 
 def raised_by(call, *given, **how):
-    """What a call raises, or None."""
+    """The exception that a call raises, or None."""
     try:
         call(*given, **how)
     except BaseException as why:
@@ -43,12 +43,12 @@ def raised_by(call, *given, **how):
 
 
 def raises(kind, call, *given, **how):
-    """Whether a call raises just this."""
+    """Whether a call raises exactly this type of exception."""
     return type(raised_by(call, *given, **how)) is kind
 
 
 def elsewhere(call, *given):
-    """What a call answers on another thread."""
+    """The result of a call on another thread."""
     with concurrent.futures.ThreadPoolExecutor(1) as pool:
         return pool.submit(call, *given).result()
 
@@ -59,7 +59,7 @@ def cut(data, size):
 
 
 class IntoAlone:
-    """A file that has `readinto` alone."""
+    """A file that only has `readinto`."""
 
     def __init__(self, data, size):
         self._pieces = iter(cut(data, size))
@@ -71,7 +71,7 @@ class IntoAlone:
 
 
 class ReadAlone:
-    """A file that has `read` alone, which gives less than it is asked for."""
+    """A file that only has `read`, which returns fewer bytes than requested."""
 
     def __init__(self, data, size):
         self._pieces = iter(cut(data, size))

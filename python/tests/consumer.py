@@ -1,4 +1,4 @@
-"""A consumer of the Arrow PyCapsule interface, as the C code of other libraries is one: it takes structs out of capsules and calls
+"""A consumer of the Arrow PyCapsule interface, like the C code of other libraries: it takes structs out of capsules and calls
 what they point to, on threads of its own."""
 import ctypes
 import threading
@@ -12,7 +12,7 @@ _pointer.restype, _pointer.argtypes = ctypes.c_void_p, [ctypes.py_object, ctypes
 
 
 def moved(capsule, name, kind):
-    """The struct of a capsule, moved out of it: the one that stays is released."""
+    """The struct of a capsule, moved out of it: the struct that remains is marked as released."""
     inside, out = kind.from_address(_pointer(capsule, name)), kind()
     if not inside.release:
         raise ValueError(f"the {name.decode()} was moved out before")
@@ -30,7 +30,7 @@ def schema_in(capsule):
 
 
 def batch_in(capsules):
-    """The Batch that two capsules have, which has the array for its own."""
+    """The Batch that two capsules have, which takes over the array."""
     schema, _ = schema_in(capsules[0])
     owned = Owned()
     owned.array = moved(capsules[1], b"arrow_array", c.ArrowArray)
@@ -44,7 +44,7 @@ class Consumer:
         self.stream = moved(capsule, b"arrow_array_stream", c.ArrowArrayStream)
 
     def error(self):
-        """What the stream says of an error, or None."""
+        """The text of the stream's error, or None."""
         at = c.GET_LAST_ERROR(self.stream.get_last_error)(ctypes.byref(self.stream))
         return ctypes.string_at(at).decode() if at else None
 
@@ -70,8 +70,8 @@ class Consumer:
 
 
 def consumed(capsule, most=None):
-    """What a thread of its own reads of a capsule's stream, at most so many batches: the Schema, the batches, the status that ended it
-    and its text. The stream is released there before the batches are used."""
+    """What another thread reads from a capsule's stream, at most this many batches: the Schema, the batches, the status that
+    ended it and its text. The stream is released there before the batches are used."""
     found = []
 
     def work():

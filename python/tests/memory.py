@@ -13,13 +13,13 @@ from shown import Buffers
 
 
 def lent():
-    """How many objects C code refers to, once what nothing else refers to is collected."""
+    """How many objects C code refers to, after a garbage collection."""
     gc.collect()
     return len(_capsules.kept), len(_capsules._structs), len(_capsules._moved)
 
 
 def churned():
-    """Takes and frees memory, so that what was freed is written over."""
+    """Allocates and frees memory, so that freed memory is overwritten."""
     for size in (16, 64, 200, 1000, 5000, 70000):
         for it in [bytearray(b"\xa5" * size) for _ in range(300)]:
             del it
@@ -36,7 +36,7 @@ def views_of(column):
 
 
 def views():
-    """Views, slices and casts stay as they are when everything else is gone, also where that goes on another thread."""
+    """Views, slices and casts do not change when everything else is gone, even if that is freed on another thread."""
     for stream in (GROWING, EVERY_TYPE, NESTED):
         for source in (stream, stream.read_bytes(), cut(stream.read_bytes(), 13)):
             opened = arrowflow.open(source)
@@ -53,23 +53,24 @@ def views():
 
 
 def columns():
-    """Columns, their children and dictionaries outlive batches and streams, and batches of a reader outlive it and the next ones."""
+    """Columns, their children and dictionaries outlive batches and streams; batches of a reader outlive it and the batches after
+    them."""
     for stream in (GROWING, EVERY_TYPE, NESTED):
         with arrowflow.Reader() as reader:
             batches = [batch for piece in cut(stream.read_bytes(), 100) for batch in reader.feed(piece)]
             first = [repr(it.to_pylist()) for it in batches]
             kept = [column for batch in batches for column in batch.columns]
-            wanted = [repr(it.to_pylist()) for it in kept]
+            expected = [repr(it.to_pylist()) for it in kept]
         churned()
         yield f"batches of {stream.name}", [repr(it.to_pylist()) for it in batches], first
         del batches, reader
         churned()
-        yield f"columns of {stream.name}", [repr(it.to_pylist()) for it in kept], wanted
+        yield f"columns of {stream.name}", [repr(it.to_pylist()) for it in kept], expected
         below = [it for column in kept for it in [*column.children, *([column.dictionary] if column.dictionary else [])]]
-        wanted = [repr(Buffers(it).value(0)) for it in below if len(it)]
+        expected = [repr(Buffers(it).value(0)) for it in below if len(it)]
         del kept
         churned()
-        yield f"columns below those of {stream.name}", [repr(Buffers(it).value(0)) for it in below if len(it)], wanted
+        yield f"columns below those of {stream.name}", [repr(Buffers(it).value(0)) for it in below if len(it)], expected
 
 
 def released_once():
@@ -94,18 +95,18 @@ def released_once():
 
 
 def count_releases(array, count):
-    """Notes each release of an array, which is done too."""
+    """Counts each release of an array, and also performs it."""
     original = _library.RELEASE_ARRAY(array.release)
 
     def release(at):
         count.append(at.contents.length)
         original(at)
-    noted.append(_library.RELEASE_ARRAY(release))
-    array.release = _capsules._address(noted[-1])
+    callbacks.append(_library.RELEASE_ARRAY(release))
+    array.release = _capsules._address(callbacks[-1])
 
 
-# The functions that C code calls have to stay.
-noted = []
+# The functions that C code calls have to stay alive.
+callbacks = []
 
 
 def feeding():
@@ -116,8 +117,8 @@ def feeding():
         yield "what feed answers", (type(found), [len(it) for it in found]), (list, [3, 2, 2])
         yield "more after the end", (reader.feed(b"junk"), reader.end()), ([], [])
     reader = arrowflow.Reader()
-    yield "a schema before it is whole", (reader.feed(data[:20]), reader.schema), ([], None)
-    # nothing asks for what this call answers
+    yield "a schema before it is complete", (reader.feed(data[:20]), reader.schema), ([], None)
+    # nothing uses the result of this call
     reader.feed(data[20:-9])
     yield "a schema", reader.schema, arrowflow.open(data).schema
     yield "an end inside a message", raised_by(reader.end).kind, Kind.TRUNCATED
@@ -197,7 +198,8 @@ def threads():
 
 
 def collected():
-    """The library closes a copier on its own thread alone: one that is collected elsewhere, when its own comes by again."""
+    """The library closes a copier only on its own thread: one that is collected elsewhere is closed the next time that its thread
+    makes or uses a copier."""
     closed, close = [], _library.calls["copier_close"]
     _library.calls["copier_close"] = lambda handle: (closed.append(threading.get_ident()), close(handle))
     try:
@@ -215,7 +217,7 @@ def collected():
             given.clear()
             yield f"{name} collected on its own", closed, [threading.get_ident()] * 2
             closed.clear()
-        # a thread that has ended closes nothing, even where another one has its number
+        # a thread that has ended closes nothing, even if another one has its number
         left = elsewhere(arrowflow.Copier)
         del left
         gc.collect()
@@ -237,7 +239,7 @@ def resident():
 
 
 def used(data):
-    """Everything is used once."""
+    """Uses everything once."""
     for source in (data, cut(data, 1000), GROWING):
         with arrowflow.open(source) as stream:
             for batch in stream:
@@ -252,8 +254,8 @@ def used(data):
     arrowflow.open(data).to_pylist()
 
 
-def growth():
-    """Ten thousand streams are opened and closed, and the memory stays as it is."""
+def memory_growth():
+    """Ten thousand streams are opened and closed, and memory use does not grow."""
     data = GROWING.read_bytes()
     for _ in range(300):
         used(data)

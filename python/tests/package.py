@@ -1,4 +1,4 @@
-"""The package as it is installed, and what a stranger reads of it."""
+"""The installed package, and its documentation."""
 import inspect
 import os
 import re
@@ -17,7 +17,7 @@ FOLDER = os.path.dirname(arrowflow.__file__)
 
 
 def members(of):
-    """The functions of a class that are for its users, those that are written in the package."""
+    """The public functions of a class that are defined in the package."""
     for name, it in vars(of).items():
         call = it.fget if isinstance(it, property) else it
         if inspect.isfunction(call) and call.__code__.co_filename.startswith(FOLDER) and (name.startswith("__") or not name.startswith("_")):
@@ -25,7 +25,7 @@ def members(of):
 
 
 def public():
-    """The functions that are for users."""
+    """The public functions."""
     for name in arrowflow.__all__:
         it = getattr(arrowflow, name)
         if inspect.isfunction(it):
@@ -35,7 +35,7 @@ def public():
 
 
 def annotations():
-    """Each function that is for users says what it takes and gives, and is described; and so is each class."""
+    """Each public function has annotations and a docstring, and each class a docstring."""
     bare, silent = [], []
     for name, call, short in public():
         signature = inspect.signature(call)
@@ -65,7 +65,7 @@ def page():
 
 
 def program(room):
-    """How the small program is called wrongly, and as a part of a pipe."""
+    """The command-line program with wrong arguments, and as a part of a pipe."""
     env = {**os.environ, "PYTHONPATH": str(TOP / "python")}
     for words in ([], ["show"], ["show", "a", "b"], ["sanitize", "a"], ["read", "a"], ["--types", "none", "show", GROWING]):
         text, said, status = python("-m", "arrowflow", *words, env=env)
@@ -85,7 +85,7 @@ def program(room):
 
 
 def library():
-    """Which library is loaded, and what is said where it is another one or none."""
+    """Which library is loaded, and the error if it has another version or is missing."""
     def loads(**names):
         env = {it: value for it, value in os.environ.items() if it != "ARROWFLOW_LIBRARY"}
         return python("-c", "from arrowflow import _library; print(_library.PLACE)", env={**env,
@@ -99,7 +99,7 @@ def library():
 
 
 def other_version(room, compiler):
-    """A library of another version is refused."""
+    """A library of another version is rejected."""
     names = "".join(f"void arrowflow_{it}(void) {{}}\n" for it in _library._CALLS if it != "version")
     (room / "other.c").write_text(f'const char *arrowflow_version(void) {{ return "9.9.9"; }}\n{names}')
     run(compiler, "-shared", "-fPIC", room / "other.c", "-o", room / "other.so")
@@ -109,7 +109,7 @@ def other_version(room, compiler):
 
 
 def wheel(room):
-    """The wheel is the same each time, and works where nothing else of the repository is."""
+    """The wheel is the same each time, and works without anything else of the repository."""
     made = []
     for folder in (room / "first", room / "second"):
         _, why, status = run(TOP / "c/build", "--wheel", folder)
@@ -142,7 +142,7 @@ def wheel(room):
 
 
 def settings():
-    """What pyproject.toml says of the version and of Python."""
+    """The version and the Python version in pyproject.toml."""
     text = (TOP / "python/pyproject.toml").read_text(encoding="utf-8")
     yield "Python", re.search(r'^requires-python = "(.*)"$', text, re.M)[1], ">= 3.9"
     yield "the version", ('version = { attr = "arrowflow._version.VERSION" }' in text, sys.version_info >= (3, 9)), (True, True)
@@ -150,7 +150,7 @@ def settings():
 
 
 def reading_inside():
-    """No public call of a column takes places in memory, which nothing would check."""
+    """No public method of a column takes memory addresses or offsets, which nothing would check."""
     names = [it for it in vars(arrowflow.Column) if not it.startswith("_")]
     yield "the public names of a column", sorted(names), ["buffers", "children", "dictionary", "format", "name", "null_count",
         "to_pylist", "type"]

@@ -1,5 +1,5 @@
-"""The values of a column out of its buffers, read here without the package's own reading, and the text that `arrowflow show` prints of
-them."""
+"""The values of a column from its buffers, read here without the package's own code for that, and the text that `arrowflow show`
+prints for them."""
 import datetime
 import decimal
 import re
@@ -8,14 +8,14 @@ import struct
 NUMBERS = {"c": "b", "C": "B", "s": "h", "S": "H", "i": "i", "I": "I", "l": "q", "L": "Q", "e": "e", "f": "f", "g": "d", "tdD": "i",
            "tdm": "q", "tts": "i", "ttm": "i", "ttu": "q", "ttn": "q", "tiM": "i"}
 WIDTHS = {"b": 1, "h": 2, "i": 4, "q": 8, "e": 2, "f": 4, "d": 8}
-# The numbers of an interval, each with its bytes and its letters in `show`.
+# The numbers of an interval, each with its size in bytes and its letters in `show`.
 INTERVALS = {"tiM": ((4, "M"),), "tiD": ((4, "d"), (4, "ms")), "tin": ((4, "M"), (4, "d"), (8, "ns"))}
 OFFSETS = {"z": 4, "u": 4, "+l": 4, "+m": 4, "Z": 8, "U": 8, "+L": 8}
 EPOCH = datetime.datetime(1970, 1, 1)
 A_SECOND = {"s": 1, "m": 1000, "u": 1000_000, "n": 1000_000_000}
-# A floating-point number as a field, as part of a list or as one of a struct.
+# A floating-point number as a field, as part of a list or of a struct.
 FLOAT = re.compile(rb"-?(\d+\.\d+(e-?\d+)?|\d+e-?\d+|inf)|NaN")
-# A record whose last field ends with the line: in quotes a line may go on.
+# A record whose last field ends with the line; inside quotes a line may go on.
 FIRST_RECORD = re.compile(rb'(?:[^"\n]|"(?:[^"]|"")*")*\n?')
 
 
@@ -79,7 +79,7 @@ class Buffers:
 
 
 def units_of(value, format):
-    """The units that a value of Python's stands for; of another value, itself."""
+    """The number of units that a value of Python's is; any other value is returned unchanged."""
     if isinstance(value, datetime.datetime):
         naive = value.astimezone(datetime.timezone.utc).replace(tzinfo=None) if value.tzinfo else value
         value = naive - EPOCH
@@ -95,7 +95,7 @@ def units_of(value, format):
 
 
 def plain(value, field):
-    """A value that the package gives as Buffers gives it: units, and tuples of structs."""
+    """A value from the package in the form of Buffers: units, and tuples for structs."""
     if field.dictionary:
         return plain(value, field.dictionary)
     if isinstance(value, dict):
@@ -111,7 +111,7 @@ def plain(value, field):
 
 
 def has_one_name_twice(field):
-    """Whether a struct in a field has one name twice, so that it is no dict."""
+    """Whether a struct in a field has one name twice, so that it cannot be a dict."""
     below = [*field.children, *([field.dictionary] if field.dictionary else [])]
     names = [it.name for it in field.children]
     return len({*names}) < len(names) or any(map(has_one_name_twice, below))
@@ -126,7 +126,7 @@ def single(number):
         return repr(number)
     bits = struct.pack("<f", number)
     tried = (f"{number:.{more}e}" for more in range(17))
-    # one that is rounded up may be past the largest number of 32 bits
+    # one that is rounded up may be greater than the largest number of 32 bits
     return repr(next(float(it) for it in tried if abs(float(it)) < 3.4028235677973366e38 and struct.pack("<f", float(it)) == bits))
 
 
@@ -162,7 +162,7 @@ def quoted(text):
 
 
 def records(names, batches):
-    """The records of batches, each a list of columns' Buffers with a number of rows."""
+    """The records of batches, each given as a list of columns' Buffers and a number of rows."""
     lines = [",".join(map(quoted, ["batch", *names]))]
     for number, (columns, rows) in enumerate(batches):
         for i in range(rows):
@@ -175,13 +175,13 @@ def has_floats(field):
     return field.format in "efg" or any(map(has_floats, [*field.children, *([field.dictionary] if field.dictionary else [])]))
 
 
-def numbers_alike(found, wanted, schema):
-    """Two texts of records, with each floating-point number laid out in one way where the schema has such, and without the names where
-    one of those wanted has a zero byte, at which a name ends in the Arrow C data interface."""
-    start = [FIRST_RECORD.match(it).end() for it in (found, wanted)]
-    if b"\0" not in wanted[:start[1]]:
+def numbers_alike(found, expected, schema):
+    """Two texts of records. If the schema has floating-point numbers, each is written in one way. If one of the expected names
+    has a zero byte, which ends a name in the Arrow C data interface, the names are left out."""
+    start = [FIRST_RECORD.match(it).end() for it in (found, expected)]
+    if b"\0" not in expected[:start[1]]:
         start = [0, 0]
-    texts = [text[at:] for text, at in zip((found, wanted), start)]
+    texts = [text[at:] for text, at in zip((found, expected), start)]
     if any(map(has_floats, schema)):
         texts = [FLOAT.sub(lambda it: repr(float(it[0])).encode(), it) for it in texts]
     return texts

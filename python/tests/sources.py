@@ -1,4 +1,4 @@
-"""What streams are read from, and what they do where it fails."""
+"""What streams are read from, and what they do if it fails."""
 import bz2
 import collections
 import io
@@ -14,12 +14,12 @@ import threading
 import arrowflow
 from arrowflow import Kind
 
-import frames
+from tools import frames
 from common import GROWING, IntoAlone, ReadAlone, cut, raised_by, raises
 
 
 def each_source():
-    """Everything that has the bytes of a stream gives its batches."""
+    """Everything that has the bytes of a stream yields its batches."""
     data = GROWING.read_bytes()
     with tempfile.TemporaryDirectory() as folder:
         packed = pathlib.Path(folder) / "packed"
@@ -38,7 +38,7 @@ def each_source():
 
 
 def comes_early():
-    """A batch is there as soon as its bytes are, out of a pipe and of a socket that stay open."""
+    """A batch is returned as soon as its bytes are there, from a pipe and a socket that stay open."""
     data = GROWING.read_bytes()
     end, start = os.pipe()
     with open(end, "rb") as file, arrowflow.open(file) as stream:
@@ -53,7 +53,7 @@ def comes_early():
 
 
 class Failing:
-    """A file that gives so many bytes, and raises then."""
+    """A file that returns this many bytes, and then raises."""
 
     def __init__(self, data, why):
         self._pieces, self._why = iter([data]), why
@@ -65,7 +65,7 @@ class Failing:
 
 
 def that_raise():
-    """What a source raises is raised to the caller as it is, by each call from then on; what came before was handed out."""
+    """An exception of a source is raised to the caller unchanged, by each call from then on; what came before was returned."""
     data = GROWING.read_bytes()
     for why in (OSError(5, "the disk"), KeyError("key"), KeyboardInterrupt(), MemoryError(), GeneratorExit(), RuntimeError("odd")):
         stream, batches = arrowflow.open(Failing(data[:975], why)), []
@@ -92,7 +92,7 @@ def read_on(stream, batches):
 
 
 def asks_itself():
-    """A source that asks the stream that reads it gets a RuntimeError, and does not wait for itself."""
+    """A source that uses the stream that reads it gets a RuntimeError, and does not wait for itself."""
     found = []
 
     class Asks:
@@ -124,18 +124,19 @@ def on_threads():
 
 
 class Alarm(Exception):
-    """What the handler of a signal raises."""
+    """What the signal handler raises."""
 
 
 def interrupted():
-    """A signal whose handler raises, as that of Ctrl-C, comes at any moment: no batch comes twice, and what is raised is not lost."""
+    """A signal whose handler raises, like that of Ctrl-C, comes at any moment: no batch comes twice, and the exception is not
+    lost."""
     def handle(number, frame):
         raise Alarm
     pieces = [frames.schema(frames.field("x", frames.integer(32, True))),
         *(frames.batch(frames.numbers([it])) for it in range(300))]
     before, hook, twice, lost, times = signal.signal(signal.SIGALRM, handle), sys.unraisablehook, 0, 0, random.Random(5)
     odd, seen = [], collections.Counter()
-    # Python passes over what is raised in a finalizer
+    # Python ignores what is raised in a finalizer
     sys.unraisablehook = lambda it: None
     try:
         for _ in range(400):
@@ -152,15 +153,15 @@ def interrupted():
         signal.signal(signal.SIGALRM, before)
         sys.unraisablehook = hook
     yield "streams with a batch that came twice", twice, 0
-    yield "streams that ended early and told nothing", lost, 0
+    yield "streams that ended early and reported nothing", lost, 0
     # before CPython 3.11 a handler may run between the last instruction inside of a `try` and the return
-    yield "streams that told something else", odd if sys.version_info >= (3, 11) else odd[4:], []
-    # where a signal comes in the moment between two calls of Python, KeyboardInterrupt is raised
-    yield "what was told", (seen[Alarm] > 20, seen[KeyboardInterrupt] < seen[Alarm] // 2), (True, True)
+    yield "streams that reported something else", odd if sys.version_info >= (3, 11) else odd[4:], []
+    # if a signal comes in the moment between two calls of Python, KeyboardInterrupt is raised
+    yield "what was reported", (seen[Alarm] > 20, seen[KeyboardInterrupt] < seen[Alarm] // 2), (True, True)
 
 
 def alarmed(seconds, call, *given):
-    """Makes a call, with an alarm after so many seconds; none comes once it is done."""
+    """Makes a call, with an alarm after this many seconds; none comes once the call is done."""
     try:
         signal.setitimer(signal.ITIMER_REAL, seconds)
         call(*given)

@@ -1,10 +1,10 @@
-"""Values of dates, times, intervals, decimals, fixed-size lists and maps, and lists and dicts that are nobody else's."""
+"""Values of dates, times, intervals, decimals, fixed-size lists and maps, and lists and dicts that are not shared."""
 import datetime
 import decimal
 
 import arrowflow
 
-import frames
+from tools import frames
 from common import raised_by
 
 MICROSECOND, DAY = datetime.timedelta(microseconds=1), datetime.timedelta(days=1)
@@ -12,7 +12,7 @@ SECOND, MILLI, MICRO, NANO = range(4)
 
 
 def one_column(kind, numbers, form):
-    """The values of a column of these units."""
+    """The values of a column with these units."""
     data = frames.schema(frames.field("x", kind)) + frames.batch(frames.numbers(numbers, form)) + frames.END_MARKER
     return next(arrowflow.open(data)).column("x").to_pylist()
 
@@ -57,14 +57,14 @@ def timestamps():
 def zones():
     summer, utc = 1_750_000_000, datetime.timezone.utc
     instant = datetime.datetime.fromtimestamp(summer, utc)
-    for name, offset, wanted in (("UTC", 0, "UTC"), ("+02:30", 9000, "UTC+02:30"), ("-11:00", -39600, "UTC-11:00"),
+    for name, offset, expected in (("UTC", 0, "UTC"), ("+02:30", 9000, "UTC+02:30"), ("-11:00", -39600, "UTC-11:00"),
             ("Nowhere/None", 0, "UTC"),
                                  ("../../etc/passwd", 0, "UTC"), ("/etc/localtime", 0, "UTC"), ("+99:99", 0, "UTC"), ("", None,
                                      None)):
         found = one_column(frames.timestamp(SECOND, name), [summer], "q")[0]
         shown = (found.utcoffset() and found.utcoffset().total_seconds() or 0, found.tzname()) if offset is not None else (None,
             found.tzname())
-        yield f"a zone of {name!r}", shown, (offset, wanted)
+        yield f"a zone of {name!r}", shown, (offset, expected)
         yield f"the instant in {name!r}", found if found.tzinfo else found.replace(tzinfo=utc), instant
     berlin = one_column(frames.timestamp(NANO, "Europe/Berlin"), [summer * 10**9, summer * 10**9 + 1, 2**63 - 1, None], "q")
     try:
@@ -93,38 +93,38 @@ def intervals():
     """Intervals of each unit, in bytes that are written out: three slots, the second of which is null; also as a dictionary's values."""
     months, days, nanos = "0e000000 00000000 feffffff", "02000000f4010000 0000000000000000 ffffffff0cfeffff", (
         "01000000020000000300000000000000 00000000000000000000000000000000 ffffff7f000000800000000000000080")
-    for unit, (name, written, wanted) in enumerate((
+    for unit, (name, written, expected) in enumerate((
             ("month_interval", months, [14, None, -2]), ("day_time_interval", days, [(2, 500), None, (-1, -500)]),
             ("month_day_nano_interval", nanos, [(1, 2, 3), None, (2**31 - 1, -2**31, -2**63)]))):
         kind, its = frames.interval(unit), frames.Column([(3, 1)], [b"\5", bytes.fromhex(written)])
         plain = frames.schema(frames.field("x", kind)) + frames.batch(its) + frames.END_MARKER
         column = next(arrowflow.open(plain, arrowflow.ALL_TYPES)).column("x")
-        yield name, (column.type, column.to_pylist(), [column[it] for it in range(3)]), (name, wanted, wanted)
+        yield name, (column.type, column.to_pylist(), [column[it] for it in range(3)]), (name, expected, expected)
         yield f"the buffers of {name}", [bytes(it) for it in column.buffers()], [b"\5", bytes.fromhex(written)]
         yield f"{name} with the core", raised_by(arrowflow.sanitize, plain).kind, arrowflow.Kind.UNSUPPORTED
         encoded = b"".join([frames.schema(frames.field("x", kind, encoding=frames.dictionary(1))), frames.dictionary_batch(1, its),
                             frames.batch(frames.numbers([2, 1, None, 0, 2])), frames.END_MARKER])
         found = next(arrowflow.open(encoded, arrowflow.ALL_TYPES)).column("x").to_pylist()
-        yield f"{name} by a dictionary", found, [wanted[2], None, None, wanted[0], wanted[2]]
+        yield f"{name} by a dictionary", found, [expected[2], None, None, expected[0], expected[2]]
 
 
 def decimals():
     """Decimals of each width, in bytes that are written out: three slots, the second of which is null; also as a dictionary's values."""
-    for format, (name, width, precision, scale), written, wanted in (
+    for format, (name, width, precision, scale), written, expected in (
             ("d:9,2,32", ("decimal32(9, 2)", 32, 9, 2), "05000000 00000000 ceffffff", ("0.05", None, "-0.50")),
             ("d:18,-3,64", ("decimal64(18, -3)", 64, 18, -3), "0c00000000000000" + 8 * "00" + "ff" * 8, ("12e3", None, "-1e3")),
             ("d:38,0", ("decimal128(38, 0)", 128, 38, 0), "ff" * 15 + "7f" + 16 * "00" + 15 * "00" + "80", (
                 "170141183460469231731687303715884105727", None, "-170141183460469231731687303715884105728")),
             ("d:76,76,256", ("decimal256(76, 76)", 256, 76, 76), "01" + 31 * "00" + 32 * "00" + 31 * "00" + "80", ("1e-76", None,
                 "-5.7896044618658097711785492504343953926634992332820282019728792003956564819968"))):
-        values = [None if it is None else decimal.Decimal(it) for it in wanted]
+        values = [None if it is None else decimal.Decimal(it) for it in expected]
         kind, its = frames.decimal(width, precision, scale), frames.Column([(3, 1)], [b"\5", bytes.fromhex(written)])
         plain = frames.schema(frames.field("x", kind)) + frames.batch(its) + frames.END_MARKER
         column = next(arrowflow.open(plain, arrowflow.ALL_TYPES)).column("x")
         with decimal.localcontext() as context:
             context.prec = 2
             found = column.to_pylist(), [column[it] for it in range(3)]
-        # equal numbers may have other zeros at their end
+        # equal numbers may differ in their trailing zeros
         yield name, (column.type, column.format, *map(repr, found)), (name, format, repr(values), repr(values))
         yield f"the buffers of {name}", [bytes(it) for it in column.buffers()], [b"\5", bytes.fromhex(written)]
         yield f"{name} with the core", raised_by(arrowflow.sanitize, plain).kind, arrowflow.Kind.UNSUPPORTED
@@ -138,19 +138,19 @@ def decimals():
 
 
 def fixed_size_lists():
-    """Fixed-size lists: of two numbers, one of them null, of no items, and of each other; a null one hides what is under it."""
+    """Fixed-size lists: of two numbers, one of them null, of no items, and of each other; a null list hides what is under it."""
     item, number = frames.field("item", frames.INT32), (b"\5", bytes.fromhex("01000000 00000000 07000000 08000000 fdffffff 00000000"))
     inner = frames.field("item", frames.fixed_size_list(2), [item])
     hidden = frames.Column([(3, 1), (6, 1)], [number[0], b"\x3d", number[1]])
     empty = frames.fixed_lists([[], None], 0, frames.numbers)
     deep = [[[1, None], None], None, [None, [2, 3]]]
     laid = frames.fixed_lists(deep, 2, lambda its: frames.fixed_lists(its, 2, frames.numbers))
-    for size, below, its, wanted in ((2, item, hidden, [[1, None], None, [-3, 0]]), (0, item, empty, [[], None]), (2, inner, laid, deep)):
+    for size, below, its, expected in ((2, item, hidden, [[1, None], None, [-3, 0]]), (0, item, empty, [[], None]), (2, inner, laid, deep)):
         name, format = f"fixed_size_list[{size}]", f"+w:{size}"
         data = frames.schema(frames.field("x", frames.fixed_size_list(size), [below])) + frames.batch(its) + frames.END_MARKER
         column = next(arrowflow.open(data, arrowflow.ALL_TYPES)).column("x")
-        yield name, (column.type, column.format, column.to_pylist(), [*column]), (name, format, wanted, wanted)
-        yield f"slots of {name}", [column[at] for at in range(-1, len(wanted) - 1)], [wanted[-1], *wanted[:-1]]
+        yield name, (column.type, column.format, column.to_pylist(), [*column]), (name, format, expected, expected)
+        yield f"slots of {name}", [column[at] for at in range(-1, len(expected) - 1)], [expected[-1], *expected[:-1]]
         child, = column.children
         yield f"the buffers of {name}", [bytes(it.buffers()[0] or b"") for it in (column, child)], its.buffers[:2]
         yield f"the child of {name}", (len(column.buffers()), len(child), child.null_count), (1, *its.nodes[1])
@@ -160,13 +160,13 @@ def fixed_size_lists():
         column = next(arrowflow.open(encoded, arrowflow.ALL_TYPES)).column("x")
         found = column.to_pylist()
         found[2].append(5)
-        yield f"{name} by a dictionary", (column.type, found), (f"dictionary<int32, {name}>", [wanted[1], None, [*wanted[0], 5], wanted[0]])
+        yield f"{name} by a dictionary", (column.type, found), (f"dictionary<int32, {name}>", [expected[1], None, [*expected[0], 5], expected[0]])
     data = frames.schema(frames.field("x", frames.fixed_size_list(-1), [item]))
     yield "fixed-size lists of -1 items", raised_by(arrowflow.sanitize, data, arrowflow.ALL_TYPES).kind, arrowflow.Kind.SCHEMA
 
 
 def maps():
-    """Maps, of which one is null and one is empty; with sorted keys the type and the flags say so."""
+    """Maps, of which one is null and one is empty; if the keys are sorted, the type and the flags say so."""
     pairs = [[("a", 1), ("b", None)], None, [], [("c", -3)]]
     laid = frames.lists(pairs, lambda its: frames.structs(its, frames.strings([key for key, _ in its]), frames.numbers([it for _, it in its])))
     entries = frames.field("entries", frames.STRUCT, [frames.field("key", frames.UTF8), frames.field("value", frames.integer(32, True))])
@@ -180,7 +180,7 @@ def maps():
 
 
 def nobody_else():
-    """Rows with one value of a dictionary have lists and dicts of their own."""
+    """Rows with the same value of a dictionary have lists and dicts of their own."""
     item = frames.field("item", frames.integer(64, True))
     values = frames.lists([[1, 2], None], lambda them: frames.numbers(them, "q"))
     data = b"".join([frames.schema(frames.field("x", frames.LIST, [item], encoding=frames.dictionary(1))),
@@ -193,7 +193,7 @@ def nobody_else():
 
 
 def of_long_dictionaries():
-    """Of a dictionary that is far longer than what is used of it, the same values are told."""
+    """If a dictionary is far longer than what is used of it, the values are the same."""
     words = [f"word {it}" for it in range(1000)]
     data = b"".join([frames.schema(frames.field("x", frames.UTF8, encoding=frames.dictionary(1))), frames.dictionary_batch(1,
         frames.strings(words)),
@@ -205,7 +205,7 @@ def of_long_dictionaries():
 
 
 def counts():
-    """Nulls are counted in each byte of a bitmap, whatever lies past the last slot."""
+    """Nulls are counted in each byte of a bitmap, whatever comes after the last slot."""
     for size in (1, 7, 8, 9, 64, 1000):
         values = [it % 3 or None for it in range(size)]
         data = frames.schema(frames.field("x", frames.integer(16, True))) + frames.batch(frames.numbers(values,

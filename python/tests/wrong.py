@@ -11,19 +11,18 @@ import arrowflow
 from arrowflow import ArrowflowError, Kind, Limits, Types
 from arrowflow import _errors, _library
 
-import at_fault
-import frames
+from tools import column_faults, frames
 from common import GROWING, PROGRAM, TOP, raised_by, raises, run
 
 HEADER = (TOP / "c/arrowflow.h").read_text(encoding="utf-8")
 
 
 def kinds():
-    """Each kind of the header has its number and its name here, and no other one has."""
+    """Each kind of the header has its number and its name here, and there are no others."""
     found = {name: int(number) for name, number in re.findall(r"^    ARROWFLOW_KIND_(\w+) = (\d+)", HEADER, re.M)}
     yield "kinds of the header", {it.name: int(it) for it in Kind}, found
     yield "names of kinds", [str(it) for it in Kind], [_library.calls["kind_name"](it).decode() for it in Kind]
-    # a fault of each kind keeps it, and says a sentence
+    # an error of each kind keeps the kind, and has a sentence
     errors = [ArrowflowError(it, 7) for it in Kind]
     yield "kinds of errors", [it.kind for it in errors], [*Kind]
     yield "errors that are pickled", [(str(it), it.kind, it.offset, it.batch) for it in pickle.loads(pickle.dumps(errors))], [
@@ -31,7 +30,7 @@ def kinds():
     yield "places in bytes", [it.kind for it in errors if it.offset == 7], [it for it in Kind if 1 <= it <= 18]
     yield "numbers of batches", [it.kind for it in errors if it.batch == 7], [41, 42, 43]
     yield "a place is one thing", [it.kind for it in errors if it.offset is not None and it.batch is not None], []
-    # the documented beginning of what a stream says of a fault is read back as it
+    # the documented beginning of a stream's text about a fault is read back as that fault
     again = [_errors.error_of_stream(errno.EINVAL, str(ArrowflowError(it, 2**63 + 5))) for it in Kind if 1 <= it <= 18]
     yield "faults out of texts", [(it.kind, it.offset) for it in again], [(it, 2**63 + 5) for it in Kind if 1 <= it <= 18]
     yield "an error of a read", type(_errors.error_of_stream(errno.EINVAL, "read failed: Invalid argument")), OSError
@@ -39,7 +38,7 @@ def kinds():
 
 
 def numbers():
-    """The numbers of the header that are written down here too."""
+    """The numbers of the header that are written here too."""
     standard = _library.calls["standard_limits"]()
     yield "standard limits", [getattr(standard, name) for name, _ in standard._fields_], [
         getattr(arrowflow.STANDARD, name) for name, _ in standard._fields_]
@@ -63,7 +62,7 @@ def numbers():
 
 
 def arguments():
-    """What is no stream, no limits, no column."""
+    """Arguments that are not streams, not limits, not columns."""
     on_bytes = [arrowflow.check, arrowflow.sanitize, arrowflow.show, arrowflow.messages, arrowflow.schema_text]
     on_bytes += [arrowflow.Reader().feed, arrowflow.Copier().feed]
     for call in on_bytes:
@@ -97,19 +96,19 @@ def arguments():
 
 
 def what_has_bytes():
-    """Everything with a buffer is bytes, and each of them is copied first."""
+    """Everything with a buffer is accepted as bytes, and is copied first."""
     data = GROWING.read_bytes()
-    wanted = arrowflow.check(data)
+    expected = arrowflow.check(data)
     for it in (bytearray(data), memoryview(data), memoryview(bytearray(data))[:], (ctypes.c_char * len(data))(*data)):
-        yield f"check of {type(it).__name__}", arrowflow.check(it), wanted
+        yield f"check of {type(it).__name__}", arrowflow.check(it), expected
     changed = bytearray(data)
     with arrowflow.open(changed) as stream:
         changed[:] = bytes(len(changed))
-        yield "bytes that change", sum(map(len, stream)), wanted.rows
+        yield "bytes that change", sum(map(len, stream)), expected.rows
 
 
 def faults():
-    """What each call says of streams of nothing and of junk."""
+    """What each call reports about an empty stream and about junk."""
     calls = [arrowflow.sanitize, arrowflow.show, arrowflow.messages, arrowflow.schema_text]
     calls += [lambda data: [*arrowflow.open(data)], lambda data: [*arrowflow.sanitize_pieces(data)],
         lambda data: arrowflow.open(data).schema]
@@ -127,9 +126,9 @@ def faults():
 
 
 def columns_at_fault():
-    """The column at fault, of bytes; of pieces there is none."""
+    """The column at fault, for a stream in bytes; for one in pieces there is none."""
     calls = [arrowflow.sanitize, arrowflow.show, lambda data: [*arrowflow.open(data)]]
-    for number, (data, kind, column, name) in enumerate(at_fault.streams()):
+    for number, (data, kind, column, name) in enumerate(column_faults.streams()):
         for call in calls if number % 7 == 0 or number > 175 else calls[number % 3:][:1]:
             why = raised_by(call, data)
             again = pickle.loads(pickle.dumps(why))
@@ -139,8 +138,9 @@ def columns_at_fault():
         yield f"no column {number} of pieces", (str(why.kind), why.column, why.field), (kind, None, None)
 
 
-def refused(room):
-    """The error of a batch that is read, and that is past a limit when it is written again: the batch, and no byte."""
+def not_written_again(room):
+    """The error of a batch that can be read, but is past a limit when it is written again: the number of the batch, and no
+    byte."""
     limits, line = Limits(max_body=40), run(PROGRAM, "copy", "--limit-body", "40", GROWING, room / "refused")[1]
     for name, call in (("sanitize", lambda: arrowflow.sanitize(GROWING.read_bytes(), limits)),
                        ("sanitize_pieces", lambda: [*arrowflow.sanitize_pieces(GROWING, limits)])):
@@ -150,7 +150,7 @@ def refused(room):
 
 
 def too_long():
-    """A dictionary whose values are too long for one array, which is a sound stream."""
+    """A dictionary whose values are too long for one array, in a valid stream."""
     greatest = 2**31 - 1
     one = frames.Column([(1, 0), (greatest, greatest)], [b"", struct.pack("<2i", 0, greatest)])
     parts = [frames.schema(frames.field("k", frames.LIST, [frames.field("item", frames.NULL)], encoding=frames.dictionary(5))),
@@ -164,7 +164,7 @@ def too_long():
 
 
 def structs(room, compiler):
-    """The sizes and the places of the structs, as a C compiler has them."""
+    """The sizes of the structs and the offsets of their members, from a C compiler."""
     pairs = [(name, getattr(_library, mine)) for mine, name in (
         ("CLimits", "arrowflow_limits"), ("COptions", "arrowflow_options"), ("CReport", "arrowflow_report"), ("CText",
             "arrowflow_text"),
@@ -174,5 +174,5 @@ def structs(room, compiler):
         f'printf("%zu ", sizeof({name}));', *(f'printf("%zu ", offsetof({name}, {it}));' for it, _ in of._fields_))]
     (room / "structs.c").write_text('#include "arrowflow_stream.h"\n#include <stdio.h>\nint main(void) {' + "\n".join(lines) + "}\n")
     run(compiler, f"-I{TOP}/c", room / "structs.c", "-o", room / "structs")
-    wanted = [it for _, of in pairs for it in (ctypes.sizeof(of), *(getattr(of, name).offset for name, _ in of._fields_))]
-    yield "structs", run(room / "structs")[0].split(), [str(it).encode() for it in wanted]
+    expected = [it for _, of in pairs for it in (ctypes.sizeof(of), *(getattr(of, name).offset for name, _ in of._fields_))]
+    yield "structs", run(room / "structs")[0].split(), [str(it).encode() for it in expected]
