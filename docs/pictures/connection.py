@@ -1,30 +1,29 @@
 """A connection that breaks: what a writer sends of an example stream, and what a reader has of it after each message.
 
-Places, rows and dictionaries are those that the model in fuzz/ reads in the bytes of the stream, whole for the writer, and for the reader
-as many as are delivered. The stream is laid out as `arrowflow drill --align 8` sends it, so each frame has just these places.
+Offsets, rows and dictionaries are those that the model in tools/ reads from the bytes of the stream: from all of them for the
+writer, and from those delivered for the reader. The stream is laid out as `arrowflow drill --align 8` sends it, so each frame has
+exactly these offsets.
 """
 import dataclasses
 import os
-import sys
 
+from tools import stream_model
 import svg
 
 TOP = os.path.dirname(os.path.dirname(os.path.dirname(os.path.abspath(__file__))))
-sys.path[:0] = [f"{TOP}/fuzz", f"{TOP}/examples"]
-import stream
 
 NAME, DELIVERED = "examples/growing_dictionary.arrows", 975
 LEFT, WIDE, TOP_OF_BOXES, HIGH, RIGHT = 168, 100, 96, 58, 40
-# The rows under the boxes.
-WRITER, CUT, READER, HANDED = 186, 216, 252, 282
+# The vertical positions of the rows under the boxes.
+WRITER, CUT, READER, RETURNED = 186, 216, 252, 282
 HEIGHT = 336
 ROWS = ((TOP_OF_BOXES - 12, "at byte"), (TOP_OF_BOXES + 34, "sent"), (WRITER, "the writer's dictionary"),
-        (READER, "the reader's dictionary"), (HANDED, "handed out"))
+        (READER, "the reader's dictionary"), (RETURNED, "handed out"))
 
 
 @dataclasses.dataclass(frozen=True)
 class Message:
-    """A message: where it begins and ends, what it is, in a word and more, and the dictionary after it."""
+    """A message: where it begins and ends, its kind as a word, more about it, and the dictionary after it."""
     start: int
     end: int
     kind: str
@@ -33,13 +32,13 @@ class Message:
 
 
 def values(columns):
-    """The values of a dictionary, or a dash where there is none yet."""
+    """The values of a dictionary, or a dash if there are none yet."""
     return " ".join(column.text(at) for column in columns for at in range(column.length)) if columns else "–"
 
 
 def messages(held):
-    """The messages that are whole in these bytes, and how they end: by no kind, or by one."""
-    reader, found = stream.Reader(held), []
+    """The complete messages in these bytes, and the kind of the ending."""
+    reader, found = stream_model.Reader(held), []
     while True:
         start, known, batches = reader.place, list(reader.dictionaries.get(0, [])), reader.batches
         goes_on = reader.message()
@@ -89,17 +88,17 @@ def picture():
         parts.append(svg.text(middle, WRITER, it.dictionary, is_mono=True))
         if is_there:
             parts.append(svg.text(middle, READER, got[at].dictionary, is_mono=True))
-            handed = f"{it.kind}: {it.more}" if it.kind.startswith("batch") else ""
-            parts.append(svg.text(middle, HANDED, handed, "green") if handed else "")
+            returned = f"{it.kind}: {it.more}" if it.kind.startswith("batch") else ""
+            parts.append(svg.text(middle, RETURNED, returned, "green") if returned else "")
     parts.append(svg.text(LEFT + WIDE * len(sent), TOP_OF_BOXES - 12, str(len(held)), "faint", is_mono=True))
     # what came over the connection, and what did not
     parts.append(svg.line(LEFT, CUT, cut, CUT, "green", 3))
     parts.append(svg.line(cut, CUT, LEFT + WIDE * len(sent), CUT, "faint", 1, is_dashed=True))
     parts.append(svg.line(cut, TOP_OF_BOXES - 46, cut, TOP_OF_BOXES - 26, "red", 2))
-    parts.append(svg.line(cut, TOP_OF_BOXES - 6, cut, HANDED + 6, "red", 2))
+    parts.append(svg.line(cut, TOP_OF_BOXES - 6, cut, RETURNED + 6, "red", 2))
     parts.append(svg.text(cut + 8, TOP_OF_BOXES - 36, f"the connection breaks at {DELIVERED}", "red", anchor="start"))
-    beside = f"{ending} at {broken.start}: {DELIVERED - broken.start} bytes of {broken.kind} came, and nothing of it is handed out"
-    parts.append(svg.text(LEFT + WIDE * len(got) + 10, HANDED + 30, beside, "red", anchor="middle"))
+    caption = f"{ending} at {broken.start}: {DELIVERED - broken.start} bytes of {broken.kind} came, and nothing of it is handed out"
+    parts.append(svg.text(LEFT + WIDE * len(got) + 10, RETURNED + 30, caption, "red", anchor="middle"))
     return svg.picture(width, HEIGHT, title(len(held), got, ending, broken), *parts)
 
 

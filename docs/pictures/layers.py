@@ -1,7 +1,8 @@
-"""The crates by layer, out of crates.txt: each above all that it uses, with a line to those of them that no other line leads to.
+"""The crates by layer, from crates.txt: each crate is above all that it uses, with a line to each crate that it uses and that no
+other line leads to.
 
-Crates of tests are left out. A line that goes past layers has a point in each of them, so that no box lies on it; what is in a layer
-is ordered so that few lines cross, and is moved to where its lines lead, as far as its neighbours let it.
+Crates of tests are left out. A line that goes past layers has a point in each of them, so that it crosses no box. The items of a
+layer are ordered so that few lines cross, and each is moved towards where its lines lead, as far as its neighbours allow.
 """
 import os
 import re
@@ -9,13 +10,13 @@ import re
 import svg
 
 TOP = os.path.dirname(os.path.dirname(os.path.dirname(os.path.abspath(__file__))))
-# Crates that serve tests alone.
+# Crates that only tests use.
 OF_TESTS = re.compile(r"_tests?$|_test_|_vectors_")
 SIZE, HIGH, GAP, STEP, MARGIN, ROUNDS = 12, 26, 16, 62, 24, 40
 
 
 def crates():
-    """Of each crate the crates of this repository that it uses."""
+    """For each crate the crates of this repository that it uses."""
     with open(f"{TOP}/crates.txt", encoding="utf-8") as it:
         rows = [line.partition("#")[0].partition(":") for line in it]
     found = {name.split()[0]: uses.split() for name, colon, uses in rows if colon and not OF_TESTS.search(name.split()[0])}
@@ -27,7 +28,7 @@ def below(name, uses):
 
 
 def direct(uses):
-    """What each crate uses, but for what it reaches by another that it uses."""
+    """What each crate uses, except what it reaches through another that it uses."""
     return {name: [it for it in its if not any(it in below(other, uses) for other in its)] for name, its in uses.items()}
 
 
@@ -36,7 +37,7 @@ def layer(name, uses):
 
 
 def is_front(name):
-    """Whether a crate is a name alone, without a function."""
+    """Whether a crate is a front crate, without a function of its own."""
     folder = f"{TOP}/crates/{name}/src"
     for file in os.listdir(folder):
         with open(f"{folder}/{file}", encoding="utf-8") as it:
@@ -46,7 +47,8 @@ def is_front(name):
 
 
 class Graph:
-    """What is in each layer: crates, and points (line, layer) of lines that go past it; and who is next to whom."""
+    """The items of each layer: crates, and points (line, layer) of lines that go past it; and the neighbours of each item above
+    and below."""
 
     def __init__(self, uses):
         self.rows = [[] for _ in range(1 + max(layer(it, uses) for it in uses))]
@@ -68,7 +70,7 @@ class Graph:
         self.lines.append(points)
 
     def order(self):
-        """Orders each layer by where the lines of what is in it lead, and keeps the order with the fewest crossings."""
+        """Orders each layer by where the lines of its items lead, and keeps the order with the fewest crossings."""
         best, fewest = [*map(list, self.rows)], self.crossings()
         for turn in range(ROUNDS):
             rows, near = (self.rows[1:], self.down) if turn % 2 else (self.rows[-2::-1], self.up)
@@ -103,7 +105,7 @@ class Graph:
 
 
 def wide(it):
-    """How wide a crate's box is, or a line that goes past."""
+    """The width of a crate's box, or of a line that goes past."""
     return len(it) * SIZE * svg.LETTER + 18 if isinstance(it, str) else 4
 
 
@@ -111,15 +113,15 @@ def mean(its, otherwise):
     return sum(its) / len(its) if its else otherwise
 
 
-def apart(row, wanted):
-    """The places nearest to the wanted ones at which the boxes of a row do not touch."""
+def apart(row, desired):
+    """The positions nearest to the desired ones at which the boxes of a row do not touch."""
     offsets, at = [], 0
     for it in row:
         offsets.append(at + wide(it) / 2)
         at += wide(it) + GAP
-    # those that would touch are moved together: each group has the mean of what its members want
+    # those that would touch are moved together: each group has the mean of its members' desired positions
     groups = []
-    for it, offset in zip(wanted, offsets):
+    for it, offset in zip(desired, offsets):
         groups.append([it - offset, 1])
         while len(groups) > 1 and groups[-2][0] >= groups[-1][0]:
             (one, many), (other, more) = groups[-2:]
@@ -129,7 +131,7 @@ def apart(row, wanted):
 
 
 def colours(name, is_used):
-    """The colour of a crate's box and of its line, and whether that is dashed."""
+    """The colour of a crate's box and of its line, and whether the line is dashed."""
     if not is_used:
         return "yellow-fill", "yellow", False
     if is_front(name):

@@ -1,4 +1,4 @@
-"""Elements of the pictures: text that stays text, on a ground of their own, in colours for a light and for a dark page."""
+"""Elements of the pictures: text that stays text, on a background of its own, in colours for a light and for a dark page."""
 import html
 
 # The name of each colour, on a light page and on a dark one.
@@ -14,14 +14,14 @@ COLOURS = {
     "yellow-fill": ("#fff8c5", "#272115"),
     "red": ("#cf222e", "#f85149"),
 }
-# How wide a letter of the texts in one width is, in parts of their size.
+# The width of a letter of the monospaced texts, as a fraction of their size.
 LETTER = 0.602
 MONO = "ui-monospace, 'DejaVu Sans Mono', Menlo, Consolas, monospace"
 SANS = "system-ui, 'DejaVu Sans', Helvetica, Arial, sans-serif"
 
 
 def number(it):
-    """A number of pixels, to a tenth."""
+    """A number of pixels, rounded to a tenth."""
     return f"{it:.1f}".removesuffix(".0")
 
 
@@ -61,7 +61,7 @@ def line(x, y, to, below, colour, width=1, is_dashed=False):
 
 
 def picture(width, height, title, *parts):
-    """A whole picture; the title is what is read aloud."""
+    """A complete picture; the title is what is read aloud."""
     size = f'width="{number(width)}" height="{number(height)}" viewBox="0 0 {number(width)} {number(height)}"'
     dark = f"@media (prefers-color-scheme: dark) {{ {style(1)} }}"
     return "".join([
