@@ -6,7 +6,7 @@ alone, and their values written again. The bytes under nulls, before the first v
 import re
 import struct
 
-from tools import frames
+from tools import frames, typed_columns
 
 
 def bytes_of(words):
@@ -21,8 +21,8 @@ def nodes_of(words):
     return [tuple(map(int, it.split("/"))) for it in words.split()]
 
 
-def numbers(buffer):
-    return struct.unpack_from(f"<{len(buffer) // 4}i", buffer)
+def numbers(buffer, form="i"):
+    return struct.unpack(f"<{len(buffer) // struct.calcsize(form)}{form}", buffer)
 
 
 def parts(whole, ends):
@@ -43,19 +43,24 @@ class Columns:
         if kind == "null":
             return [None] * length, lambda values: frames.nulls(len(values))
         validity = self.buffers.pop(0)
-        nested = {"struct": self.structs, "fixed_size_list": self.fixed_lists}
-        slots, layout = nested[kind](int(count), length) if kind in nested else self.slots(kind)
+        sized = {"struct": self.structs, "fixed_size_list": self.fixed_lists, "fixed_size_binary": self.fixed_bytes}
+        slots, layout = sized[kind](int(count), length) if kind in sized else self.slots(kind)
         return [slots[at] if not validity or validity[at // 8] >> at % 8 & 1 else None for at in range(length)], layout
 
     def slots(self, kind):
         """The values in the slots, null or not."""
         buffer = self.buffers.pop(0)
-        if kind == "utf8":
-            return parts(self.buffers.pop(0), numbers(buffer)), frames.strings
+        if kind in ("utf8", "large_utf8"):
+            form = "q" if kind == "large_utf8" else "i"
+            return parts(self.buffers.pop(0), numbers(buffer, form)), lambda values: frames.strings(values, form)
         if kind == "list":
             items, of = self.column()
             return parts(items, numbers(buffer)), lambda values: frames.lists(values, of)
         return numbers(buffer), frames.numbers
+
+    def fixed_bytes(self, width, length):
+        buffer = self.buffers.pop(0)
+        return [buffer[at * width:(at + 1) * width] for at in range(length)], lambda values: typed_columns.fixed(values, width)
 
     def fixed_lists(self, size, length):
         items, of = self.column()

@@ -143,9 +143,15 @@ def command(room, names, crates):
     return words + ["--jobs", "1", "--links", "all_that_is_read=", "--only", ""]
 
 
+# A line of an edit that is not read.
+STRAY = re.compile(r"^(?!file: |old: |new: |$)", re.M)
+
+
 def main(edits):
     """Reads the edits, and prints those that do not compile."""
     failed = [(it, it.why) for it in edits if it.why]
+    # The lines of a text after its first one would not be read.
+    failed += [(it, "a line of it begins with neither file:, old: nor new:") for it in edits if not it.why and STRAY.search(it.text)]
     # (the compiler reads no statements and lemmas here)
     left, count = [it for it in edits if not it.why and all(path.startswith("src/") for path, _, _ in it.pairs)], len(edits)
     failed += [(it, "its function is in no cycle of calls any more, and has the name of one") for it in left if leaves_its_cycle(it)]

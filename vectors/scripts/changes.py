@@ -7,6 +7,7 @@ from tools.frames import END_MARKER, LARGE_UTF8, NULL, UTF8, batch, dictionary, 
 import kinds
 import levels
 import own
+import replaced
 import slots
 from raw_frames import NODE, ONE, column
 from results import CORE, ending
@@ -172,7 +173,7 @@ def changes():
     """The files of changes keyed by their names: what each is about, its base, and its lines."""
     its, rows = own.limits(), rows_at_the_limit()
     growing = b"".join(streams.growing_dictionary())
-    return kinds.changes() | levels.changes(line) | slots.changes(line) | {
+    return kinds.changes() | levels.changes(line) | slots.changes(line) | replaced.changes(line) | {
         "int32_column_cut": ("each length of one batch", "int32_column", cuts(ONE.held(), 3)),
         "growing_dictionary_cut": ("each length of a growing dictionary", "growing_dictionary", cuts(growing, 8)),
         "int32_column_bytes": ("each byte of one batch set to each other value", "int32_column", each_byte(ONE)),

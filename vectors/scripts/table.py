@@ -3,6 +3,7 @@ import kinds
 import levels
 import malformed
 import own
+import replaced
 import slots
 import sound
 import surplus
@@ -16,7 +17,7 @@ OWN = "own"                # accepted or rejected by a rule of this project
 def vectors():
     """The vectors keyed by their names: whom each binds, what it is about, and its bytes."""
     found = {}
-    groups = ((STANDARD, kinds), (STANDARD, sound), (STANDARD, surplus), (STANDARD, levels), (STANDARD, slots), (MALFORMED, malformed), (OWN, own))
+    groups = ((STANDARD, kinds), (STANDARD, sound), (STANDARD, surplus), (STANDARD, levels), (STANDARD, slots), (STANDARD, replaced), (MALFORMED, malformed), (OWN, own))
     for binds, group in [(binds, it.vectors()) for binds, it in groups] + [(STANDARD, bases())]:
         for name, (about, held) in group.items():
             assert name not in found, name

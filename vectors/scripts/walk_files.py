@@ -5,6 +5,7 @@ import re
 from tools import stream_copies, streams
 from tools.frames import BINARY, END_MARKER, UTF8, batch, field, schema, strings
 import kinds
+import replaced
 import results
 import rows
 import surplus
@@ -40,9 +41,9 @@ def listed(vectors):
 
 
 def copies():
-    """What is written for the vectors, keyed by names NAME.copyWAY: for those that hold more than their values in two ways, for
-    each type in one, as tools/stream_copies.py writes it, and what types_outside_core.py says."""
-    held, more = streams.written(), surplus.all_of()
+    """What is written for the vectors, keyed by names NAME.copyWAY: for those that hold more than their values or replace
+    dictionaries in two ways, for each type in one, as tools/stream_copies.py writes it, and what types_outside_core.py says."""
+    held, more = streams.written(), surplus.all_of() | replaced.all_of()
     found = {f"{name}.copy{way}": held[word][1] for name, ways in COPIES.items() for way, word in ways.items()}
     found |= {f"{name}.copy{way}": stream_copies.copy(its, way) for name, (_, its) in more.items() for way in (0, 3)}
     found |= {f"{name}.copy{at % 4}": stream_copies.copy(its, at % 4) for at, (name, (_, its)) in enumerate(kinds.vectors().items())}

@@ -153,7 +153,7 @@ EXAMPLES = {
             "take 232 dictionary 0 of 4", "take 160 batch of 2", "take 8 end"],
         "dictionary_of_no_values": ["take 200 schema", "take 208 dictionary 0 of 0", "take 168 batch of 2", "take 168 batch of 2",
             "take 216 dictionary 0 of 1", "take 160 batch of 1", "take 8 end"]}),
-    "a stream checked, copied, drilled": (["arrowflow_tests/drilling"], {
+    "a stream checked, copied, drilled": (["arrowflow_tests/drilling", "arrowflow_session_tests/session"], {
         "growing_dictionary": ["take 224 dictionary 0 of 5", "take 8 end"], "resent_dictionary": ["take 8 end"],
         "list_after_a_gap": rows("[8]"), "list_without_its_gap": rows("[8]")}),
     "one falling pair of offsets, at each place": (["arrow_bits_tests/bits"], {
@@ -164,7 +164,7 @@ EXAMPLES = {
     "zeros of each number of bits": (["arrow_bits_tests/bits"],
         {"null_counts.changes": ["* := 6400000000000000 -> batches 1 rows 200 end clean"]}),
     "dictionaries of several segments": (["arrow_data_tests/dictionaries", "arrow_dict_tests/trackers", "arrow_body_tests/stored",
-        "arrow_body_tests/greatest"], {
+        "arrow_body_tests/greatest", "arrow_stream_reader_tests/calls"], {
         "growing_dictionary": LETTERS_SHOWN, "dictionary_in_other_pieces": ['  row 4 -> "e"', '  row 5 -> "f"', '  row 4 -> "e"',
             *CLEAN],
         "dictionary_of_70_pieces": ["take * dictionary 0 of 70", *rows('0 -> "a"', '1 -> "b"', '25 -> "z"', '26 -> "aa"', '*', '*',
@@ -179,7 +179,7 @@ EXAMPLES = {
             "length 336 -> batches 1 rows 3 end clean",
         "length 0..151 -> batches 0 rows 0 end NoSchema at 0", "length 153..327 -> batches 0 rows 0 end Truncated at 152",
         "length 329..335 -> batches 1 rows 3 end Truncated at 328"]}),
-    "one batch, each byte set": ([], {
+    "one batch, each byte set": (["arrow_stream_reader_tests/single_bytes"], {
         "int32_column_bytes.changes": ["schema.version[0] at 28 := 00..02 -> batches 0 rows 0 end Version at 0",
             f"{FIELD}.name.bytes at 120 := 00..6d -> batches 1 rows 3 end clean"]}),
     "a batch's metadata, byte by byte": (["arrow_stream_reader_tests/declared"], {

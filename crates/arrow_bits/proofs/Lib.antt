@@ -3,6 +3,7 @@ pub mod Reading
 pub mod Written
 pub mod Ranged
 pub mod Listed
+pub mod OneBit
 pub mod Packing
 pub mod Counting
 pub mod Runs

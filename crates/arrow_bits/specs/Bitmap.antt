@@ -1,5 +1,5 @@
 -- Bits in a list of bytes.
-use Rattle.std.specs.Prelude.{ℕ, ◌/◌, ◌%◌, ◌==◌, ◌≡◌, ◌≤◌, ◌<◌, Bool, true, false, List, length, map, slice_index, count_by}
+use Rattle.std.specs.Prelude.{ℕ, ◌+◌, ◌*◌, ◌/◌, ◌%◌, ◌==◌, ◌≡◌, ◌≢◌, ◌≤◌, ◌<◌, ◌⊎◌, Bool, true, false, List, length, map, slice_index, count_by}
 use Rattle.std.specs.List.{range_with_len}
 use Rattle.std.specs.Int.{bit_at, div_ceil}
 
@@ -28,3 +28,10 @@ pub record IsPacked (bits : List Bool) (bytes : List ℕ) : Type 0 where
   pub few : length bytes ≡ div_ceil (length bits) 8
   pub same : bits_of (length bits) bytes ≡ bits
   pub spare : (j : ℕ) → length bits ≤ j → bit_of bytes j ≡ false
+
+-- bit `at` is this one, every other bit stays, and there are no more bytes than before or than these bits need
+pub record PutsBit (at : ℕ) (bit : Bool) (old new : List ℕ) : Type 0 where
+  pub put : bit_of new at ≡ bit
+  pub same : (j : ℕ) → j ≢ at → bit_of new j ≡ bit_of old j
+  pub long : at < 8 * length new
+  pub few : (length new ≡ length old) ⊎ (length new ≡ at / 8 + 1)

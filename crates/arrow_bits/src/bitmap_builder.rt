@@ -1,10 +1,30 @@
-//! A list of bits that grows.
+//! Bits that are written one by one.
 
-ghost use Rattle.std.specs.Prelude.{◌≡◌, ◌==◌, ◌∷◌, ◌++◌, [], length, OnOk, OnErr};
-ghost use Rattle.arrow_bits.specs.Bitmap.{IsPacked};
+ghost use Rattle.std.specs.Prelude.{◌≡◌, ◌==◌, ◌≤◌, ◌*◌, ◌∷◌, ◌++◌, [], length, OnOk, OnErr};
+ghost use Rattle.arrow_bits.specs.Bitmap.{IsPacked, PutsBit};
 
 use std::alloc::{AllocError, Global};
 use std::marker::Model;
+
+/// Puts a bit after the first `at` bits, overwriting a bit that is already there (Columnar Format,
+/// "Validity bitmaps").
+///
+/// The only error is `AllocError`, and the bytes are then unchanged.
+pub fn put_bit(bytes: &mut Vec<u8>, at: usize, bit: bool) -> Result<(), AllocError>
+    requires { at ≤ 8 * length bytes.old.items }
+    ensures ok { OnOk result (PutsBit at bit bytes.old.items bytes.new.items) }
+    ensures err { OnErr result (bytes.new.items ≡ bytes.old.items) }
+{
+    let byte = at / 8;
+    if byte == bytes.len() {
+        bytes.push(u8::from(bit))?;
+    } else if bit {
+        bytes[byte] |= 1 << (at % 8);
+    } else {
+        bytes[byte] &= !(1 << (at % 8));
+    }
+    Ok(())
+}
 
 /// A list of bits that grows, packed eight to a byte from the least significant on (Columnar
 /// Format, "Validity bitmaps").
@@ -62,12 +82,7 @@ impl BitsBuilder {
         ensures err { OnErr result (self.new ≡ self.old) }
     {
         let len = self.len.checked_add(1).ok_or(AllocError)?;
-        let place = self.len % 8;
-        if place == 0 {
-            self.bytes.push(u8::from(bit))?;
-        } else if bit {
-            self.bytes[self.len / 8] |= 1 << place;
-        }
+        put_bit(&mut self.bytes, self.len, bit)?;
         self.len = len;
         Ok(())
     }

@@ -3,8 +3,8 @@
 ghost use Rattle.std.specs.Prelude.{◌≡◌, ◌+◌, ◌*◌, ◌≤◌, ◌<◌, ◌↔◌, ◌==◌, length, map, pos};
 ghost use Rattle.std.specs.Prelude.{All, IfSome, IsSome, IsTrue, slice_index};
 ghost use Rattle.std.specs.List.Sorted.{IsNonDecreasing};
-ghost use Rattle.arrow_bits.specs.Offsets.{AreLargeOffsets, large_offset_at};
-ghost use Rattle.arrow_bits.specs.Offsets.{large_offsets_of, signed_large_offsets_of};
+ghost use Rattle.arrow_bits.specs.Offsets.{AreLargeOffsets, large_offsets_of};
+ghost use Rattle.arrow_bits.specs.Offsets.{signed_large_offsets_of};
 
 use crate::large_lanes::{LANES, never_fall};
 use crate::numbers::u64_at;
@@ -103,14 +103,6 @@ impl<'a> LargeOffsets<'a> {
     {
         u64_at(self.bytes, 8 * i) as usize
     }
-}
-
-/// Offset `i` of the bytes, read as signed.
-pub(crate) fn large_offset(bytes: &[u8], i: usize) -> i64
-    requires { 8 * i + 8 ≤ length bytes.now }
-    ensures { result ≡ large_offset_at bytes.now i }
-{
-    u64_at(bytes, 8 * i).cast_signed()
 }
 
 /// The result of `check`, computed with unsigned numbers: if they never fall and the last has no

@@ -4,9 +4,9 @@
 //! Every column is read through these calls. They take a slice of bytes, which may be any part of a
 //! message body, and give what the standard says is there: a bitmap is a list of bits (`Bits`), a
 //! buffer of fixed-width values is a list of integers (`int_at`), a buffer of offsets is a list of
-//! numbers that never fall (`Offsets`, and `LargeOffsets` for those of 64 bits). `BitsBuilder` and
-//! `put_int`, which are for a writer, go the other way. Nothing is copied, and only these two
-//! allocate.
+//! numbers that never fall (`Offsets`, and `LargeOffsets` for those of 64 bits). `BitsBuilder`,
+//! `put_bit`, `put_int` and `put_zeros`, which are for a writer, go the other way. Nothing is
+//! copied, and only these four allocate.
 //!
 //! The meaning of the bytes at an offset is defined once, in `specs/`: `bit_of` and `bits_of`
 //! (`Bitmap.antt`), `number_at`, `signed_at` and `int_of` (`Numbers.antt`), `AreOffsetsOf` a width
@@ -21,7 +21,7 @@
 //!
 //! | Notion | Definition |
 //! |---|---|
-//! | bit, list of bits, their bytes | `specs/Bitmap.antt`: `bit_of`, `bits_of`, `IsPacked` |
+//! | bit, list of bits, their bytes, one bit put | `specs/Bitmap.antt`: `bit_of`, `bits_of`, `IsPacked`, `PutsBit` |
 //! | the first bit that is 0 | `specs/Bitmap.antt`: `IsFirstUnset` |
 //! | number of a width, signed or unsigned | `specs/Numbers.antt`: `number_at`, `int_of`, `int_bytes` |
 //! | offsets of a width | `specs/Offsets.antt`: `AreOffsetsOf`, `offsets_of`, `large_offsets_of` |
@@ -40,7 +40,7 @@ pub mod plain;
 
 pub use at_most::are_at_most;
 pub use bitmap::{Bits, bit, first_unset};
-pub use bitmap_builder::BitsBuilder;
+pub use bitmap_builder::{BitsBuilder, put_bit};
 pub use large_offsets::LargeOffsets;
-pub use numbers::{int_at, put_int};
+pub use numbers::{int_at, put_int, put_zeros};
 pub use offsets::Offsets;

@@ -1,6 +1,6 @@
 //! Integers of a fixed width.
 
-ghost use Rattle.std.specs.Prelude.{◌≡◌, ◌+◌, ◌*◌, ◌≤◌, ◌++◌, Bool, length, OnOk, OnErr};
+ghost use Rattle.std.specs.Prelude.{◌≡◌, ◌+◌, ◌*◌, ◌≤◌, ◌++◌, Bool, length, replicate, OnOk, OnErr};
 ghost use Rattle.arrow_bits.specs.Numbers.{number_at, signed_at, int_of, int_bytes};
 ghost use Rattle.arrow_bits.specs.Numbers.{IsWidth, IsAnyWidth, IsIntWidth, FitsInt, FitsWidth};
 
@@ -123,4 +123,15 @@ fn put_narrow(out: &mut Vec<u8>, width: usize, value: i128) -> Result<(), AllocE
         value as u64
     };
     out.extend_from_slice(&number.to_le_bytes()[..width])
+}
+
+/// Appends this many zero bytes.
+///
+/// The only error is `AllocError`, and the list is then as it was.
+pub fn put_zeros(out: &mut Vec<u8>, count: usize) -> Result<(), AllocError>
+    ensures ok { OnOk result (out.new.items ≡ out.old.items ++ replicate count 0) }
+    ensures err { OnErr result (out.new.items ≡ out.old.items) }
+{
+    let end = out.len().checked_add(count).ok_or(AllocError)?;
+    out.resize(end, 0)
 }

@@ -3,7 +3,7 @@
 ghost use Rattle.std.specs.Prelude.{◌≡◌, ◌+◌, ◌*◌, ◌≤◌, ◌<◌, ◌↔◌, ◌==◌, length, map, pos};
 ghost use Rattle.std.specs.Prelude.{All, IfSome, IsSome, IsTrue, slice_index};
 ghost use Rattle.std.specs.List.Sorted.{IsNonDecreasing};
-ghost use Rattle.arrow_bits.specs.Offsets.{AreOffsets, offset_at, offsets_of, signed_offsets_of};
+ghost use Rattle.arrow_bits.specs.Offsets.{AreOffsets, offsets_of, signed_offsets_of};
 
 use crate::lanes::{LANES, never_fall};
 use crate::numbers::u32_at;
@@ -102,14 +102,6 @@ impl<'a> Offsets<'a> {
     {
         u32_at(self.bytes, 4 * i) as usize
     }
-}
-
-/// Offset `i` of the bytes, read as signed.
-pub(crate) fn offset(bytes: &[u8], i: usize) -> i32
-    requires { 4 * i + 4 ≤ length bytes.now }
-    ensures { result ≡ offset_at bytes.now i }
-{
-    u32_at(bytes, 4 * i).cast_signed()
 }
 
 /// The result of `check`, computed with unsigned numbers: if they never fall and the last has no

@@ -3,13 +3,12 @@
 //! They have the contracts of `Bits::count_zero`, `Offsets::check` and `LargeOffsets::check`, which
 //! work on many at once. The tests compare the two forms at every length, and the two checks use the
 //! loops for the shortest inputs.
-ghost use Rattle.std.specs.Prelude.{◌≡◌, ◌*◌, ◌≤◌, ◌↔◌, length, not, count_by, IsTrue};
+ghost use Rattle.std.specs.Prelude.{◌≡◌, ◌+◌, ◌*◌, ◌≤◌, ◌↔◌, length, not, count_by, IsTrue};
 ghost use Rattle.arrow_bits.specs.Bitmap.{bits_of};
-ghost use Rattle.arrow_bits.specs.Offsets.{AreLargeOffsets, AreOffsets};
+ghost use Rattle.arrow_bits.specs.Offsets.{AreLargeOffsets, AreOffsets, large_offset_at, offset_at};
 
 use crate::bitmap::bit;
-use crate::large_offsets::large_offset;
-use crate::offsets::offset;
+use crate::numbers::{u32_at, u64_at};
 
 /// How many of the first `len` bits are 0.
 ///
@@ -71,4 +70,20 @@ pub fn check_large_offsets(bytes: &[u8], len: usize, top: u64) -> bool
         last = next;
     }
     last as u64 <= top
+}
+
+/// Offset `i` of the bytes, read as signed.
+fn offset(bytes: &[u8], i: usize) -> i32
+    requires { 4 * i + 4 ≤ length bytes.now }
+    ensures { result ≡ offset_at bytes.now i }
+{
+    u32_at(bytes, 4 * i).cast_signed()
+}
+
+/// Offset `i` of the bytes, read as signed.
+fn large_offset(bytes: &[u8], i: usize) -> i64
+    requires { 8 * i + 8 ≤ length bytes.now }
+    ensures { result ≡ large_offset_at bytes.now i }
+{
+    u64_at(bytes, 8 * i).cast_signed()
 }

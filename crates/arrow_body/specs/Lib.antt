@@ -1,33 +1,3 @@
-pub use Rattle.arrow_body_reader.specs.Taken
-pub use Rattle.arrow_body_reader.specs.Types
-pub use Rattle.arrow_body_reader.specs.Leaf
-pub use Rattle.arrow_body_reader.specs.Place
-pub use Rattle.arrow_body_reader.specs.Look
-pub use Rattle.arrow_body_reader.specs.Least
-pub use Rattle.arrow_body_reader.specs.Held
-pub use Rattle.arrow_body_reader.specs.Sound
-pub use Rattle.arrow_body_reader.specs.Inside
-pub use Rattle.arrow_body_laws.specs.Packed
-pub use Rattle.arrow_body_laws.specs.Raws
-pub use Rattle.arrow_body_laws.specs.Stored
-pub use Rattle.arrow_body_laws.specs.Size
-pub use Rattle.arrow_body_laws.specs.Entries
-pub use Rattle.arrow_body_laws.specs.Formed
-pub use Rattle.arrow_body_laws.specs.Canonical
-pub use Rattle.arrow_body_laws.specs.Laws
-pub use Rattle.arrow_body_writer.specs.Align
-pub use Rattle.arrow_body_writer.specs.Packing
-pub use Rattle.arrow_body_writer.specs.Part
-pub use Rattle.arrow_body_writer.specs.Sent
-pub use Rattle.arrow_body_writer.specs.Tally
-pub use Rattle.arrow_body_writer.specs.Pass
-pub use Rattle.arrow_body_writer.specs.Storable
-pub use Rattle.arrow_body_writer.specs.Storing
-pub use Rattle.arrow_body_writer.specs.Source
-pub use Rattle.arrow_body_writer.specs.Counts
-pub use Rattle.arrow_body_writer.specs.Runs
-pub use Rattle.arrow_body_writer.specs.Whole
-pub use Rattle.arrow_body_writer.specs.Slice
-pub use Rattle.arrow_body_writer.specs.Marks
-pub use Rattle.arrow_body_writer.specs.Spans
-pub use Rattle.arrow_body_writer.specs.Offsets
+pub use Rattle.arrow_body_reader.specs as Reader
+pub use Rattle.arrow_body_laws.specs as Laws
+pub use Rattle.arrow_body_writer.specs as Writer

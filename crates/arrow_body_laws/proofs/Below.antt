@@ -3,7 +3,7 @@ use Rattle.std.proofs.Common.{◌≡◌, ℕ, ◌+◌, List, [], ◌∷◌, ◌+
 use Rattle.std.specs.Prelude.{zero, suc, replicate, ⊤}
 use Rattle.std.specs.List.{AllByRecursion, flat_map, range_with_len}
 use Rattle.arrow_types.specs.Field.{FieldTree, FieldHeader, none, more, width}
-use Rattle.arrow_data.specs.PlainValue.{PlainValue, PlainValues, null_value, struct_value, more_values, field_value}
+use Rattle.arrow_layout.specs.PlainValue.{PlainValue, PlainValues, null_value, struct_value, more_values, field_value}
 use Rattle.arrow_body_laws.specs.Raws.{items_in_value}
 
 -- a condition on a value of a field

@@ -4,7 +4,7 @@ use Rattle.std.specs.Prelude.{pos, negsuc, None, Some}
 use Rattle.arrow_types.specs.DataType.{TypeId, null, boolean, int, large_binary, fixed_size_binary, utf8, list, struct}
 use Rattle.arrow_types.specs.declared.data_type.BitWidth.TheVariants.{Eight, ThirtyTwo}
 use Rattle.arrow_types.specs.Field.{FieldTree, none, more}
-use Rattle.arrow_data.specs.PlainValue.{PlainValue, null_value, bool_value, int_value, binary_value, utf8_value, list_value, struct_value, values_of}
+use Rattle.arrow_layout.specs.PlainValue.{PlainValue, null_value, bool_value, int_value, binary_value, utf8_value, list_value, struct_value, values_of}
 use Rattle.arrow_body_laws.specs.Stored.{stored}
 use Rattle.arrow_body_laws.specs.Size.{size_of}
 

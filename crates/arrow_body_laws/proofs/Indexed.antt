@@ -10,16 +10,16 @@ use Rattle.arrow_types.specs.Field.{FieldTree, none, more}
 use Rattle.arrow_types.specs.declared.field.Encoding.{Encoding}
 use Rattle.arrow_types.specs.declared.node.FieldNode.{FieldNode}
 use Rattle.arrow_types.specs.declared.node.Buffer.{Buffer}
-use Rattle.arrow_data.specs.declared.form.NumberForm.TheVariants as numbers
+use Rattle.arrow_layout.specs.declared.form.NumberForm.TheVariants as numbers
 use Rattle.arrow_data.specs.Column.{ValueList}
-use Rattle.arrow_data.specs.Form.{node_form, index_form}
-use Rattle.arrow_data.specs.Layout.{IsIndexed}
+use Rattle.arrow_layout.specs.Form.{node_form, index_form}
+use Rattle.arrow_layout.specs.Layout.{IsIndexed}
 use Rattle.arrow_data.specs.Parts.{values_in}
-use Rattle.arrow_data.specs.PlainValue.{PlainValue, null_value, bool_value, int_value, binary_value, utf8_value, list_value, struct_value, value_at, is_null_value}
-use Rattle.arrow_data.specs.Resolve.{entry_of, resolve}
-use Rattle.arrow_data.specs.Slots.{AreIndices, IsIndex, index_width}
+use Rattle.arrow_layout.specs.PlainValue.{PlainValue, null_value, bool_value, int_value, binary_value, utf8_value, list_value, struct_value, value_at, is_null_value}
+use Rattle.arrow_layout.specs.Resolve.{entry_of, resolve}
+use Rattle.arrow_layout.specs.Slots.{AreIndices, IsIndex, index_width}
 use Rattle.arrow_data.specs.Listed.{dictionary_for, values_by}
-use Rattle.arrow_data.specs.declared.form.Form.TheVariants as forms
+use Rattle.arrow_layout.specs.declared.form.Form.TheVariants as forms
 use Rattle.arrow_body_reader.specs.Sound.{AreIndexed, IsNodeIndexed, own_bytes}
 use Rattle.arrow_body_reader.specs.Taken.{AllNodes, IfFlattened, flattened, own_buffers, taken_buffers, taken_nodes}
 use Rattle.arrow_body_laws.specs.Entries.{HaveEntries}

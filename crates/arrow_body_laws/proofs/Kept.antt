@@ -6,18 +6,18 @@ use Rattle.std.proofs.Math.Nat.{mul-suc}
 use Rattle.std.proofs.lemmas.List.{drop-drop, get_or-drop, get_or-map, get_or-replicate, get_or-take, length-map, length-replicate, same_lists, take-append-drop}
 use Rattle.std.proofs.lemmas.List.FromFn.{get_or-map-range_with_len, length-map-range_with_len}
 use Rattle.arrow_types.specs.Field.{FieldTree, width}
-use Rattle.arrow_data.specs.Form.{buffers_of}
-use Rattle.arrow_data.specs.Layout.{HoldsSlots, buffer, child_count}
-use Rattle.arrow_data.specs.Node.{AreBytes}
+use Rattle.arrow_layout.specs.Form.{buffers_of}
+use Rattle.arrow_layout.specs.Layout.{HoldsSlots, buffer, child_count}
+use Rattle.arrow_layout.specs.ByteRanges.{AreBytes}
 use Rattle.arrow_data.specs.Parts.{value_slot}
-use Rattle.arrow_data.specs.PlainValue.{PlainValue, null_value, binary_value, utf8_value, list_value, struct_value, values_of, value_at, is_null_value, field_value, nth_value}
-use Rattle.arrow_data.specs.Slots.{HasOffsets, is_valid_at, or_null, slots}
-use Rattle.arrow_data.specs.declared.form.Form.{Form}
-use Rattle.arrow_data.specs.declared.form.Form.TheVariants as forms
-use Rattle.arrow_data.specs.declared.form.ListForm.TheVariants as lists
-use Rattle.arrow_data.specs.declared.form.OffsetWidth.{OffsetWidth}
+use Rattle.arrow_layout.specs.PlainValue.{PlainValue, null_value, binary_value, utf8_value, list_value, struct_value, values_of, value_at, is_null_value, field_value, nth_value}
+use Rattle.arrow_layout.specs.Slots.{HasOffsets, is_valid_at, or_null, slots}
+use Rattle.arrow_layout.specs.declared.form.Form.{Form}
+use Rattle.arrow_layout.specs.declared.form.Form.TheVariants as forms
+use Rattle.arrow_layout.specs.declared.form.ListForm.TheVariants as lists
+use Rattle.arrow_layout.specs.declared.form.OffsetWidth.{OffsetWidth}
 use Rattle.arrow_data.proofs.Lists.{list_again}
-use Rattle.arrow_data.proofs.Shown.{items_inside}
+use Rattle.arrow_layout.proofs.Widths.{items_inside}
 use Rattle.arrow_body_laws.specs.Raws.{bytes_in_value, items_in_value, raws_below}
 use Rattle.arrow_body_laws.specs.Stored.{own_chunks, validity_bytes}
 use Rattle.arrow_body_laws.specs.Canonical.{BelowNulls, IsSpare, IsCanonicalLayout, IsCanonicalOffsets, IsCanonicalValidity}
@@ -185,7 +185,7 @@ structs_kept c vs b below k =
     ∙ sym (get_or-map-range_with_len column 0 (width c) n n d (omega (arith, at, k.long, many)) (omega arith)))
 
 -- a range of a list whose elements are all null
-nulls_taken : (n a : ℕ) (xs : List PlainValue) → a + n ≤ length xs → ((k : ℕ) → k < n → value_at xs (a + k) ≡ null_value) → take n (drop a xs) ≡ replicate n null_value
+pub nulls_taken : (n a : ℕ) (xs : List PlainValue) → a + n ≤ length xs → ((k : ℕ) → k < n → value_at xs (a + k) ≡ null_value) → take n (drop a xs) ≡ replicate n null_value
 nulls_taken n a xs inside nulls =
     let long : length (take n (drop a xs)) ≡ n = omega (arith, length-take n (drop a xs), length-drop a xs, inside) in
     same_lists (take n (drop a xs)) (replicate n null_value) (long ∙ sym (length-replicate n null_value))

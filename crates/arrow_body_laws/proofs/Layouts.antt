@@ -12,15 +12,15 @@ use Rattle.arrow_bits.specs.Numbers.{int_bytes, number_at}
 use Rattle.arrow_bits.proofs.Listed.{length_bits}
 use Rattle.arrow_bits.proofs.Rising.{offsets_from_numbers}
 use Rattle.arrow_types.specs.Field.{FieldTree, width}
-use Rattle.arrow_data.specs.Form.{greatest_offset, number_width, offset_bytes}
-use Rattle.arrow_data.specs.Layout.{HasBools, HasFixed, HasStrings, HoldsSlots, HoldsTexts, buffer, list_offsets}
-use Rattle.arrow_data.specs.PlainValue.{PlainValue, null_value, bool_value, int_value, binary_value, utf8_value, list_value, struct_value, value_at, is_null_value, field_value}
-use Rattle.arrow_data.specs.Slots.{HasBits, HasItemPlaces, HasOffsets, AreTexts}
-use Rattle.arrow_data.specs.declared.form.Form.{Form}
-use Rattle.arrow_data.specs.declared.form.Form.TheVariants as forms
-use Rattle.arrow_data.specs.declared.form.ListForm.{ListForm}
-use Rattle.arrow_data.specs.declared.form.ListForm.TheVariants as lists
-use Rattle.arrow_data.specs.declared.form.OffsetWidth.{OffsetWidth}
+use Rattle.arrow_layout.specs.Form.{greatest_offset, number_width, offset_bytes}
+use Rattle.arrow_layout.specs.Layout.{HasBools, HasFixed, HasStrings, HoldsSlots, HoldsTexts, buffer, list_offsets}
+use Rattle.arrow_layout.specs.PlainValue.{PlainValue, null_value, bool_value, int_value, binary_value, utf8_value, list_value, struct_value, value_at, is_null_value, field_value}
+use Rattle.arrow_layout.specs.Slots.{HasBits, HasItemPlaces, HasOffsets, AreTexts}
+use Rattle.arrow_layout.specs.declared.form.Form.{Form}
+use Rattle.arrow_layout.specs.declared.form.Form.TheVariants as forms
+use Rattle.arrow_layout.specs.declared.form.ListForm.{ListForm}
+use Rattle.arrow_layout.specs.declared.form.ListForm.TheVariants as lists
+use Rattle.arrow_layout.specs.declared.form.OffsetWidth.{OffsetWidth}
 use Rattle.arrow_body_reader.specs.Sound.{IsCount, IsCountOf, nulls_of}
 use Rattle.arrow_body_laws.specs.Packed.{packed, offsets_bytes}
 use Rattle.arrow_body_laws.specs.Raws.{IsOwn, IsSmall, bytes_in_value, fixed_in, item_limit, items_in_value, last_item, nulls_under, number_in, raws_below, truth_in}

@@ -17,15 +17,15 @@ use Rattle.arrow_types.specs.Field.{FieldTree, FieldHeader, none, more, width}
 use Rattle.arrow_types.specs.declared.field.Encoding.{Encoding}
 use Rattle.arrow_types.specs.declared.node.FieldNode.{FieldNode}
 use Rattle.arrow_types.specs.declared.node.Buffer.{Buffer}
-use Rattle.arrow_data.specs.Form.{greatest_offset, node_form, number_width, offset_bytes}
-use Rattle.arrow_data.specs.Layout.{buffer}
-use Rattle.arrow_data.specs.PlainValue.{PlainValue, null_value, bool_value, int_value, binary_value, utf8_value, list_value, struct_value, value_at, is_null_value, field_value}
-use Rattle.arrow_data.specs.Slots.{is_valid_at}
-use Rattle.arrow_data.specs.declared.form.Form.{Form}
-use Rattle.arrow_data.specs.declared.form.Form.TheVariants as forms
-use Rattle.arrow_data.specs.declared.form.ListForm.{ListForm}
-use Rattle.arrow_data.specs.declared.form.ListForm.TheVariants as lists
-use Rattle.arrow_data.specs.declared.form.OffsetWidth.{OffsetWidth}
+use Rattle.arrow_layout.specs.Form.{greatest_offset, node_form, number_width, offset_bytes}
+use Rattle.arrow_layout.specs.Layout.{buffer}
+use Rattle.arrow_layout.specs.PlainValue.{PlainValue, null_value, bool_value, int_value, binary_value, utf8_value, list_value, struct_value, value_at, is_null_value, field_value}
+use Rattle.arrow_layout.specs.Slots.{is_valid_at}
+use Rattle.arrow_layout.specs.declared.form.Form.{Form}
+use Rattle.arrow_layout.specs.declared.form.Form.TheVariants as forms
+use Rattle.arrow_layout.specs.declared.form.ListForm.{ListForm}
+use Rattle.arrow_layout.specs.declared.form.ListForm.TheVariants as lists
+use Rattle.arrow_layout.specs.declared.form.OffsetWidth.{OffsetWidth}
 use Rattle.arrow_body_reader.specs.Sound.{lengths_of, nulls_of, own_bytes}
 use Rattle.arrow_body_reader.specs.Taken.{below, flattened, own_buffers, taken_buffers, taken_nodes}
 use Rattle.arrow_body_laws.specs.Laws.{StoredIsCanonical}
@@ -37,7 +37,7 @@ use Rattle.arrow_body_laws.proofs.Bits.{packed_bit, packed_few, packed_spare, em
 use Rattle.arrow_body_laws.proofs.Layouts.{fixed_long, ints_long, nulls_are}
 use Rattle.arrow_body_laws.proofs.Pieces.{HaveWidth, all_wide, length_int, offsets_long, piece, pieces_long, place_read, sum_next}
 use Rattle.arrow_body_laws.proofs.Placed.{padded_long}
-use Rattle.arrow_data.proofs.Shown.{items_inside}
+use Rattle.arrow_layout.proofs.Widths.{items_inside}
 use Rattle.arrow_body_laws.proofs.Slotted.{all_fixed, all_items, read_valid}
 use Rattle.arrow_body_laws.proofs.Soundness.{all_nodes, are_stored, lengths_below, places_long, slots_are}
 use Rattle.arrow_body_laws.proofs.Walk.{AreStored, chunks_long, head_form, inner_raws, nodes_long, own_bytes_are, own_node_is, stored_inside, stored_next}

@@ -3,8 +3,8 @@ use Rattle.std.proofs.Common.{◌≡◌, List, [], ◌∷◌, ◌++◌, refl}
 use Rattle.std.specs.List.{flat_map}
 use Rattle.arrow_types.specs.Field.{FieldTree, none, more}
 use Rattle.arrow_data.specs.Column.{AreOf, Column}
-use Rattle.arrow_data.specs.Form.{node_form}
-use Rattle.arrow_data.specs.PlainValue.{PlainValue}
+use Rattle.arrow_layout.specs.Form.{node_form}
+use Rattle.arrow_layout.specs.PlainValue.{PlainValue}
 use Rattle.arrow_body_laws.specs.Laws.{NamesAreNotStored}
 use Rattle.arrow_body_laws.specs.Raws.{raws_below}
 use Rattle.arrow_body_laws.specs.Stored.{fields_of_columns, own_chunks, own_node, padded, places_from, stored_chunks, stored_nodes}

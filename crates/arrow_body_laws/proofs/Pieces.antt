@@ -9,9 +9,9 @@ use Rattle.std.proofs.lemmas.Int.{ints}
 use Rattle.std.proofs.lemmas.List.Sums.{sum_by-cons, sum_by-take-le}
 use Rattle.arrow_bits.specs.Numbers.{number_of, number_at, signed_at, twos_complement, int_of, FitsInt, number_bytes, int_bytes}
 use Rattle.arrow_bits.proofs.Written.{int_after}
-use Rattle.arrow_data.specs.Form.{greatest_offset, offset_bytes}
-use Rattle.arrow_data.specs.declared.form.OffsetWidth.{OffsetWidth}
-use Rattle.arrow_data.specs.declared.form.OffsetWidth.TheVariants.{Small, Large}
+use Rattle.arrow_layout.specs.Form.{greatest_offset, offset_bytes}
+use Rattle.arrow_layout.specs.declared.form.OffsetWidth.{OffsetWidth}
+use Rattle.arrow_layout.specs.declared.form.OffsetWidth.TheVariants.{Small, Large}
 use Rattle.arrow_body_laws.specs.Packed.{ints_bytes, sums_from, offsets_bytes}
 
 -- the pieces of these elements are of one width

@@ -7,12 +7,12 @@ use Rattle.arrow_types.specs.DataType.{TypeId}
 use Rattle.arrow_types.specs.Field.{FieldTree, FieldHeader, none, more, width}
 use Rattle.arrow_types.specs.declared.field.Encoding.{Encoding}
 use Rattle.arrow_data.specs.Column.{Agree, Column, IsColumn, ValueList, listed_of}
-use Rattle.arrow_data.specs.Fits.{Fits, ItemsFit, PartsFit}
-use Rattle.arrow_data.specs.Form.{HasFieldsOf, form_of, node_form}
-use Rattle.arrow_data.specs.PlainValue.{PlainValue, PlainValues, null_value, bool_value, int_value, binary_value, utf8_value, list_value, struct_value, no_values, more_values, field_value, list_of_values}
-use Rattle.arrow_data.specs.declared.form.Form.{Form}
-use Rattle.arrow_data.specs.declared.form.Form.TheVariants as forms
-use Rattle.arrow_data.specs.declared.form.ListForm.{ListForm}
+use Rattle.arrow_layout.specs.Fits.{Fits, ItemsFit, PartsFit}
+use Rattle.arrow_layout.specs.Form.{HasFieldsOf, form_of, node_form}
+use Rattle.arrow_layout.specs.PlainValue.{PlainValue, PlainValues, null_value, bool_value, int_value, binary_value, utf8_value, list_value, struct_value, no_values, more_values, field_value, list_of_values}
+use Rattle.arrow_layout.specs.declared.form.Form.{Form}
+use Rattle.arrow_layout.specs.declared.form.Form.TheVariants as forms
+use Rattle.arrow_layout.specs.declared.form.ListForm.{ListForm}
 use Rattle.arrow_body_reader.specs.Taken.{IfFlattened}
 use Rattle.arrow_body_laws.specs.Entries.{HaveEntries}
 use Rattle.arrow_body_laws.specs.Formed.{AreFormed}

@@ -8,13 +8,13 @@ use Rattle.arrow_types.specs.declared.field.Encoding.{Encoding}
 use Rattle.arrow_types.specs.declared.node.FieldNode.{FieldNode}
 use Rattle.arrow_types.specs.declared.node.Buffer.{Buffer}
 use Rattle.arrow_data.specs.Column.{Column, ValueList}
-use Rattle.arrow_data.specs.Form.{form_of, node_form, index_form}
-use Rattle.arrow_data.specs.PlainValue.{PlainValue}
-use Rattle.arrow_data.specs.Slots.{slots}
+use Rattle.arrow_layout.specs.Form.{form_of, node_form, index_form}
+use Rattle.arrow_layout.specs.PlainValue.{PlainValue}
+use Rattle.arrow_layout.specs.Slots.{slots}
 use Rattle.arrow_data.specs.Parts.{node_column, value_slot, index_slot, values_in}
-use Rattle.arrow_data.specs.declared.form.Form.{Form}
+use Rattle.arrow_layout.specs.declared.form.Form.{Form}
 use Rattle.arrow_data.specs.Listed.{dictionary_for}
-use Rattle.arrow_data.specs.declared.form.Form.TheVariants as forms
+use Rattle.arrow_layout.specs.declared.form.Form.TheVariants as forms
 use Rattle.arrow_body_reader.specs.Sound.{columns_of, if_flattened, own_bytes, slots_at}
 use Rattle.arrow_body_reader.specs.Taken.{flattened, own_buffers, taken_buffers, taken_nodes}
 use Rattle.arrow_body_laws.specs.Raws.{IsOwn, IsSmall, raws_below}

@@ -4,13 +4,13 @@ use Rattle.std.specs.List.{flat_map, sum_by}
 use Rattle.std.proofs.lemmas.List.{length-map}
 use Rattle.arrow_bits.specs.Numbers.{number_bytes}
 use Rattle.arrow_bits.proofs.Rising.{HasNumbers, numbers_from_offsets}
-use Rattle.arrow_data.specs.Form.{offset_bytes}
-use Rattle.arrow_data.specs.Node.{AreBytes}
-use Rattle.arrow_data.specs.PlainValue.{PlainValue, null_value, value_at}
-use Rattle.arrow_data.specs.Slots.{HasOffsets, is_valid_at, or_null, place_of, range_of}
-use Rattle.arrow_data.specs.declared.form.OffsetWidth.{OffsetWidth}
-use Rattle.arrow_data.specs.declared.form.OffsetWidth.TheVariants.{Small, Large}
-use Rattle.arrow_data.proofs.Shown.{slot_inside}
+use Rattle.arrow_layout.specs.Form.{offset_bytes}
+use Rattle.arrow_layout.specs.ByteRanges.{AreBytes}
+use Rattle.arrow_layout.specs.PlainValue.{PlainValue, null_value, value_at}
+use Rattle.arrow_layout.specs.Slots.{HasOffsets, is_valid_at, or_null, place_of, range_of}
+use Rattle.arrow_layout.specs.declared.form.OffsetWidth.{OffsetWidth}
+use Rattle.arrow_layout.specs.declared.form.OffsetWidth.TheVariants.{Small, Large}
+use Rattle.arrow_layout.proofs.Widths.{slot_inside}
 use Rattle.arrow_body_laws.specs.Packed.{offsets_bytes, sums_from}
 use Rattle.arrow_body_laws.specs.Canonical.{IsCanonicalOffsets}
 use Rattle.arrow_data.proofs.Again.{number_again_at}

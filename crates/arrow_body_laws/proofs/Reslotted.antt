@@ -7,12 +7,13 @@ use Rattle.std.proofs.lemmas.List.{get_or-map, length-map}
 use Rattle.std.proofs.lemmas.List.Sums.{sum_by-cons}
 use Rattle.arrow_bits.specs.Bitmap.{bit_of, bits_of}
 use Rattle.arrow_bits.specs.Numbers.{int_of, int_bytes}
-use Rattle.arrow_data.specs.declared.form.NumberForm.{NumberForm}
-use Rattle.arrow_data.specs.Form.{number_width, has_sign}
-use Rattle.arrow_data.specs.Node.{AreBytes}
-use Rattle.arrow_data.specs.PlainValue.{PlainValue, null_value, bool_value, int_value, binary_value, value_at, is_null_value}
-use Rattle.arrow_data.specs.Slots.{bool_slot, fixed_slot, int_slot, is_valid_at, or_null, slots}
-use Rattle.arrow_data.proofs.Shown.{at_slots, slot_inside}
+use Rattle.arrow_layout.specs.declared.form.NumberForm.{NumberForm}
+use Rattle.arrow_layout.specs.Form.{number_width, has_sign}
+use Rattle.arrow_layout.specs.ByteRanges.{AreBytes}
+use Rattle.arrow_layout.specs.PlainValue.{PlainValue, null_value, bool_value, int_value, binary_value, value_at, is_null_value}
+use Rattle.arrow_layout.specs.Slots.{bool_slot, fixed_slot, int_slot, is_valid_at, or_null, slots}
+use Rattle.arrow_data.proofs.Shown.{at_slots}
+use Rattle.arrow_layout.proofs.Widths.{slot_inside}
 use Rattle.arrow_body_reader.specs.Sound.{nulls_of}
 use Rattle.arrow_body_laws.specs.Packed.{packed}
 use Rattle.arrow_body_laws.specs.Raws.{fixed_in, number_in, truth_in}

@@ -3,10 +3,10 @@ use Rattle.std.proofs.Common.{◌≡◌, ℕ, ℤ, List, [], ◌∷◌, map, Opt
 use Rattle.std.specs.Prelude.{option_map, replicate}
 use Rattle.std.specs.List.{AllByRecursion, flat_map}
 use Rattle.arrow_types.specs.Field.{FieldTree, FieldHeader, none, more}
-use Rattle.arrow_data.specs.PlainValue.{PlainValue, PlainValues, null_value, bool_value, int_value, binary_value, utf8_value, list_value, struct_value, no_values, more_values, list_of_values}
-use Rattle.arrow_data.specs.Resolve.{before, resolve, resolve_items, resolve_parts}
-use Rattle.arrow_data.specs.declared.form.Form.{Form}
-use Rattle.arrow_data.specs.declared.form.Form.TheVariants as forms
+use Rattle.arrow_layout.specs.PlainValue.{PlainValue, PlainValues, null_value, bool_value, int_value, binary_value, utf8_value, list_value, struct_value, no_values, more_values, list_of_values}
+use Rattle.arrow_layout.specs.Resolve.{before, resolve, resolve_items, resolve_parts}
+use Rattle.arrow_layout.specs.declared.form.Form.{Form}
+use Rattle.arrow_layout.specs.declared.form.Form.TheVariants as forms
 use Rattle.arrow_data.proofs.Resolving.{null_resolves}
 use Rattle.arrow_body_laws.specs.Entries.{ResolveTo}
 use Rattle.arrow_body_laws.specs.Raws.{AreRaws, items_in_value, nulls_under, raws_below}

@@ -11,15 +11,15 @@ use Rattle.arrow_types.specs.declared.field.Encoding.{Encoding}
 use Rattle.arrow_types.specs.declared.node.FieldNode.{FieldNode}
 use Rattle.arrow_types.specs.declared.node.Buffer.{Buffer}
 use Rattle.arrow_data.specs.Column.{Column, ValueList}
-use Rattle.arrow_data.specs.Form.{form_of, node_form, index_form}
-use Rattle.arrow_data.specs.Layout.{HoldsSlots, buffer}
-use Rattle.arrow_data.specs.Node.{AreBytes}
+use Rattle.arrow_layout.specs.Form.{form_of, node_form, index_form}
+use Rattle.arrow_layout.specs.Layout.{HoldsSlots, buffer}
+use Rattle.arrow_layout.specs.ByteRanges.{AreBytes}
 use Rattle.arrow_data.specs.Parts.{index_slot, node_column, value_slot, values_in}
-use Rattle.arrow_data.specs.PlainValue.{PlainValue, null_value, value_at}
-use Rattle.arrow_data.specs.Slots.{is_valid_at, or_null, slots}
-use Rattle.arrow_data.specs.declared.form.Form.{Form}
-use Rattle.arrow_data.specs.declared.form.Form.TheVariants as forms
-use Rattle.arrow_data.specs.declared.form.ListForm.TheVariants as lists
+use Rattle.arrow_layout.specs.PlainValue.{PlainValue, null_value, value_at}
+use Rattle.arrow_layout.specs.Slots.{is_valid_at, or_null, slots}
+use Rattle.arrow_layout.specs.declared.form.Form.{Form}
+use Rattle.arrow_layout.specs.declared.form.Form.TheVariants as forms
+use Rattle.arrow_layout.specs.declared.form.ListForm.TheVariants as lists
 use Rattle.arrow_data.proofs.Shown.{at_slots, length_slots}
 use Rattle.arrow_data.specs.Listed.{dictionary_for}
 use Rattle.arrow_body_reader.specs.Held.{bytes_in, count_of}

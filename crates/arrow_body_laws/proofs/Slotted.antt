@@ -10,17 +10,17 @@ use Rattle.std.proofs.lemmas.List.Sums.{sum_by-cons}
 use Rattle.arrow_bits.specs.Bitmap.{bit_of}
 use Rattle.arrow_bits.specs.Numbers.{FitsInt, int_of}
 use Rattle.arrow_types.specs.Field.{FieldTree, width}
-use Rattle.arrow_data.specs.declared.form.NumberForm.TheVariants as numbers
-use Rattle.arrow_data.specs.declared.form.NumberForm.{NumberForm}
+use Rattle.arrow_layout.specs.declared.form.NumberForm.TheVariants as numbers
+use Rattle.arrow_layout.specs.declared.form.NumberForm.{NumberForm}
 use Rattle.arrow_types.specs.declared.data_type.BitWidth.TheVariants as widths
-use Rattle.arrow_data.specs.Form.{greatest_offset, number_width, has_sign}
-use Rattle.arrow_data.specs.PlainValue.{PlainValue, PlainValues, null_value, bool_value, int_value, binary_value, utf8_value, list_value, struct_value, no_values, more_values, values_of, value_at, is_null_value, field_value, nth_value, list_of_values}
-use Rattle.arrow_data.specs.Layout.{list_offsets}
-use Rattle.arrow_data.specs.Slots.{is_valid_at, or_null, bool_slot, int_slot, fixed_slot, binary_slot, utf8_slot, list_slot, struct_slot, slots, place_of, range_of}
-use Rattle.arrow_data.specs.declared.form.Form.TheVariants as forms
-use Rattle.arrow_data.specs.declared.form.ListForm.{ListForm}
-use Rattle.arrow_data.specs.declared.form.ListForm.TheVariants as lists
-use Rattle.arrow_data.specs.declared.form.OffsetWidth.{OffsetWidth}
+use Rattle.arrow_layout.specs.Form.{greatest_offset, number_width, has_sign}
+use Rattle.arrow_layout.specs.PlainValue.{PlainValue, PlainValues, null_value, bool_value, int_value, binary_value, utf8_value, list_value, struct_value, no_values, more_values, values_of, value_at, is_null_value, field_value, nth_value, list_of_values}
+use Rattle.arrow_layout.specs.Layout.{list_offsets}
+use Rattle.arrow_layout.specs.Slots.{is_valid_at, or_null, bool_slot, int_slot, fixed_slot, binary_slot, utf8_slot, list_slot, struct_slot, slots, place_of, range_of}
+use Rattle.arrow_layout.specs.declared.form.Form.TheVariants as forms
+use Rattle.arrow_layout.specs.declared.form.ListForm.{ListForm}
+use Rattle.arrow_layout.specs.declared.form.ListForm.TheVariants as lists
+use Rattle.arrow_layout.specs.declared.form.OffsetWidth.{OffsetWidth}
 use Rattle.arrow_data.proofs.Shown.{length_slots}
 use Rattle.arrow_data.proofs.Lists.{values_again}
 use Rattle.arrow_body_laws.specs.Packed.{packed, offsets_bytes}

@@ -11,12 +11,12 @@ use Rattle.arrow_types.specs.Field.{FieldTree, FieldHeader, none, more}
 use Rattle.arrow_types.specs.declared.field.Encoding.{Encoding}
 use Rattle.arrow_types.specs.declared.node.FieldNode.{FieldNode}
 use Rattle.arrow_types.specs.declared.node.Buffer.{Buffer}
-use Rattle.arrow_data.specs.Form.{node_form, number_width}
-use Rattle.arrow_data.specs.Layout.{IsLaid, IsText, buffer}
-use Rattle.arrow_data.specs.PlainValue.{PlainValue, is_null_value}
-use Rattle.arrow_data.specs.declared.form.Form.{Form}
-use Rattle.arrow_data.specs.declared.form.Form.TheVariants as forms
-use Rattle.arrow_data.specs.declared.form.ListForm.TheVariants as lists
+use Rattle.arrow_layout.specs.Form.{node_form, number_width}
+use Rattle.arrow_layout.specs.Layout.{IsLaid, IsText, buffer}
+use Rattle.arrow_layout.specs.PlainValue.{PlainValue, is_null_value}
+use Rattle.arrow_layout.specs.declared.form.Form.{Form}
+use Rattle.arrow_layout.specs.declared.form.Form.TheVariants as forms
+use Rattle.arrow_layout.specs.declared.form.ListForm.TheVariants as lists
 use Rattle.arrow_body_reader.specs.Held.{IsHeld}
 use Rattle.arrow_body_reader.specs.Sound.{IsCounted, IsNodeLaid, IsNodeText, lengths_of, own_bytes, slots_at}
 use Rattle.arrow_body_reader.specs.Taken.{AllNodes, IfFlattened, below, flattened, own_buffers, taken_buffers, taken_nodes}

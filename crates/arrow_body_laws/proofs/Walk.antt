@@ -9,11 +9,11 @@ use Rattle.arrow_types.specs.Field.{FieldTree, FieldHeader, none, more}
 use Rattle.arrow_types.specs.declared.field.Encoding.{Encoding}
 use Rattle.arrow_types.specs.declared.node.FieldNode.{FieldNode}
 use Rattle.arrow_types.specs.declared.node.Buffer.{Buffer}
-use Rattle.arrow_data.specs.Form.{buffers_of, node_form}
-use Rattle.arrow_data.specs.PlainValue.{PlainValue}
-use Rattle.arrow_data.specs.declared.form.Form.{Form}
-use Rattle.arrow_data.specs.declared.form.Form.TheVariants as forms
-use Rattle.arrow_data.specs.declared.form.ListForm.TheVariants as lists
+use Rattle.arrow_layout.specs.Form.{buffers_of, node_form}
+use Rattle.arrow_layout.specs.PlainValue.{PlainValue}
+use Rattle.arrow_layout.specs.declared.form.Form.{Form}
+use Rattle.arrow_layout.specs.declared.form.Form.TheVariants as forms
+use Rattle.arrow_layout.specs.declared.form.ListForm.TheVariants as lists
 use Rattle.arrow_body_reader.specs.Held.{IsHeld, bytes_in}
 use Rattle.arrow_body_reader.specs.Sound.{node_at, own_bytes}
 use Rattle.arrow_body_reader.specs.Taken.{IfFlattened, flattened, own_buffers, taken_buffers, taken_nodes}

@@ -8,14 +8,14 @@ use Rattle.arrow_bits.specs.Bitmap.{bit_of}
 use Rattle.arrow_types.specs.Field.{FieldTree, FieldHeader, none, more}
 use Rattle.arrow_types.specs.declared.node.FieldNode.{FieldNode}
 use Rattle.arrow_types.specs.declared.node.Buffer.{Buffer}
-use Rattle.arrow_data.specs.Form.{node_form, number_width, offset_bytes}
-use Rattle.arrow_data.specs.Layout.{buffer, child_count}
-use Rattle.arrow_data.specs.Slots.{is_valid_at, place_of}
-use Rattle.arrow_data.specs.declared.form.Form.{Form}
-use Rattle.arrow_data.specs.declared.form.Form.TheVariants as forms
-use Rattle.arrow_data.specs.declared.form.ListForm.{ListForm}
-use Rattle.arrow_data.specs.declared.form.ListForm.TheVariants as lists
-use Rattle.arrow_data.specs.declared.form.OffsetWidth.{OffsetWidth}
+use Rattle.arrow_layout.specs.Form.{node_form, number_width, offset_bytes}
+use Rattle.arrow_layout.specs.Layout.{buffer, child_count}
+use Rattle.arrow_layout.specs.Slots.{is_valid_at, place_of}
+use Rattle.arrow_layout.specs.declared.form.Form.{Form}
+use Rattle.arrow_layout.specs.declared.form.Form.TheVariants as forms
+use Rattle.arrow_layout.specs.declared.form.ListForm.{ListForm}
+use Rattle.arrow_layout.specs.declared.form.ListForm.TheVariants as lists
+use Rattle.arrow_layout.specs.declared.form.OffsetWidth.{OffsetWidth}
 use Rattle.arrow_body_reader.specs.Held.{count_of}
 use Rattle.arrow_body_reader.specs.Sound.{lengths_of, node_at, nulls_of, own_bytes, slots_at}
 use Rattle.arrow_body_reader.specs.Taken.{AllNodes, below, flattened, own_buffers, taken_nodes, taken_buffers}

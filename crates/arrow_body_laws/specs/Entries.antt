@@ -1,8 +1,8 @@
 -- When dictionaries have the entries of indices (Columnar Format, "Dictionary-encoded Layout").
 use Rattle.std.specs.Prelude.{◌≡◌, ℤ, List, [], ◌∷◌, map, ⊤, Option, Some}
 use Rattle.arrow_types.specs.Field.{FieldTree, none, more}
-use Rattle.arrow_data.specs.PlainValue.{PlainValue}
-use Rattle.arrow_data.specs.Resolve.{resolve}
+use Rattle.arrow_layout.specs.PlainValue.{PlainValue}
+use Rattle.arrow_layout.specs.Resolve.{resolve}
 
 -- each of the values resolves
 abbrev pub ResolveTo : (PlainValue → Option PlainValue) → List PlainValue → Type 0

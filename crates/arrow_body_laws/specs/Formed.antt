@@ -1,7 +1,7 @@
 -- Types with the fields below them that they need (Columnar Format, "Physical Memory Layout").
 use Rattle.std.specs.Prelude.{⊤}
 use Rattle.arrow_types.specs.Field.{FieldTree, none, more}
-use Rattle.arrow_data.specs.Form.{HasFieldsOf, form_of}
+use Rattle.arrow_layout.specs.Form.{HasFieldsOf, form_of}
 use Rattle.arrow_body_reader.specs.Taken.{IfFlattened}
 
 -- each of the fields has the children that its type needs, on every level that is stored

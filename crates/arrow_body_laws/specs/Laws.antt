@@ -3,8 +3,8 @@ use Rattle.std.specs.Prelude.{◌≡◌, ◌<◌, ℕ, ℤ, List, length, map}
 use Rattle.std.specs.List.{AllByRecursion}
 use Rattle.arrow_types.specs.Field.{FieldTree}
 use Rattle.arrow_data.specs.Column.{Agree, AreOf, Column, IsColumn, ValueList, listed_of}
-use Rattle.arrow_data.specs.Node.{AreBytes}
-use Rattle.arrow_data.specs.PlainValue.{PlainValue}
+use Rattle.arrow_layout.specs.ByteRanges.{AreBytes}
+use Rattle.arrow_layout.specs.PlainValue.{PlainValue}
 use Rattle.arrow_data.specs.Listed.{values_by}
 use Rattle.arrow_body_reader.specs.Sound.{AreIndexed, AreLaid, AreText, columns_of}
 use Rattle.arrow_body_reader.specs.Taken.{taken_buffers, taken_nodes}

@@ -3,8 +3,8 @@ use Rattle.std.specs.Prelude.{ℕ, ◌+◌, ◌*◌, ℤ, Bool, cond, List, [], 
 use Rattle.std.specs.List.{flat_map, range_with_len}
 use Rattle.std.specs.Int.{div_ceil}
 use Rattle.arrow_bits.specs.Numbers.{int_bytes, number_bytes}
-use Rattle.arrow_data.specs.Form.{offset_bytes}
-use Rattle.arrow_data.specs.declared.form.OffsetWidth.{OffsetWidth}
+use Rattle.arrow_layout.specs.Form.{offset_bytes}
+use Rattle.arrow_layout.specs.declared.form.OffsetWidth.{OffsetWidth}
 
 -- bits as a single number, the first the least significant
 abbrev pub number_of_bits : List Bool → ℕ

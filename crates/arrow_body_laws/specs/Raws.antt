@@ -2,13 +2,13 @@
 use Rattle.std.specs.Prelude.{◌≡◌, ◌≤◌, ℕ, ℤ, pos, Bool, false, List, [], ◌∷◌, length, map, replicate, ⊤}
 use Rattle.std.specs.List.{AllByRecursion, flat_map, range_with_len, sum_by}
 use Rattle.arrow_types.specs.Field.{FieldTree, none, more, width}
-use Rattle.arrow_data.specs.Fits.{HoldsBinary, HoldsInt, HoldsUtf8}
-use Rattle.arrow_data.specs.Form.{HoldsList, greatest_offset, node_form}
-use Rattle.arrow_data.specs.PlainValue.{PlainValue, null_value, bool_value, int_value, binary_value, utf8_value, list_value, struct_value, field_value, list_of_values}
-use Rattle.arrow_data.specs.declared.form.Form.{Form}
-use Rattle.arrow_data.specs.declared.form.Form.TheVariants as forms
-use Rattle.arrow_data.specs.declared.form.ListForm.{ListForm}
-use Rattle.arrow_data.specs.declared.form.ListForm.TheVariants as lists
+use Rattle.arrow_layout.specs.Fits.{HoldsBinary, HoldsInt, HoldsUtf8}
+use Rattle.arrow_layout.specs.Form.{HoldsList, greatest_offset, node_form}
+use Rattle.arrow_layout.specs.PlainValue.{PlainValue, null_value, bool_value, int_value, binary_value, utf8_value, list_value, struct_value, field_value, list_of_values}
+use Rattle.arrow_layout.specs.declared.form.Form.{Form}
+use Rattle.arrow_layout.specs.declared.form.Form.TheVariants as forms
+use Rattle.arrow_layout.specs.declared.form.ListForm.{ListForm}
+use Rattle.arrow_layout.specs.declared.form.ListForm.TheVariants as lists
 use Rattle.arrow_body_reader.specs.Taken.{IfFlattened}
 
 -- the truth value of a slot, false under a null

@@ -3,12 +3,12 @@ use Rattle.std.specs.Prelude.{ℕ, ◌+◌, ◌*◌, nat_eq, if◌then◌else◌
 use Rattle.std.specs.List.{sum_by}
 use Rattle.std.specs.Int.{div_ceil}
 use Rattle.arrow_types.specs.Field.{FieldTree, none, more}
-use Rattle.arrow_data.specs.Form.{node_form, number_width, offset_bytes}
-use Rattle.arrow_data.specs.PlainValue.{PlainValue}
-use Rattle.arrow_data.specs.declared.form.Form.{Form}
-use Rattle.arrow_data.specs.declared.form.Form.TheVariants as forms
-use Rattle.arrow_data.specs.declared.form.ListForm.{ListForm}
-use Rattle.arrow_data.specs.declared.form.ListForm.TheVariants as lists
+use Rattle.arrow_layout.specs.Form.{node_form, number_width, offset_bytes}
+use Rattle.arrow_layout.specs.PlainValue.{PlainValue}
+use Rattle.arrow_layout.specs.declared.form.Form.{Form}
+use Rattle.arrow_layout.specs.declared.form.Form.TheVariants as forms
+use Rattle.arrow_layout.specs.declared.form.ListForm.{ListForm}
+use Rattle.arrow_layout.specs.declared.form.ListForm.TheVariants as lists
 use Rattle.arrow_body_laws.specs.Raws.{last_offset, raws_below}
 use Rattle.arrow_body_laws.specs.Stored.{nulls_in, rounded}
 

@@ -8,9 +8,9 @@ use Rattle.arrow_types.specs.declared.field.Field.{Field, the_lemmas}
 use Rattle.arrow_types.specs.declared.node.FieldNode.{FieldNode}
 use Rattle.arrow_types.specs.declared.node.Buffer.{Buffer}
 use Rattle.arrow_data.specs.Column.{Column, ValueList, AreOf, counts_of}
-use Rattle.arrow_data.specs.Form.{form_of}
+use Rattle.arrow_layout.specs.Form.{form_of}
 use Rattle.arrow_data.specs.Parts.{node_column, value_slot, index_slot, values_in, AreChildren}
-use Rattle.arrow_data.specs.PlainValue.{PlainValue}
+use Rattle.arrow_layout.specs.PlainValue.{PlainValue}
 use Rattle.arrow_data.proofs.Shown.{length_slots}
 use Rattle.arrow_data.specs.Listed.{dictionary_for}
 use Rattle.arrow_body_reader.specs.Sound.{AreFit, IsNodeIndexed, IsNodeLaid, IsNodeText, IsSound, columns_of, if_flattened, lengths_of, own_bytes, slots_at}

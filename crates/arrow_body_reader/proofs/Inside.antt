@@ -13,16 +13,16 @@ use Rattle.arrow_types.specs.declared.field.Encoding.{Encoding}
 use Rattle.arrow_types.specs.declared.node.FieldNode.{FieldNode}
 use Rattle.arrow_types.specs.declared.node.Buffer.{Buffer}
 use Rattle.arrow_data.specs.Column.{ValueList}
-use Rattle.arrow_data.specs.Form.{node_form, number_width, offset_bytes}
-use Rattle.arrow_data.specs.Layout.{buffer, child_count, list_offsets, HoldsSlots}
-use Rattle.arrow_data.specs.Node.{AreBytes}
-use Rattle.arrow_data.specs.Slots.{HasBits, HasItemPlaces, HasOffsets}
-use Rattle.arrow_data.specs.declared.form.Form.{Form}
-use Rattle.arrow_data.specs.declared.form.Form.TheVariants as forms
-use Rattle.arrow_data.specs.declared.form.ListForm.{ListForm}
-use Rattle.arrow_data.specs.declared.form.ListForm.TheVariants as lists
-use Rattle.arrow_data.specs.declared.form.OffsetWidth.{OffsetWidth}
-use Rattle.arrow_data.proofs.Shown.{items_inside}
+use Rattle.arrow_layout.specs.Form.{node_form, number_width, offset_bytes}
+use Rattle.arrow_layout.specs.Layout.{buffer, child_count, list_offsets, HoldsSlots}
+use Rattle.arrow_layout.specs.ByteRanges.{AreBytes}
+use Rattle.arrow_layout.specs.Slots.{HasBits, HasItemPlaces, HasOffsets}
+use Rattle.arrow_layout.specs.declared.form.Form.{Form}
+use Rattle.arrow_layout.specs.declared.form.Form.TheVariants as forms
+use Rattle.arrow_layout.specs.declared.form.ListForm.{ListForm}
+use Rattle.arrow_layout.specs.declared.form.ListForm.TheVariants as lists
+use Rattle.arrow_layout.specs.declared.form.OffsetWidth.{OffsetWidth}
+use Rattle.arrow_layout.proofs.Widths.{items_inside}
 use Rattle.arrow_body_reader.proofs.Columns.{sound_inside, sound_next}
 use Rattle.arrow_body_reader.proofs.Taking.{buffer_after, node_after, there_parts}
 use Rattle.arrow_body_reader.specs.Held.{bytes_in, count_of}

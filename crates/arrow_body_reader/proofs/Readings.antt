@@ -8,15 +8,15 @@ use Rattle.arrow_types.specs.declared.field.Encoding.{Encoding}
 use Rattle.arrow_types.specs.declared.node.FieldNode.{FieldNode}
 use Rattle.arrow_types.specs.declared.node.Buffer.{Buffer}
 use Rattle.arrow_data.specs.Column.{Column, ValueList, AreOf}
-use Rattle.arrow_data.specs.Form.{form_of}
-use Rattle.arrow_data.specs.Layout.{buffer, list_offsets, IsIndexed}
+use Rattle.arrow_layout.specs.Form.{form_of}
+use Rattle.arrow_layout.specs.Layout.{buffer, list_offsets, IsIndexed}
 use Rattle.arrow_data.specs.Listed.{listed, ResolvesBy, dictionary_for, values_by}
 use Rattle.arrow_data.specs.Parts.{node_column, value_slot, index_slot, entry_of_slot, values_in}
-use Rattle.arrow_data.specs.PlainValue.{PlainValue, value_at, list_value, struct_value, values_of}
-use Rattle.arrow_data.specs.Resolve.{resolve, resolve_items, resolve_parts, before}
-use Rattle.arrow_data.specs.Slots.{is_valid_at, item_place, index_width}
-use Rattle.arrow_data.specs.declared.form.Form.{Form}
-use Rattle.arrow_data.specs.declared.form.Form.TheVariants as forms
+use Rattle.arrow_layout.specs.PlainValue.{PlainValue, value_at, list_value, struct_value, values_of}
+use Rattle.arrow_layout.specs.Resolve.{resolve, resolve_items, resolve_parts, before}
+use Rattle.arrow_layout.specs.Slots.{is_valid_at, item_place, index_width}
+use Rattle.arrow_layout.specs.declared.form.Form.{Form}
+use Rattle.arrow_layout.specs.declared.form.Form.TheVariants as forms
 use Rattle.arrow_data.proofs.Resolving.{slots_resolve, null_resolves, shown_resolves, plain_resolves, items_resolve, range_resolves, at_resolves, index_resolves}
 use Rattle.arrow_body_reader.proofs.Columns.{columns_typed}
 use Rattle.arrow_body_reader.specs.Sound.{IsNodeIndexed, columns_of, if_flattened, own_bytes, slots_at}

@@ -5,7 +5,7 @@ use Rattle.std.proofs.Math.Seq.{drop-append_seam}
 use Rattle.std.proofs.lemmas.List.{drop-drop, length-append}
 use Rattle.arrow_types.specs.Field.{FieldTree, FieldHeader, none, more}
 use Rattle.arrow_types.specs.declared.field.Encoding.{Encoding}
-use Rattle.arrow_data.specs.Shared.{NodeType, node_types, types_below}
+use Rattle.arrow_layout.specs.Shared.{NodeType, node_types, types_below}
 use Rattle.arrow_body_reader.specs.Taken.{IfFlattened, below, flattened, taken_nodes}
 use Rattle.arrow_body_reader.specs.Types.{HaveTypes}
 use Rattle.arrow_body_reader.proofs.Taking.{nodes_below}

@@ -2,8 +2,8 @@
 use Rattle.std.specs.Prelude.{◌≡◌, ◌≤◌, ◌+◌, ℕ, ℤ, pos, negsuc, ◌≤ℤ◌, ◌<ℤ◌, List, length, map, take, drop}
 use Rattle.std.specs.List.{AllByRecursion}
 use Rattle.arrow_types.specs.declared.node.Buffer.{Buffer}
-use Rattle.arrow_data.specs.Node.{bytes_of, IsInside}
-use Rattle.arrow_data.specs.declared.byte_range.ByteRange.{ByteRange}
+use Rattle.arrow_layout.specs.ByteRanges.{bytes_of, IsInside}
+use Rattle.arrow_layout.specs.declared.byte_range.ByteRange.{ByteRange}
 
 -- a number that should not be negative, 0 if it is
 abbrev pub count_of : ℤ → ℕ

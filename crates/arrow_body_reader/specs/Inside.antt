@@ -7,16 +7,16 @@ use Rattle.arrow_types.specs.Field.{FieldHeader, FieldTree}
 use Rattle.arrow_types.specs.declared.node.FieldNode.{FieldNode}
 use Rattle.arrow_types.specs.declared.node.Buffer.{Buffer}
 use Rattle.arrow_data.specs.Column.{AreOf, ValueList, counts_of}
-use Rattle.arrow_data.specs.Form.{node_form, number_width, offset_bytes}
-use Rattle.arrow_data.specs.Layout.{buffer, child_count}
+use Rattle.arrow_layout.specs.Form.{node_form, number_width, offset_bytes}
+use Rattle.arrow_layout.specs.Layout.{buffer, child_count}
 use Rattle.arrow_data.specs.Listed.{ResolvesBy}
-use Rattle.arrow_data.specs.Node.{AreBytes}
-use Rattle.arrow_data.specs.Slots.{place_of}
-use Rattle.arrow_data.specs.declared.form.Form.{Form}
-use Rattle.arrow_data.specs.declared.form.Form.TheVariants as forms
-use Rattle.arrow_data.specs.declared.form.ListForm.{ListForm}
-use Rattle.arrow_data.specs.declared.form.ListForm.TheVariants as lists
-use Rattle.arrow_data.specs.declared.form.OffsetWidth.{OffsetWidth}
+use Rattle.arrow_layout.specs.ByteRanges.{AreBytes}
+use Rattle.arrow_layout.specs.Slots.{place_of}
+use Rattle.arrow_layout.specs.declared.form.Form.{Form}
+use Rattle.arrow_layout.specs.declared.form.Form.TheVariants as forms
+use Rattle.arrow_layout.specs.declared.form.ListForm.{ListForm}
+use Rattle.arrow_layout.specs.declared.form.ListForm.TheVariants as lists
+use Rattle.arrow_layout.specs.declared.form.OffsetWidth.{OffsetWidth}
 use Rattle.arrow_body_reader.specs.Held.{IsHeld}
 use Rattle.arrow_body_reader.specs.Sound.{IsSound, columns_of, lengths_of, node_at, own_bytes, slots_at}
 use Rattle.arrow_body_reader.specs.Taken.{AllNodes, below, own_buffers}

@@ -4,10 +4,10 @@ use Rattle.arrow_types.specs.Field.{FieldTree, FieldHeader}
 use Rattle.arrow_types.specs.View.{field_view}
 use Rattle.arrow_data.specs.Column.{Column}
 use Rattle.arrow_data.specs.Listed.{dictionary_for}
-use Rattle.arrow_data.specs.Node.{bytes_of}
+use Rattle.arrow_layout.specs.ByteRanges.{bytes_of}
 use Rattle.arrow_data.specs.Parts.{node_column, values_in}
-use Rattle.arrow_data.specs.Shared.{node_type}
-use Rattle.arrow_data.specs.declared.byte_range.ByteRange.{ByteRange}
+use Rattle.arrow_layout.specs.Shared.{node_type}
+use Rattle.arrow_layout.specs.declared.byte_range.ByteRange.{ByteRange}
 use Rattle.arrow_body_reader.specs.declared.held.BufferRanges.{BufferRanges}
 use Rattle.arrow_body_reader.specs.declared.place.NodePlace.{NodePlace}
 use Rattle.arrow_body_reader.specs.Held.{AreRangesOf}

@@ -8,10 +8,10 @@ use Rattle.arrow_types.specs.declared.field.Encoding.{Encoding}
 use Rattle.arrow_types.specs.declared.node.FieldNode.{FieldNode}
 use Rattle.arrow_types.specs.declared.node.Buffer.{Buffer}
 use Rattle.arrow_data.specs.Column.{Column, ValueList}
-use Rattle.arrow_data.specs.Form.{node_form}
-use Rattle.arrow_data.specs.declared.form.Form.{Form}
-use Rattle.arrow_data.specs.declared.form.Form.TheVariants as forms
-use Rattle.arrow_data.specs.Layout.{IsLaid, IsText, IsIndexed, buffer}
+use Rattle.arrow_layout.specs.Form.{node_form}
+use Rattle.arrow_layout.specs.declared.form.Form.{Form}
+use Rattle.arrow_layout.specs.declared.form.Form.TheVariants as forms
+use Rattle.arrow_layout.specs.Layout.{IsLaid, IsText, IsIndexed, buffer}
 use Rattle.arrow_data.specs.Listed.{IsNodeFit, dictionary_for}
 use Rattle.arrow_data.specs.Parts.{node_column, values_in}
 use Rattle.arrow_body_reader.specs.declared.body.BodyFault.{BodyFault}

@@ -5,7 +5,7 @@ use Rattle.arrow_types.specs.Field.{FieldHeader, FieldTree, none, more}
 use Rattle.arrow_types.specs.declared.field.Encoding.{Encoding}
 use Rattle.arrow_types.specs.declared.node.FieldNode.{FieldNode}
 use Rattle.arrow_types.specs.declared.node.Buffer.{Buffer}
-use Rattle.arrow_data.specs.Layout.{buffer_count}
+use Rattle.arrow_layout.specs.Layout.{buffer_count}
 
 -- A number of nodes or buffers below a field: 0 for a dictionary-encoded field, since the children of its values come
 -- with the dictionary.

@@ -1,7 +1,7 @@
 -- The types of the nodes that fields take. Only the crate's private clauses cite this.
 use Rattle.std.specs.Prelude.{◌≡◌, ◌+◌, List, drop, ⊤, Some, slice_get}
 use Rattle.arrow_types.specs.Field.{FieldTree, none, more}
-use Rattle.arrow_data.specs.Shared.{NodeType, node_type}
+use Rattle.arrow_layout.specs.Shared.{NodeType, node_type}
 use Rattle.arrow_body_reader.specs.Taken.{IfFlattened, flattened, taken_nodes}
 
 -- each of these fields, on every level, has its type at the position of its node

@@ -5,13 +5,14 @@ ghost use Rattle.arrow_types.specs.View.{fields_view};
 ghost use Rattle.arrow_body_reader.specs.Sound.{AreFit, Explains, IsExplained, IsSound, columns_of};
 ghost use Rattle.arrow_body_reader.specs.Sound.{number_of};
 ghost use Rattle.arrow_body_reader.specs.Look.{IsReady};
-ghost use Rattle.arrow_data.specs.Shared.{node_types};
+ghost use Rattle.arrow_layout.specs.Shared.{node_types};
 
 use crate::body_context::BodyContext;
 use crate::build::Builder;
 use crate::load_nodes::load_nodes;
 use crate::taken::Left;
-use arrow_data::{Array, Dictionary, DictionaryMap, SharedBody, SharedType, shared_types};
+use arrow_data::{Array, Dictionary, DictionaryMap};
+use arrow_layout::{SharedBody, SharedType, shared_types};
 use arrow_types::{Buffer, Field, FieldNode};
 use bytes::Bytes;
 use std::alloc::{AllocError, Global};

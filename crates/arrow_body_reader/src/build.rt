@@ -3,15 +3,17 @@
 ghost use Rattle.std.specs.Prelude.{◌≡◌, ◌++◌, IfOk, IfSome, IsTrue, MatchOption, Some, ⊤};
 ghost use Rattle.std.specs.Prelude.{slice_get, [], ◌∷◌};
 ghost use Rattle.arrow_data.specs.Listed.{IsNodeFit};
-ghost use Rattle.arrow_data.specs.Shared.{node_type};
+ghost use Rattle.arrow_layout.specs.Shared.{node_type};
 ghost use Rattle.arrow_body_reader.specs.Leaf.{IsLeafNode};
 ghost use Rattle.arrow_body_reader.specs.Place.{AreRangesAt, IsIndexedAt, IsLaidAt, IsTextAt};
-ghost use Rattle.arrow_body_reader.specs.Place.{children_at, column_at, columns_below, head_at, len_at};
+ghost use Rattle.arrow_body_reader.specs.Place.{children_at, column_at, columns_below, head_at};
+ghost use Rattle.arrow_body_reader.specs.Place.{len_at};
 
-use crate::load_nodes::OwnNode;
+use crate::own_node::OwnNode;
 use crate::place::{CheckedNode, NodePlace};
-use arrow_data::form::has_own_fields;
-use arrow_data::{Array, ChildData, NodeBuffers, SharedBody};
+use arrow_data::{Array, ChildData};
+use arrow_layout::form::has_own_fields;
+use arrow_layout::{NodeBuffers, SharedBody};
 use std::alloc::Global;
 
 /// Makes the arrays of fields from ranges of a body, which they share.

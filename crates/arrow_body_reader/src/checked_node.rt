@@ -2,10 +2,10 @@
 
 ghost use Rattle.std.specs.Prelude.{◌≡◌, ◌≤◌, ◌↔◌, IsTrue, MatchOption, length, [], ◌∷◌};
 ghost use Rattle.std.specs.List.{AllByRecursion};
-ghost use Rattle.arrow_data.specs.Form.{buffers_of};
-ghost use Rattle.arrow_data.specs.Layout.{IsLaid, buffer};
-ghost use Rattle.arrow_data.specs.Node.{IsInside};
-ghost use Rattle.arrow_data.specs.Slots.{HasBits};
+ghost use Rattle.arrow_layout.specs.Form.{buffers_of};
+ghost use Rattle.arrow_layout.specs.Layout.{IsLaid, buffer};
+ghost use Rattle.arrow_layout.specs.ByteRanges.{IsInside};
+ghost use Rattle.arrow_layout.specs.Slots.{HasBits};
 ghost use Rattle.arrow_types.specs.Field.{fields_of};
 ghost use Rattle.arrow_types.specs.View.{field_view};
 ghost use Rattle.arrow_body_reader.specs.Held.{count_of};
@@ -18,9 +18,9 @@ ghost use Rattle.arrow_body_reader.specs.Taken.{AreThere, own_buffers};
 use crate::held::{BufferRanges, own_ranges};
 use crate::place::{CheckedNode, NodePlace};
 use arrow_bits::Bits;
-use arrow_data::form::Form;
-use arrow_data::layout::{has_bits, has_bools, has_fixed, has_lists, has_strings};
-use arrow_data::{ItemPlaces, StringBuffers};
+use arrow_layout::form::Form;
+use arrow_layout::layout::{has_bits, has_bools, has_fixed, has_lists, has_strings};
+use arrow_layout::{ItemPlaces, StringBuffers};
 use arrow_types::FieldNode;
 
 /// How many slots the first node has, 0 if its length is not a valid number.

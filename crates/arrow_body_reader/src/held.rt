@@ -2,14 +2,14 @@
 
 ghost use Rattle.std.specs.Prelude.{◌≡◌, ◌≤◌, ◌<◌, MatchOption, length, take};
 ghost use Rattle.std.specs.List.{AllByRecursion};
-ghost use Rattle.arrow_data.specs.Form.{list_buffers};
-ghost use Rattle.arrow_data.specs.Layout.{buffer, list_offsets};
-ghost use Rattle.arrow_data.specs.Node.{bytes_of, IsInside};
+ghost use Rattle.arrow_layout.specs.Form.{list_buffers};
+ghost use Rattle.arrow_layout.specs.Layout.{buffer, list_offsets};
+ghost use Rattle.arrow_layout.specs.ByteRanges.{bytes_of, IsInside};
 ghost use Rattle.arrow_body_reader.specs.Held.{AreRangesOf, IsHeld, bytes_in};
 ghost use Rattle.arrow_body_reader.specs.Place.{buffers_in};
 
-use arrow_data::ByteRange;
-use arrow_data::form::ListForm;
+use arrow_layout::ByteRange;
+use arrow_layout::form::ListForm;
 use arrow_types::Buffer;
 
 /// Where a buffer lies, None if it is not inside the body.

@@ -2,17 +2,18 @@
 
 ghost use Rattle.std.specs.Prelude.{◌≤◌, ◌↔◌, IsTrue, Some, length};
 ghost use Rattle.std.specs.List.{AllByRecursion};
-ghost use Rattle.arrow_data.specs.Layout.{HasFixed, buffer};
-ghost use Rattle.arrow_data.specs.Node.{IsInside};
+ghost use Rattle.arrow_layout.specs.Layout.{HasFixed, buffer};
+ghost use Rattle.arrow_layout.specs.ByteRanges.{IsInside};
 ghost use Rattle.arrow_data.specs.Parts.{values_in};
-ghost use Rattle.arrow_data.specs.Slots.{AreIndices, index_width};
+ghost use Rattle.arrow_layout.specs.Slots.{AreIndices, index_width};
 ghost use Rattle.arrow_data.specs.Listed.{dictionary_for};
 ghost use Rattle.arrow_body_reader.specs.Place.{buffers_in};
 
 use crate::held::BufferRanges;
-use arrow_data::form::int_width;
-use arrow_data::layout::are_indices;
-use arrow_data::{DictionaryMap, NumberBuffers};
+use arrow_data::DictionaryMap;
+use arrow_layout::NumberBuffers;
+use arrow_layout::form::int_width;
+use arrow_layout::layout::are_indices;
 use arrow_types::Encoding;
 
 /// Whether the valid slots of a node with this encoding have their values; without a dictionary

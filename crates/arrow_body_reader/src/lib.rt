@@ -37,6 +37,7 @@ mod held;
 mod indexed;
 pub mod laws;
 mod load_nodes;
+mod own_node;
 mod place;
 mod taken;
 mod text;

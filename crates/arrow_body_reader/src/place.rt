@@ -1,14 +1,14 @@
 //! A field's own node at its position in a batch.
 
 ghost use Rattle.std.specs.Prelude.{◌≡◌};
-ghost use Rattle.arrow_data.specs.Form.{node_form};
+ghost use Rattle.arrow_layout.specs.Form.{node_form};
 ghost use Rattle.arrow_types.specs.View.{field_view};
 ghost use Rattle.arrow_body_reader.specs.Taken.{own_buffers};
 
 use crate::body_context::BodyContext;
 use crate::taken::Left;
-use arrow_data::ByteRange;
-use arrow_data::form::{Form, node_form};
+use arrow_layout::ByteRange;
+use arrow_layout::form::{Form, node_form};
 use arrow_types::Field;
 
 /// A field, the nodes and buffers from its own on, and what they refer to.

@@ -4,7 +4,7 @@ ghost use Rattle.std.specs.Prelude.{◌≡◌, ◌≤◌, length, drop};
 ghost use Rattle.arrow_types.specs.View.{field_view, fields_view};
 ghost use Rattle.arrow_body_reader.specs.Taken.{below};
 
-use arrow_data::SharedType;
+use arrow_layout::SharedType;
 use arrow_types::{Buffer, Field, FieldNode};
 
 /// Nodes and buffers that are left to be taken, and the types of these nodes if arrays are made.

@@ -2,15 +2,15 @@
 
 ghost use Rattle.std.specs.Prelude.{◌≤◌, ◌↔◌, IsTrue, length, [], ◌∷◌};
 ghost use Rattle.std.specs.List.{AllByRecursion};
-ghost use Rattle.arrow_data.specs.Layout.{HoldsSlots, HoldsTexts};
-ghost use Rattle.arrow_data.specs.Node.{IsInside};
-ghost use Rattle.arrow_data.specs.declared.form.Form.TheVariants as forms;
+ghost use Rattle.arrow_layout.specs.Layout.{HoldsSlots, HoldsTexts};
+ghost use Rattle.arrow_layout.specs.ByteRanges.{IsInside};
+ghost use Rattle.arrow_layout.specs.declared.form.Form.TheVariants as forms;
 ghost use Rattle.arrow_body_reader.specs.Place.{buffers_in};
 
 use crate::held::BufferRanges;
-use arrow_data::StringBuffers;
-use arrow_data::form::OffsetWidth;
-use arrow_data::layout::are_texts;
+use arrow_layout::StringBuffers;
+use arrow_layout::form::OffsetWidth;
+use arrow_layout::layout::are_texts;
 
 /// Whether the valid slots of a node of texts are UTF-8.
 pub(crate) fn are_texts_in(width: OffsetWidth, len: usize, held: BufferRanges<'_>) -> bool

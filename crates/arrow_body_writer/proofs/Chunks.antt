@@ -6,11 +6,11 @@ use Rattle.std.proofs.lemmas.Grind.{flat_map-append}
 use Rattle.std.proofs.lemmas.List.{take_all}
 use Rattle.arrow_types.specs.declared.node.FieldNode.{FieldNode}
 use Rattle.arrow_data.specs.Column.{Column}
-use Rattle.arrow_data.specs.Form.{buffers_of, node_form}
-use Rattle.arrow_data.specs.PlainValue.{PlainValue}
-use Rattle.arrow_data.specs.declared.form.Form.{Form}
-use Rattle.arrow_data.specs.declared.form.Form.TheVariants as forms
-use Rattle.arrow_data.specs.declared.form.ListForm.TheVariants as lists
+use Rattle.arrow_layout.specs.Form.{buffers_of, node_form}
+use Rattle.arrow_layout.specs.PlainValue.{PlainValue}
+use Rattle.arrow_layout.specs.declared.form.Form.{Form}
+use Rattle.arrow_layout.specs.declared.form.Form.TheVariants as forms
+use Rattle.arrow_layout.specs.declared.form.ListForm.TheVariants as lists
 use Rattle.arrow_body_laws.proofs.Placed.{padded_long}
 use Rattle.arrow_body_laws.proofs.Walk.{own_long}
 use Rattle.arrow_body_laws.specs.Stored.{fields_of_columns, own_chunks, own_node, padded, places_from, rounded, stored, stored_chunks, stored_nodes}
@@ -19,11 +19,11 @@ use Rattle.arrow_body_laws.specs.Raws.{raws_below}
 use Rattle.arrow_body_writer.specs.Align.{alignment_of}
 use Rattle.arrow_body_writer.specs.declared.align.Align.{Align}
 use Rattle.arrow_body_writer.specs.declared.align.Align.TheVariants.{Eight, SixtyFour}
-use Rattle.arrow_body_writer.specs.Part.{chunk_of, part_of}
+use Rattle.arrow_body_slots.specs.Part.{chunk_of, part_of}
 use Rattle.arrow_body_writer.specs.Storing.{Stores, body_view}
 use Rattle.arrow_body_writer.specs.declared.body.Body.{Body}
-use Rattle.arrow_body_writer.specs.declared.part.BufferKind.{BufferKind}
-use Rattle.arrow_body_writer.specs.declared.part.BufferKind.TheVariants.{Validity}
+use Rattle.arrow_body_slots.specs.declared.part.BufferKind.{BufferKind}
+use Rattle.arrow_body_slots.specs.declared.part.BufferKind.TheVariants.{Validity}
 
 pub same_part : (p q : BufferKind) → ◌≡◌ {A = Option BufferKind} (Some p) (Some q) → p ≡ q
 same_part p q e = cc

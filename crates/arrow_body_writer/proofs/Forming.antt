@@ -2,7 +2,7 @@
 use Rattle.std.proofs.Common.{◌≡◌, ℕ, sym, subst, Option, None, Some}
 use Rattle.arrow_types.specs.declared.field.Encoding.{Encoding}
 use Rattle.arrow_body_reader.specs.Taken.{IfFlattened, flattened}
-use Rattle.arrow_body_writer.specs.Tally.{capped}
+use Rattle.arrow_body_slots.specs.Tally.{capped}
 
 -- the count of the nodes below a field, and what is known of them
 pub record IsBelow (e : Option Encoding) (n below : ℕ) (P : Type 0) : Type 0 where

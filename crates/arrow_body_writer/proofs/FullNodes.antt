@@ -2,21 +2,21 @@
 use Rattle.std.proofs.Common.{◌≡◌, ◌<◌, ℕ, List, [], ◌∷◌, ◌++◌, length, append-nil, refl, sym, ap, ◌∙◌, subst, arith, if◌then◌else◌, map, not}
 use Rattle.std.specs.Prelude.{nat_eq, pos}
 use Rattle.std.specs.List.{AllByRecursion, flat_map}
-use Rattle.arrow_data.specs.declared.form.NumberForm.{NumberForm}
+use Rattle.arrow_layout.specs.declared.form.NumberForm.{NumberForm}
 use Rattle.arrow_data.specs.Column.{Column, IsColumn, values_from}
-use Rattle.arrow_data.specs.Form.{node_form}
+use Rattle.arrow_layout.specs.Form.{node_form}
 use Rattle.arrow_data.specs.FullSlots.{AreFull, value_bytes}
-use Rattle.arrow_data.specs.PlainValue.{PlainValue, is_null_value}
-use Rattle.arrow_data.specs.declared.form.Form.{Form}
-use Rattle.arrow_data.specs.declared.form.Form.TheVariants as forms
+use Rattle.arrow_layout.specs.PlainValue.{PlainValue, is_null_value}
+use Rattle.arrow_layout.specs.declared.form.Form.{Form}
+use Rattle.arrow_layout.specs.declared.form.Form.TheVariants as forms
 use Rattle.arrow_body_laws.specs.Packed.{packed}
 use Rattle.arrow_body_laws.specs.Stored.{nulls_in, own_chunks, own_node, validity_bytes}
 use Rattle.arrow_types.specs.declared.node.FieldNode.{FieldNode}
 use Rattle.arrow_body_writer.proofs.Chunks.{stores_more}
-use Rattle.arrow_body_writer.proofs.Ranges.{all_from}
+use Rattle.arrow_body_slots.proofs.Ranges.{all_from}
 use Rattle.arrow_body_writer.specs.Storing.{Stores}
 use Rattle.arrow_body_writer.specs.declared.body.Body.{Body}
-use Rattle.arrow_body_writer.proofs.Running.{IsFullOf, full_of, none_null, none_of, numbers_are}
+use Rattle.arrow_body_slots.proofs.Running.{IsFullOf, full_of, none_null, none_of, numbers_are}
 
 -- none of the slots is null
 pub no_nulls : (c : Column) → AreFull c 0 (length c.raw) → nulls_in c.raw ≡ 0

@@ -1,9 +1,9 @@
 -- What is stored for fields, level by level.
 use Rattle.std.proofs.Common.{◌≡◌, List, [], ◌∷◌, ◌++◌, refl}
 use Rattle.arrow_types.specs.Field.{FieldTree, none, more}
-use Rattle.arrow_data.specs.Form.{node_form}
-use Rattle.arrow_data.specs.PlainValue.{PlainValue}
-use Rattle.arrow_data.specs.declared.form.Form.{Form}
+use Rattle.arrow_layout.specs.Form.{node_form}
+use Rattle.arrow_layout.specs.PlainValue.{PlainValue}
+use Rattle.arrow_layout.specs.declared.form.Form.{Form}
 use Rattle.arrow_body_laws.specs.Raws.{raws_below}
 use Rattle.arrow_body_laws.specs.Size.{own_sizes, sizes_of}
 use Rattle.arrow_body_laws.specs.Stored.{own_chunks, own_node, stored_chunks, stored_nodes}

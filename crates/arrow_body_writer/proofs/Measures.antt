@@ -4,11 +4,11 @@ use Rattle.std.specs.List.{sum_by}
 use Rattle.std.proofs.lemmas.List.{at_drop_all}
 use Rattle.std.proofs.lemmas.List.Sums.{count_by-le-length, sum_by-append}
 use Rattle.arrow_data.specs.Column.{Column}
-use Rattle.arrow_data.specs.Fits.{AllFit}
-use Rattle.arrow_data.specs.Form.{HasFieldsOf, form_of, node_form}
-use Rattle.arrow_data.specs.PlainValue.{PlainValue, is_null_value}
-use Rattle.arrow_data.specs.declared.form.Form.{Form}
-use Rattle.arrow_data.specs.declared.form.Form.TheVariants as forms
+use Rattle.arrow_layout.specs.Fits.{AllFit}
+use Rattle.arrow_layout.specs.Form.{HasFieldsOf, form_of, node_form}
+use Rattle.arrow_layout.specs.PlainValue.{PlainValue, is_null_value}
+use Rattle.arrow_layout.specs.declared.form.Form.{Form}
+use Rattle.arrow_layout.specs.declared.form.Form.TheVariants as forms
 use Rattle.arrow_body_reader.specs.Taken.{IfFlattened}
 use Rattle.arrow_body_laws.proofs.Raised.{raised}
 use Rattle.arrow_body_laws.specs.Formed.{AreFormed}
@@ -17,8 +17,8 @@ use Rattle.arrow_body_laws.specs.Raws.{AreRaws, IsSmall, last_offset, raws_below
 use Rattle.arrow_body_laws.specs.Size.{own_sizes, sizes_of}
 use Rattle.arrow_body_laws.specs.Stored.{fields_of_columns, nulls_in, rounded}
 use Rattle.arrow_body_writer.specs.Storable.{AreRepresentable, CanBeStored, columns_size}
-use Rattle.arrow_body_writer.specs.Tally.{IsTally, capped, sizes_represented}
-use Rattle.arrow_body_writer.specs.declared.tally.ByteTally.{ByteTally}
+use Rattle.arrow_body_slots.specs.Tally.{IsTally, capped, sizes_represented}
+use Rattle.arrow_body_slots.specs.declared.tally.ByteTally.{ByteTally}
 
 -- the sizes computed from the counts
 own_represented : (form : Form) (vs : List PlainValue) → own_sizes form vs ≡ sizes_represented form (length vs) (nulls_in vs) (last_offset form vs)

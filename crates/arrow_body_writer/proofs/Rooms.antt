@@ -3,25 +3,25 @@ use Rattle.std.proofs.Common.{◌≡◌, ℕ, zero, suc, true, false, ℤ, pos, 
 use Rattle.std.specs.List.{AllByRecursion}
 use Rattle.std.proofs.lemmas.Int.{ints}
 use Rattle.arrow_types.specs.Field.{FieldTree}
-use Rattle.arrow_data.specs.declared.form.NumberForm.TheVariants as numbers
-use Rattle.arrow_data.specs.declared.form.NumberForm.{NumberForm}
+use Rattle.arrow_layout.specs.declared.form.NumberForm.TheVariants as numbers
+use Rattle.arrow_layout.specs.declared.form.NumberForm.{NumberForm}
 use Rattle.arrow_types.specs.declared.data_type.BitWidth.TheVariants.{Eight, Sixteen, ThirtyTwo, SixtyFour}
 use Rattle.arrow_bits.specs.Numbers.{FitsInt, FitsWidth}
 use Rattle.arrow_data.specs.Column.{Column}
-use Rattle.arrow_data.specs.Form.{number_width, has_sign}
-use Rattle.arrow_data.specs.PlainValue.{PlainValue, null_value, bool_value, int_value, binary_value, utf8_value, list_value, struct_value}
-use Rattle.arrow_data.specs.declared.form.Form.{Form}
-use Rattle.arrow_data.specs.declared.form.Form.TheVariants as forms
-use Rattle.arrow_data.specs.declared.form.ListForm.TheVariants as lists
+use Rattle.arrow_layout.specs.Form.{number_width, has_sign}
+use Rattle.arrow_layout.specs.PlainValue.{PlainValue, null_value, bool_value, int_value, binary_value, utf8_value, list_value, struct_value}
+use Rattle.arrow_layout.specs.declared.form.Form.{Form}
+use Rattle.arrow_layout.specs.declared.form.Form.TheVariants as forms
+use Rattle.arrow_layout.specs.declared.form.ListForm.TheVariants as lists
 use Rattle.arrow_body_laws.proofs.Below.{all_change}
 use Rattle.arrow_body_laws.specs.Laws.{raws_of}
 use Rattle.arrow_body_laws.specs.Raws.{AreRaws, IsOwn, number_in}
 use Rattle.arrow_body_laws.specs.Stored.{fields_of_columns}
 use Rattle.arrow_body_writer.proofs.Chunks.{same_part}
-use Rattle.arrow_body_writer.specs.Part.{HasRoom, part_of}
+use Rattle.arrow_body_slots.specs.Part.{HasRoom, part_of}
 use Rattle.arrow_body_writer.specs.Sent.{form_of_column}
-use Rattle.arrow_body_writer.specs.declared.part.BufferKind.{BufferKind}
-use Rattle.arrow_body_writer.specs.declared.part.BufferKind.TheVariants.{Validity, Truths, Numbers, StringOffsets, ListOffsets, Strings, FixedBytes}
+use Rattle.arrow_body_slots.specs.declared.part.BufferKind.{BufferKind}
+use Rattle.arrow_body_slots.specs.declared.part.BufferKind.TheVariants.{Validity, Truths, Numbers, StringOffsets, ListOffsets, Strings, FixedBytes}
 
 -- a number in the range of a signedness is one of the width
 fits_width : (number : NumberForm) (z : ℤ) → FitsInt (number_width number) (has_sign number) z → FitsWidth (number_width number) z

@@ -8,11 +8,11 @@ use Rattle.arrow_types.specs.DataType.{TypeId}
 use Rattle.arrow_types.specs.Field.{FieldTree, none, more, width, TypeShape}
 use Rattle.arrow_types.specs.declared.field.Encoding.{Encoding}
 use Rattle.arrow_data.specs.Column.{AreOf, Column, IsList, IsStruct, type_of_field}
-use Rattle.arrow_data.specs.Form.{IsLists, node_form}
-use Rattle.arrow_data.specs.PlainValue.{PlainValue, field_value}
-use Rattle.arrow_data.specs.declared.form.Form.{Form}
-use Rattle.arrow_data.specs.declared.form.Form.TheVariants as forms
-use Rattle.arrow_data.specs.declared.form.ListForm.{ListForm}
+use Rattle.arrow_layout.specs.Form.{IsLists, node_form}
+use Rattle.arrow_layout.specs.PlainValue.{PlainValue, field_value}
+use Rattle.arrow_layout.specs.declared.form.Form.{Form}
+use Rattle.arrow_layout.specs.declared.form.Form.TheVariants as forms
+use Rattle.arrow_layout.specs.declared.form.ListForm.{ListForm}
 use Rattle.arrow_body_reader.specs.Taken.{IfFlattened, below}
 use Rattle.arrow_body_laws.specs.Laws.{raws_of}
 use Rattle.arrow_body_laws.specs.Raws.{AreRaws, items_in_value, nulls_under, raws_below}

@@ -3,14 +3,11 @@ use Rattle.std.proofs.Common.{◌≡◌, ◌≤◌, ℕ, zero, suc, ◌+◌, ◌
 use Rattle.std.specs.List.{AllByRecursion}
 use Rattle.std.proofs.lemmas.List.{ext_get_or, length-drop, take_all}
 use Rattle.arrow_data.specs.Column.{Column, HasValue, ValueList, values_from}
-use Rattle.arrow_data.specs.PlainValue.{PlainValue, null_value}
+use Rattle.arrow_layout.specs.PlainValue.{PlainValue, null_value}
 use Rattle.arrow_data.proofs.Sameness.{at_values_from, length-values_from}
-use Rattle.arrow_body_writer.proofs.Passing.{all_first, all_last}
-use Rattle.arrow_body_writer.proofs.Ranges.{rest_both}
+use Rattle.arrow_body_slots.proofs.Ranges.{all_first, all_last, rest_both}
 use Rattle.arrow_body_writer.proofs.Sending.{along_more}
-use Rattle.arrow_body_writer.specs.Pass.{Takes}
 use Rattle.arrow_body_writer.specs.Sent.{sent_along}
-use Rattle.arrow_body_writer.specs.declared.pass.Pass.{Pass}
 use Rattle.arrow_body_writer.specs.declared.source.ColumnSource.{ColumnSource, Slots, Rest, Items', Field'}
 use Rattle.arrow_body_writer.specs.declared.steps.ChildPath.{ChildPath}
 
@@ -49,9 +46,8 @@ all_of_range P steps vs from start stop low high all =
     all_first P (sent_along steps range) (sent_along steps after) (all_last P (sent_along steps before) (sent_along steps range ++ sent_along steps after) (subst (AllByRecursion P) parts all))
 
 -- once all of them are taken
-pub rest_all : (steps : ChildPath) (vs : List PlainValue) (from i : ℕ) (a b : Pass) → length vs ≤ i
-    → Takes a b (sent_along steps (values_from vs from i)) → Takes a b (sent_along steps (drop from vs))
-rest_all steps vs from i a b all taken = subst (λ ws. Takes a b (sent_along steps ws)) (take_all (i - from) (drop from vs) (omega (arith, all, length-drop from vs))) taken
+pub rest_all : (T : List PlainValue → Type 0) (steps : ChildPath) (vs : List PlainValue) (from i : ℕ) → length vs ≤ i → T (sent_along steps (values_from vs from i)) → T (sent_along steps (drop from vs))
+rest_all T steps vs from i all taken = subst (λ ws. T (sent_along steps ws)) (take_all (i - from) (drop from vs) (omega (arith, all, length-drop from vs))) taken
 
 -- and they send what the dictionary's values send
 pub run_sent : (steps : ChildPath) (d : ValueList) (i : ℕ) (a : Column) (place end : ℕ) → HasValue d i a place → end ≡ length a.raw

@@ -7,12 +7,12 @@ use Rattle.arrow_types.specs.DataType.{TypeId}
 use Rattle.arrow_types.specs.Field.{FieldTree, none, more, width, TypeShape}
 use Rattle.arrow_types.specs.declared.field.Encoding.{Encoding}
 use Rattle.arrow_data.specs.Column.{AreOf, Column, HasChild, HasFields, IsList, values_from}
-use Rattle.arrow_data.specs.Form.{HasFieldsOf, IsLeaf, form_of, node_form}
+use Rattle.arrow_layout.specs.Form.{HasFieldsOf, IsLeaf, form_of, node_form}
 use Rattle.arrow_data.specs.FullSlots.{AreFull}
-use Rattle.arrow_data.specs.PlainValue.{PlainValue, field_value}
+use Rattle.arrow_layout.specs.PlainValue.{PlainValue, field_value}
 use Rattle.arrow_data.specs.Same.{parts_measure, slot_measure}
-use Rattle.arrow_data.specs.declared.form.Form.{Form}
-use Rattle.arrow_data.specs.declared.form.Form.TheVariants as forms
+use Rattle.arrow_layout.specs.declared.form.Form.{Form}
+use Rattle.arrow_layout.specs.declared.form.Form.TheVariants as forms
 use Rattle.arrow_data.proofs.Sameness.{parts_smaller}
 use Rattle.arrow_body_reader.specs.Taken.{IfFlattened, below, flattened, taken_nodes}
 use Rattle.arrow_body_laws.specs.Laws.{raws_of}
@@ -21,15 +21,15 @@ use Rattle.arrow_body_laws.specs.Size.{own_sizes}
 use Rattle.arrow_body_laws.specs.Stored.{fields_of_columns, own_chunks, own_node, rounded, stored_chunks, stored_nodes}
 use Rattle.arrow_body_writer.proofs.Chunks.{stores_more}
 use Rattle.arrow_body_writer.proofs.Levels.{by_level, chunks_by_level, nodes_by_level, none_by_level, sizes_by_level}
-use Rattle.arrow_body_writer.proofs.Passing.{as_many}
-use Rattle.arrow_body_writer.proofs.Ranges.{all_from}
-use Rattle.arrow_body_writer.proofs.RunPasses.{fields_are}
+use Rattle.arrow_body_writer.proofs.Children.{as_many}
+use Rattle.arrow_body_slots.proofs.Ranges.{all_from}
+use Rattle.arrow_body_writer.proofs.Runs.{fields_are}
 use Rattle.arrow_body_writer.proofs.Sending.{lists_of, plain_list, plain_struct}
-use Rattle.arrow_body_writer.specs.Runs.{HasNoRun, HasRun}
+use Rattle.arrow_body_slots.specs.Runs.{HasNoRun, HasRun}
 use Rattle.arrow_body_writer.specs.Sent.{nodes_of_column}
 use Rattle.arrow_body_writer.specs.Storable.{AreRepresentable, columns_size}
 use Rattle.arrow_body_writer.specs.Storing.{Stores}
-use Rattle.arrow_body_writer.specs.Tally.{capped}
+use Rattle.arrow_body_slots.specs.Tally.{capped}
 use Rattle.arrow_body_writer.specs.Whole.{AreSentWhole}
 use Rattle.arrow_body_writer.specs.declared.body.Body.{Body}
 

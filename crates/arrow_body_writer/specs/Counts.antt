@@ -1,9 +1,9 @@
 -- A column, with the counted slots of its own node.
 use Rattle.std.specs.Prelude.{◌≡◌, List}
-use Rattle.arrow_data.specs.PlainValue.{PlainValue}
+use Rattle.arrow_layout.specs.PlainValue.{PlainValue}
 use Rattle.arrow_body_laws.specs.Stored.{nulls_in}
 use Rattle.arrow_body_writer.specs.Source.{IsSource, column_in}
-use Rattle.arrow_body_writer.specs.Tally.{capped}
+use Rattle.arrow_body_slots.specs.Tally.{capped}
 use Rattle.arrow_body_writer.specs.declared.counts.NodeCounts.{NodeCounts}
 
 -- its raw values

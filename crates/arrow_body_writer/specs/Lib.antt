@@ -1,16 +1,7 @@
 pub mod Align
-pub mod Packing
-pub mod Part
 pub mod Sent
-pub mod Tally
-pub mod Pass
 pub mod Storable
 pub mod Storing
 pub mod Source
 pub mod Counts
-pub mod Runs
 pub mod Whole
-pub mod Slice
-pub mod Marks
-pub mod Spans
-pub mod Offsets

@@ -5,10 +5,10 @@ use Rattle.arrow_types.specs.DataType.{null}
 use Rattle.arrow_types.specs.Field.{FieldTree, none, more, TypeShape}
 use Rattle.arrow_types.specs.declared.field.Encoding.{Encoding}
 use Rattle.arrow_data.specs.Column.{Column, type_of_field}
-use Rattle.arrow_data.specs.Form.{IsLists, node_form}
-use Rattle.arrow_data.specs.PlainValue.{PlainValue, field_value}
-use Rattle.arrow_data.specs.declared.form.Form.{Form}
-use Rattle.arrow_data.specs.declared.form.Form.TheVariants as forms
+use Rattle.arrow_layout.specs.Form.{IsLists, node_form}
+use Rattle.arrow_layout.specs.PlainValue.{PlainValue, field_value}
+use Rattle.arrow_layout.specs.declared.form.Form.{Form}
+use Rattle.arrow_layout.specs.declared.form.Form.TheVariants as forms
 use Rattle.arrow_body_reader.specs.Taken.{below, flattened, taken_nodes}
 use Rattle.arrow_body_laws.specs.Raws.{items_in_value, raws_below}
 use Rattle.arrow_body_writer.specs.declared.steps.ChildPath.{ChildPath, Here, Items', Field'}

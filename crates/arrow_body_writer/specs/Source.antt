@@ -3,7 +3,7 @@ use Rattle.std.specs.Prelude.{◌<◌, ℕ, drop, map, ⊤}
 use Rattle.std.specs.List.{flat_map}
 use Rattle.arrow_types.specs.Field.{width}
 use Rattle.arrow_data.specs.Column.{Column, IsList, IsStruct, ValueList, plain_column, type_of_field}
-use Rattle.arrow_data.specs.PlainValue.{field_value}
+use Rattle.arrow_layout.specs.PlainValue.{field_value}
 use Rattle.arrow_body_laws.specs.Raws.{items_in_value}
 use Rattle.arrow_body_writer.specs.Sent.{column_by}
 use Rattle.arrow_body_writer.specs.declared.source.ColumnSource.{ColumnSource, Slots, Rest, Items', Field'}

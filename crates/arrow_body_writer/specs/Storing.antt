@@ -1,5 +1,5 @@
 -- A body under construction: what is added to it.
-use Rattle.std.specs.Prelude.{◌≡◌, ℕ, List, [], ◌++◌, length}
+use Rattle.std.specs.Prelude.{◌≡◌, ℕ, List, [], ◌++◌, length, codes}
 use Rattle.std.specs.List.{flat_map}
 use Rattle.arrow_types.specs.declared.node.FieldNode.{FieldNode}
 use Rattle.arrow_data.specs.Column.{Column}
@@ -7,6 +7,8 @@ use Rattle.arrow_body_laws.specs.Laws.{raws_of}
 use Rattle.arrow_body_laws.specs.Stored.{PlainBody, fields_of_columns, padded, places_from, stored_chunks, stored_nodes}
 use Rattle.arrow_body_writer.specs.Storable.{AreRepresentable}
 use Rattle.arrow_body_writer.specs.declared.body.Body.{Body}
+use Rattle.arrow_body_writer.specs.declared.store_fault.BodyStoreFault.{BodyStoreFault}
+use Rattle.arrow_body_writer.specs.declared.store_fault.BodyStoreFault.TheVariants.{TooLarge, Memory}
 
 -- the contents of a body
 abbrev pub body_view : Body → PlainBody
@@ -28,3 +30,8 @@ pub record IsEmpty (b : Body) : Type 0 where
   pub no_nodes : b.nodes.items ≡ []
   pub no_buffers : b.buffers.items ≡ []
   pub no_bytes : b.bytes.items ≡ []
+
+-- the words for a fault
+abbrev pub words_of : BodyStoreFault → List ℕ
+words_of TooLarge = codes "too many slots or bytes in a column"
+words_of Memory = codes "out of memory"

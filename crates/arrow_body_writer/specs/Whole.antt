@@ -1,7 +1,7 @@
 -- Children that are sent unsliced.
 use Rattle.std.specs.Prelude.{◌≡◌, List}
 use Rattle.arrow_data.specs.Column.{AreOf, Column}
-use Rattle.arrow_data.specs.Form.{node_form}
+use Rattle.arrow_layout.specs.Form.{node_form}
 use Rattle.arrow_body_reader.specs.Taken.{below}
 use Rattle.arrow_body_laws.specs.Laws.{raws_of}
 use Rattle.arrow_body_laws.specs.Raws.{raws_below}

@@ -1,8 +1,9 @@
 //! The body of columns, written.
 
-ghost use Rattle.std.specs.Prelude.{◌≡◌, ◌≤◌, ◌<◌, ℕ, Some, [], ◌∷◌, IfErr, IfOk, OnOk, length, pos};
+ghost use Rattle.std.specs.Prelude.{◌≡◌, ◌≤◌, ◌<◌, ℕ, Some, [], ◌∷◌, IfErr, IfOk, OnOk, length};
+ghost use Rattle.std.specs.Prelude.{pos};
 ghost use Rattle.arrow_data.specs.Column.{Column};
-ghost use Rattle.arrow_data.specs.Form.{node_form};
+ghost use Rattle.arrow_layout.specs.Form.{node_form};
 ghost use Rattle.arrow_data.specs.FullSlots.{AreFull};
 ghost use Rattle.arrow_body_laws.specs.Laws.{IsBodyOf, raws_of};
 ghost use Rattle.arrow_body_laws.specs.Canonical.{IsCanonical};
@@ -13,11 +14,11 @@ ghost use Rattle.std.specs.List.{AllByRecursion};
 ghost use Rattle.std.specs.Vec.{vec_capacity};
 ghost use Rattle.arrow_body_writer.specs.Align.{alignment_of};
 ghost use Rattle.arrow_body_writer.specs.Counts.{IsCounted, sent_at};
-ghost use Rattle.arrow_body_writer.specs.Part.{HasRoom, IsRepresentable, chunk_of};
+ghost use Rattle.arrow_body_slots.specs.Part.{HasRoom, IsRepresentable, chunk_of};
 ghost use Rattle.arrow_body_writer.specs.Sent.{form_of_column, nodes_of_column, visible_children};
 ghost use Rattle.arrow_body_writer.specs.Source.{IsSource, column_in, rest_of};
 ghost use Rattle.arrow_body_writer.specs.Storable.{AreRepresentable, CanBeStored};
-ghost use Rattle.arrow_body_writer.specs.Tally.{IsTally};
+ghost use Rattle.arrow_body_slots.specs.Tally.{IsTally};
 ghost use Rattle.arrow_body_writer.specs.Storing.{IsEmpty, Stores, StoresColumns, body_view};
 ghost use Rattle.arrow_body_writer.specs.declared.store_fault.BodyStoreFault.TheVariants.{TooLarge};
 
@@ -26,13 +27,12 @@ use crate::buffers::{put_buffer, put_padded};
 use crate::counts::{NodeCounts, count_sent};
 use crate::forms::{are_countable, nodes_in_all, nodes_in_rest};
 use crate::measured::{body_size, rest_size};
-use crate::part::{BufferKind, part_of};
 use crate::sizes::is_small;
-use crate::slots::full_form;
 use crate::source::ColumnSource;
 use crate::store_fault::BodyStoreFault;
-use arrow_data::form::Form;
+use arrow_body_slots::{BufferKind, full_form, part_of};
 use arrow_data::{Array, Dictionary};
+use arrow_layout::form::Form;
 use arrow_types::{Buffer, FieldNode};
 use std::alloc::{AllocError, Global};
 use std::mem;

@@ -4,7 +4,7 @@ ghost use Rattle.std.specs.Prelude.{◌≡◌, ◌<◌, ◌↔◌, ℕ, [], ◌�
 ghost use Rattle.std.specs.List.{AllByRecursion};
 ghost use Rattle.arrow_types.specs.View.{fields_view, type_view};
 ghost use Rattle.arrow_data.specs.Column.{Column};
-ghost use Rattle.arrow_data.specs.Form.{HasFieldsOf, form_of};
+ghost use Rattle.arrow_layout.specs.Form.{HasFieldsOf, form_of};
 ghost use Rattle.arrow_body_reader.specs.Taken.{IfFlattened, taken_nodes};
 ghost use Rattle.arrow_body_laws.specs.Formed.{AreFormed};
 ghost use Rattle.arrow_body_laws.specs.Laws.{raws_of};
@@ -12,10 +12,10 @@ ghost use Rattle.arrow_body_laws.specs.Raws.{AreRaws};
 ghost use Rattle.arrow_body_laws.specs.Stored.{fields_of_columns};
 ghost use Rattle.arrow_body_writer.specs.Sent.{nodes_of_column, nodes_of_type};
 ghost use Rattle.arrow_body_writer.specs.Source.{rest_of};
-ghost use Rattle.arrow_body_writer.specs.Tally.{capped};
+ghost use Rattle.arrow_body_slots.specs.Tally.{capped};
 
-use arrow_data::form::{Form, form_of};
 use arrow_data::{Array, Dictionary};
+use arrow_layout::form::{Form, form_of};
 use arrow_types::{DataType, Encoding, Field};
 
 /// The number of nodes of the fields, or the greatest number if there are more. Each type has the

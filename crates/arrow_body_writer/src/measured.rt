@@ -11,7 +11,7 @@ ghost use Rattle.arrow_body_writer.specs.Align.{alignment_of};
 ghost use Rattle.arrow_body_writer.specs.Sent.{form_of_column, nodes_of_column, visible_children};
 ghost use Rattle.arrow_body_writer.specs.Source.{IsSource, column_in, rest_of};
 ghost use Rattle.arrow_body_writer.specs.Storable.{AreRepresentable, CanBeStored, columns_size};
-ghost use Rattle.arrow_body_writer.specs.Tally.{capped};
+ghost use Rattle.arrow_body_slots.specs.Tally.{capped};
 
 use crate::align::Align;
 use crate::counts::count_sent;

@@ -3,19 +3,16 @@
 ghost use Rattle.std.specs.Prelude.{◌≡◌, ◌≤◌, ◌↔◌, IsTrue, List};
 ghost use Rattle.std.specs.List.{sum_by};
 ghost use Rattle.std.specs.Int.{div_ceil};
-ghost use Rattle.arrow_data.specs.PlainValue.{PlainValue};
+ghost use Rattle.arrow_layout.specs.PlainValue.{PlainValue};
 ghost use Rattle.arrow_body_laws.specs.Raws.{IsSmall, offset_limit};
 ghost use Rattle.arrow_body_laws.specs.Stored.{rounded};
 ghost use Rattle.arrow_body_writer.specs.Align.{alignment_of};
-ghost use Rattle.arrow_body_writer.specs.Tally.{IsTally, sizes_represented};
+ghost use Rattle.arrow_body_slots.specs.Tally.{IsTally, sizes_represented};
 
 use crate::align::Align;
-use crate::tally::ByteTally;
-use arrow_data::form::{Form, ListForm};
-
-/// The most slots that a node can have (`Schema.fbs`, on lengths; `Message.fbs`, struct
-/// `FieldNode`).
-const MOST_SLOTS: u64 = 2_147_483_647;
+use arrow_body_slots::ByteTally;
+use arrow_layout::MOST_SLOTS;
+use arrow_layout::form::{Form, ListForm};
 
 /// The greatest offset that a node of the form can represent.
 fn offset_limit(form: Form) -> u64
@@ -36,7 +33,7 @@ pub(crate) fn is_small(form: Form, tally: ByteTally) -> bool
     ensures few { IsTrue result → tally.slots ≤ 2147483647 }
     ensures near { IsTrue result → tally.end ≤ 9223372036854775807 }
 {
-    tally.slots <= MOST_SLOTS && tally.end <= offset_limit(form)
+    tally.slots <= MOST_SLOTS as u64 && tally.end <= offset_limit(form)
 }
 
 /// The size in bytes of a bitmap of `slots` slots.

@@ -1,7 +1,8 @@
 //! The origin of the raw values of a column: an array, the values of a dictionary from an index on,
 //! or the lists or structs above it.
 
-ghost use Rattle.std.specs.Prelude.{◌≡◌, ◌<◌, IfSome, MatchOption, OnErr, OnOk, None, Some, [], ◌∷◌, length, slice_get};
+ghost use Rattle.std.specs.Prelude.{◌≡◌, ◌<◌, IfSome, MatchOption, OnErr, OnOk, None, Some, []};
+ghost use Rattle.std.specs.Prelude.{◌∷◌, length, slice_get};
 ghost use Rattle.std.specs.List.{AllByRecursion};
 ghost use Rattle.arrow_types.specs.Field.{width};
 ghost use Rattle.arrow_types.specs.View.{type_view};
@@ -9,20 +10,20 @@ ghost use Rattle.arrow_data.specs.Column.{type_of_field};
 ghost use Rattle.arrow_body_laws.specs.Laws.{raws_of};
 ghost use Rattle.arrow_body_laws.specs.Raws.{AreRaws, nulls_under};
 ghost use Rattle.arrow_body_laws.specs.Stored.{fields_of_columns};
-ghost use Rattle.arrow_body_writer.specs.Pass.{HasPlace, Takes, part_in};
-ghost use Rattle.arrow_body_writer.specs.Sent.{LeadDown, form_of_column, sent_along, visible_children};
-ghost use Rattle.arrow_body_writer.specs.Slice.{IsSlice, values_in};
+ghost use Rattle.arrow_body_writer.specs.Sent.{LeadDown, form_of_column, sent_along};
+ghost use Rattle.arrow_body_writer.specs.Sent.{visible_children};
+ghost use Rattle.arrow_body_slots.specs.Slice.{IsSlice, values_in};
 ghost use Rattle.arrow_body_writer.specs.Source.{IsSource, column_in, rest_of};
 ghost use Rattle.arrow_body_writer.specs.Whole.{AreSentWhole};
 
-use crate::pass::Pass;
-use crate::slice::{ColumnSlice, all_slots};
 use crate::steps::ChildPath;
+use crate::visitor::SlotVisitor;
+use crate::walk::take_along;
 use crate::whole::whole_below;
-use arrow_data::form::{Form, ListForm, node_form};
+use arrow_body_slots::{ColumnSlice, all_slots};
 use arrow_data::{Array, Dictionary};
+use arrow_layout::form::{Form, ListForm, node_form};
 use arrow_types::{DataType, Encoding, Field};
-use std::alloc::AllocError;
 
 /// A column that is stored.
 #[derive(Clone, Copy)]
@@ -144,46 +145,51 @@ impl<'a> ColumnSource<'a> {
 
     /// Takes what all slots of the column send along the steps.
     #[cycle(send)]
-    pub(crate) fn send(&self, pass: &mut Pass, steps: &ChildPath<'_>) -> Result<(), AllocError>
+    pub(crate) fn send<V: SlotVisitor>(
+        &self,
+        visitor: &mut V,
+        steps: &ChildPath<'_>,
+    ) -> Result<(), V::Fault>
         requires source { IsSource self.now }
         requires down { LeadDown steps.now (column_in self.now).data_type (column_in self.now).encoding }
-        requires room { AllByRecursion (HasPlace (part_in pass.old))
+        requires room { AllByRecursion (V.has_room visitor.old)
             (sent_along steps.now (column_in self.now).raw) }
-        ensures ok { OnOk result
-            (Takes pass.old pass.new (sent_along steps.now (column_in self.now).raw)) }
-        ensures err { OnErr result (part_in pass.old ≡ None → ⊥) }
+        ensures { OnOk result
+            (V.takes visitor.old visitor.new (sent_along steps.now (column_in self.now).raw)) }
     {
         match self {
-            ColumnSource::Slots(array) => pass.take_along(all_slots(array), steps),
-            ColumnSource::Rest(dictionary, from) => take_rest(pass, dictionary, *from, steps),
+            ColumnSource::Slots(array) => take_along(visitor, all_slots(array), steps),
+            ColumnSource::Rest(dictionary, from) => take_rest(visitor, dictionary, *from, steps),
             ColumnSource::Items(nulls, lists) => lists.send(
-                pass,
+                visitor,
                 &ChildPath::Items(*nulls, &*steps),
             ),
-            ColumnSource::Field(structs, k) => structs.send(pass, &ChildPath::Field(*k, &*steps)),
+            ColumnSource::Field(structs, k) => structs.send(
+                visitor,
+                &ChildPath::Field(*k, &*steps),
+            ),
         }
     }
 }
 
 /// Takes what the values of a dictionary from an index on send along the steps, array by array.
-fn take_rest(
-    pass: &mut Pass,
+fn take_rest<V: SlotVisitor>(
+    visitor: &mut V,
     dictionary: &Dictionary,
     from: usize,
     steps: &ChildPath<'_>,
-) -> Result<(), AllocError>
+) -> Result<(), V::Fault>
     requires down { LeadDown steps.now dictionary.now.data_type None }
-    requires room { AllByRecursion (HasPlace (part_in pass.old))
+    requires room { AllByRecursion (V.has_room visitor.old)
         (sent_along steps.now (rest_of dictionary.now from).raw) }
-    ensures ok { OnOk result
-        (Takes pass.old pass.new (sent_along steps.now (rest_of dictionary.now from).raw)) }
-    ensures err { OnErr result (part_in pass.old ≡ None → ⊥) }
+    ensures { OnOk result
+        (V.takes visitor.old visitor.new (sent_along steps.now (rest_of dictionary.now from).raw)) }
 {
     let mut i = from;
     while i < dictionary.len() {
         let (array, start) = dictionary.value(i);
         let stop = array.len();
-        pass.take_along(ColumnSlice { array, start, stop }, steps)?;
+        take_along(visitor, ColumnSlice { array, start, stop }, steps)?;
         i += stop - start;
     }
     Ok(())

@@ -3,6 +3,8 @@
 ghost use Rattle.std.specs.Prelude.{◌≡◌};
 
 use std::alloc::AllocError;
+use std::error::Error;
+use std::fmt;
 
 /// Why columns are not stored.
 #[derive(Clone, Copy, Debug, PartialEq, Eq)]
@@ -24,3 +26,19 @@ impl From<AllocError> for BodyStoreFault {
         BodyStoreFault::Memory
     }
 }
+
+impl fmt::Display for BodyStoreFault {
+    ghost use Rattle.std.specs.Prelude.{Some};
+    ghost use Rattle.arrow_body_writer.specs.Storing.{words_of};
+
+    ghost output = { λ f. Some (words_of f) };
+
+    fn fmt<W: fmt::Write>(&self, f: &mut fmt::Formatter<W>) -> fmt::Result {
+        match self {
+            BodyStoreFault::TooLarge => f.write_str("too many slots or bytes in a column"),
+            BodyStoreFault::Memory => f.write_str("out of memory"),
+        }
+    }
+}
+
+impl Error for BodyStoreFault {}

@@ -3,20 +3,11 @@
 ghost use Rattle.std.specs.Prelude.{◌≡◌, ◌↔◌, [], ◌∷◌, IfSome, IsTrue, length};
 ghost use Rattle.std.specs.List.{AllByRecursion};
 ghost use Rattle.arrow_data.specs.Column.{Column};
-ghost use Rattle.arrow_data.specs.FullSlots.{AreFull};
 ghost use Rattle.arrow_body_writer.specs.Whole.{AreSentWhole};
 
-use crate::slice::ColumnSlice;
-use crate::slots::items;
+use arrow_body_slots::{ColumnSlice, is_full, items};
 use arrow_data::Array;
-use arrow_data::form::form_of;
-
-/// Whether no slot is null.
-pub(crate) fn is_full(array: &Array) -> bool
-    ensures { IsTrue result ↔ AreFull array.now 0 (length array.now.raw) }
-{
-    array.first_null(0, array.len()) == array.len()
-}
+use arrow_layout::form::form_of;
 
 /// Whether each of the arrays has exactly `len` slots.
 fn are_as_long(arrays: &[Array], len: usize) -> bool

@@ -11,17 +11,17 @@ use Rattle.arrow_types.specs.View.{field_view, type_view}
 use Rattle.arrow_types.specs.declared.field.Encoding.{Encoding}
 use Rattle.arrow_types.specs.declared.field.Field.{Field, the_lemmas}
 use Rattle.arrow_data.specs.Column.{Agree, Column, ValueList, AreOf, counts_of, listed_of, slots_of}
-use Rattle.arrow_data.specs.Fits.{Fits}
-use Rattle.arrow_data.specs.Form.{HasFieldsOf, form_of, node_form}
-use Rattle.arrow_data.specs.Layout.{HoldsTexts, buffer, child_count, list_offsets}
-use Rattle.arrow_data.specs.Layout.{IsIndexed as HasIndices}
+use Rattle.arrow_layout.specs.Fits.{Fits}
+use Rattle.arrow_layout.specs.Form.{HasFieldsOf, form_of, node_form}
+use Rattle.arrow_layout.specs.Layout.{HoldsTexts, buffer, child_count, list_offsets}
+use Rattle.arrow_layout.specs.Layout.{IsIndexed as HasIndices}
 use Rattle.arrow_data.specs.Parts.{AreChildren, IsOfType, node_column, node_offsets, type_of, value_slot, values_in}
-use Rattle.arrow_data.specs.PlainValue.{PlainValue, null_value, struct_value, utf8_value, values_of}
-use Rattle.arrow_data.specs.Slots.{is_valid_at, item_place, item_places, list_slot, or_null, range_of, slots}
-use Rattle.arrow_data.specs.declared.form.Form.{Form}
-use Rattle.arrow_data.specs.declared.form.Form.TheVariants as forms
-use Rattle.arrow_data.specs.declared.form.ListForm.{ListForm}
-use Rattle.arrow_data.specs.declared.form.ListForm.TheVariants as lists
+use Rattle.arrow_layout.specs.PlainValue.{PlainValue, null_value, struct_value, utf8_value, values_of}
+use Rattle.arrow_layout.specs.Slots.{is_valid_at, item_place, item_places, list_slot, or_null, range_of, slots}
+use Rattle.arrow_layout.specs.declared.form.Form.{Form}
+use Rattle.arrow_layout.specs.declared.form.Form.TheVariants as forms
+use Rattle.arrow_layout.specs.declared.form.ListForm.{ListForm}
+use Rattle.arrow_layout.specs.declared.form.ListForm.TheVariants as lists
 use Rattle.arrow_data.proofs.Shown.{length_slots}
 use Rattle.arrow_data.specs.Listed.{dictionary_for, values_by}
 use Rattle.arrow_builder.specs.Buffers.{buffers_in}

@@ -6,15 +6,15 @@ use Rattle.arrow_types.specs.Field.{FieldTree, FieldHeader, none, more}
 use Rattle.arrow_types.specs.View.{field_view}
 use Rattle.arrow_types.specs.declared.field.Encoding.{Encoding}
 use Rattle.arrow_data.specs.Column.{ValueList}
-use Rattle.arrow_data.specs.Form.{node_form, int_width, index_form}
-use Rattle.arrow_data.specs.Layout.{HasFixed, list_offsets}
+use Rattle.arrow_layout.specs.Form.{node_form, int_width, index_form}
+use Rattle.arrow_layout.specs.Layout.{HasFixed, list_offsets}
 use Rattle.arrow_data.specs.Parts.{value_slot}
-use Rattle.arrow_data.specs.PlainValue.{PlainValue, int_value, null_value}
+use Rattle.arrow_layout.specs.PlainValue.{PlainValue, int_value, null_value}
 use Rattle.arrow_data.specs.Same.{Begins}
-use Rattle.arrow_data.specs.Slots.{AreIndices, IsIndex, int_slot, is_valid_at, item_place, slots}
-use Rattle.arrow_data.specs.declared.form.Form.{Form}
-use Rattle.arrow_data.specs.declared.form.Form.TheVariants as forms
-use Rattle.arrow_data.specs.declared.form.ListForm.{ListForm}
+use Rattle.arrow_layout.specs.Slots.{AreIndices, IsIndex, int_slot, is_valid_at, item_place, slots}
+use Rattle.arrow_layout.specs.declared.form.Form.{Form}
+use Rattle.arrow_layout.specs.declared.form.Form.TheVariants as forms
+use Rattle.arrow_layout.specs.declared.form.ListForm.{ListForm}
 use Rattle.arrow_data.specs.Listed.{values_by}
 use Rattle.arrow_bits.specs.Numbers.{int_of}
 use Rattle.arrow_builder.specs.Buffers.{buffers_in}

@@ -4,15 +4,15 @@ use denote.Param.Weighed.{most}
 use Rattle.std.proofs.lemmas.Bool.{false≢true}
 use Rattle.std.proofs.lemmas.List.{append-nil, append_assoc, length-replicate, replicate-append-replicate, take-append-drop}
 use Rattle.arrow_types.specs.Field.{FieldTree, FieldShape, fields_of, none, more}
-use Rattle.arrow_data.specs.Form.{node_form}
-use Rattle.arrow_data.specs.PlainValue.{PlainValue, field_value, null_value}
-use Rattle.arrow_data.specs.Value.{value_view, values_view}
-use Rattle.arrow_data.specs.declared.form.Form.{Form}
-use Rattle.arrow_data.specs.declared.form.Form.TheVariants as forms
-use Rattle.arrow_data.specs.declared.form.ListForm.{ListForm}
-use Rattle.arrow_data.specs.declared.form.ListForm.TheVariants as lists
-use Rattle.arrow_data.specs.declared.form.OffsetWidth.{OffsetWidth}
-use Rattle.arrow_data.specs.declared.value.Value.{Value}
+use Rattle.arrow_layout.specs.Form.{node_form}
+use Rattle.arrow_layout.specs.PlainValue.{PlainValue, field_value, null_value}
+use Rattle.arrow_layout.specs.Value.{value_view, values_view}
+use Rattle.arrow_layout.specs.declared.form.Form.{Form}
+use Rattle.arrow_layout.specs.declared.form.Form.TheVariants as forms
+use Rattle.arrow_layout.specs.declared.form.ListForm.{ListForm}
+use Rattle.arrow_layout.specs.declared.form.ListForm.TheVariants as lists
+use Rattle.arrow_layout.specs.declared.form.OffsetWidth.{OffsetWidth}
+use Rattle.arrow_layout.specs.declared.value.Value.{Value}
 use Rattle.arrow_builder.specs.Columns.{AllBelow, AllNodes, all_items, child_column}
 use Rattle.arrow_builder.specs.Fields.{field_form}
 use Rattle.arrow_builder.specs.Tally.{Adds, AddsBelow, AreCounted, Grows, IsCounted, IsTotal, Settles}

@@ -1,14 +1,14 @@
 -- What the kept buffers hold.
 use Rattle.std.proofs.Common.{ℕ, List}
 use Rattle.arrow_bits.proofs.Rising.{offsets_from_numbers}
-use Rattle.arrow_data.specs.Form.{offset_bytes}
-use Rattle.arrow_data.specs.Layout.{HasLists, HoldsSlots}
-use Rattle.arrow_data.specs.Slots.{HasOffsets}
-use Rattle.arrow_data.specs.declared.form.Form.{Form}
-use Rattle.arrow_data.specs.declared.form.Form.TheVariants as forms
-use Rattle.arrow_data.specs.declared.form.ListForm.{ListForm}
-use Rattle.arrow_data.specs.declared.form.ListForm.TheVariants as lists
-use Rattle.arrow_data.specs.declared.form.OffsetWidth.{OffsetWidth}
+use Rattle.arrow_layout.specs.Form.{offset_bytes}
+use Rattle.arrow_layout.specs.Layout.{HasLists, HoldsSlots}
+use Rattle.arrow_layout.specs.Slots.{HasOffsets}
+use Rattle.arrow_layout.specs.declared.form.Form.{Form}
+use Rattle.arrow_layout.specs.declared.form.Form.TheVariants as forms
+use Rattle.arrow_layout.specs.declared.form.ListForm.{ListForm}
+use Rattle.arrow_layout.specs.declared.form.ListForm.TheVariants as lists
+use Rattle.arrow_layout.specs.declared.form.OffsetWidth.{OffsetWidth}
 use Rattle.arrow_builder.specs.Kept.{Keeps, KeepsLists, KeepsParts}
 
 -- ranges that are kept have their offsets

@@ -2,10 +2,10 @@
 use Rattle.std.proofs.Common.{◌≡◌, List, [], ◌∷◌, length, refl, ap, suc}
 use Rattle.arrow_types.specs.View.{fields_view}
 use Rattle.arrow_types.specs.declared.field.Field.{Field}
-use Rattle.arrow_data.specs.Fits.{PartsFit}
-use Rattle.arrow_data.specs.PlainValue.{list_of_values, values_of}
-use Rattle.arrow_data.specs.Value.{values_view}
-use Rattle.arrow_data.specs.declared.value.Value.{Value}
+use Rattle.arrow_layout.specs.Fits.{PartsFit}
+use Rattle.arrow_layout.specs.PlainValue.{list_of_values, values_of}
+use Rattle.arrow_layout.specs.Value.{values_view}
+use Rattle.arrow_layout.specs.declared.value.Value.{Value}
 
 -- a list has as many items as there are values in it
 pub items_long : (items : List Value) → length (list_of_values (values_of (values_view items))) ≡ length items

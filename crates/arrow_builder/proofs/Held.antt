@@ -3,14 +3,14 @@ use Rattle.std.proofs.Common.{◌≡◌, ℕ, ◌+◌, ◌≤◌, List, [], ◌�
 use Rattle.std.proofs.lemmas.Bool.{cases_lt}
 use Rattle.std.proofs.lemmas.List.{append-nil, append_assoc, length-map, map-append, take-append-drop, take-append-le, take-take, take_all}
 use Rattle.std.proofs.Math.Seq.{take-append_seam}
-use Rattle.arrow_data.specs.Layout.{list_offsets}
-use Rattle.arrow_data.specs.PlainValue.{PlainValue, field_value}
+use Rattle.arrow_layout.specs.Layout.{list_offsets}
+use Rattle.arrow_layout.specs.PlainValue.{PlainValue, field_value}
 use Rattle.arrow_data.specs.Same.{Begins}
-use Rattle.arrow_data.specs.Slots.{item_place}
-use Rattle.arrow_data.specs.declared.form.Form.{Form}
-use Rattle.arrow_data.specs.declared.form.Form.TheVariants as forms
-use Rattle.arrow_data.specs.declared.form.ListForm.{ListForm}
-use Rattle.arrow_data.specs.declared.form.ListForm.TheVariants as lists
+use Rattle.arrow_layout.specs.Slots.{item_place}
+use Rattle.arrow_layout.specs.declared.form.Form.{Form}
+use Rattle.arrow_layout.specs.declared.form.Form.TheVariants as forms
+use Rattle.arrow_layout.specs.declared.form.ListForm.{ListForm}
+use Rattle.arrow_layout.specs.declared.form.ListForm.TheVariants as lists
 use Rattle.arrow_builder.specs.Buffers.{IsLeaf}
 use Rattle.arrow_builder.specs.Built.{Built, cut_to, given_items, with_parts}
 use Rattle.arrow_builder.specs.Columns.{AreHeld, all_items, child_column}

@@ -2,17 +2,17 @@
 use Rattle.std.proofs.Common.{◌≡◌, ℕ, ℤ, Bool, List, refl, ap, sym, ◌∙◌, subst, Option, None, Some}
 use Rattle.std.specs.Prelude.{IfSome, option_map}
 use Rattle.arrow_types.specs.Field.{none}
-use Rattle.arrow_data.specs.declared.form.NumberForm.{NumberForm}
+use Rattle.arrow_layout.specs.declared.form.NumberForm.{NumberForm}
 use Rattle.arrow_bits.specs.Numbers.{FitsInt}
-use Rattle.arrow_data.specs.Fits.{Fits}
-use Rattle.arrow_data.specs.Form.{number_width, has_sign}
-use Rattle.arrow_data.specs.Layout.{buffer}
+use Rattle.arrow_layout.specs.Fits.{Fits}
+use Rattle.arrow_layout.specs.Form.{number_width, has_sign}
+use Rattle.arrow_layout.specs.Layout.{buffer}
 use Rattle.arrow_data.specs.Parts.{value_slot}
-use Rattle.arrow_data.specs.PlainValue.{PlainValue, null_value, bool_value, int_value, binary_value, utf8_value, list_value, struct_value, int_in, binary_in, utf8_in}
-use Rattle.arrow_data.specs.Slots.{int_slot}
-use Rattle.arrow_data.specs.declared.form.Form.{Form}
-use Rattle.arrow_data.specs.declared.form.Form.TheVariants as forms
-use Rattle.arrow_data.specs.declared.form.OffsetWidth.{OffsetWidth}
+use Rattle.arrow_layout.specs.PlainValue.{PlainValue, null_value, bool_value, int_value, binary_value, utf8_value, list_value, struct_value, int_in, binary_in, utf8_in}
+use Rattle.arrow_layout.specs.Slots.{int_slot}
+use Rattle.arrow_layout.specs.declared.form.Form.{Form}
+use Rattle.arrow_layout.specs.declared.form.Form.TheVariants as forms
+use Rattle.arrow_layout.specs.declared.form.OffsetWidth.{OffsetWidth}
 use Rattle.arrow_builder.specs.Puts.{PutsSlot, StaySlots, part_slot, value_or_null}
 
 -- a value that fits numbers is null or a number

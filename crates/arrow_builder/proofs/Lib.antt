@@ -11,7 +11,6 @@ pub mod Listed
 pub mod Nested
 pub mod NodeParts
 pub mod NodeSlots
-pub mod OneBit
 pub mod Putting
 pub mod Ranging
 pub mod Typing

@@ -7,18 +7,18 @@ use Rattle.std.proofs.Math.Seq.{drop-append_seam}
 use Rattle.arrow_types.specs.Field.{FieldTree, none, more}
 use Rattle.arrow_types.specs.DataType.{TypeId}
 use Rattle.arrow_types.specs.declared.field.Encoding.{Encoding}
-use Rattle.arrow_data.specs.Fits.{Fits, ItemsFit}
-use Rattle.arrow_data.specs.Form.{HasFieldsOf, form_of, node_form}
-use Rattle.arrow_data.specs.PlainValue.{PlainValue, PlainValues, null_value, bool_value, int_value, binary_value, utf8_value, list_of_values, list_value, struct_value, is_null_value, more_values, no_values, values_of}
-use Rattle.arrow_data.specs.Slots.{item_place, items_at, list_slot, is_valid_at, or_null}
-use Rattle.arrow_data.specs.declared.form.Form.TheVariants as forms
-use Rattle.arrow_data.specs.declared.form.ListForm.{ListForm}
-use Rattle.arrow_data.specs.declared.form.ListForm.TheVariants as lists
-use Rattle.arrow_data.specs.declared.form.OffsetWidth.{OffsetWidth}
+use Rattle.arrow_layout.specs.Fits.{Fits, ItemsFit}
+use Rattle.arrow_layout.specs.Form.{HasFieldsOf, form_of, node_form}
+use Rattle.arrow_layout.specs.PlainValue.{PlainValue, PlainValues, null_value, bool_value, int_value, binary_value, utf8_value, list_of_values, list_value, struct_value, is_null_value, more_values, no_values, values_of}
+use Rattle.arrow_layout.specs.Slots.{item_place, items_at, list_slot, is_valid_at, or_null}
+use Rattle.arrow_layout.specs.declared.form.Form.TheVariants as forms
+use Rattle.arrow_layout.specs.declared.form.ListForm.{ListForm}
+use Rattle.arrow_layout.specs.declared.form.ListForm.TheVariants as lists
+use Rattle.arrow_layout.specs.declared.form.OffsetWidth.{OffsetWidth}
 use Rattle.arrow_data.proofs.Lists.{list_again, values_again}
-use Rattle.arrow_data.proofs.Shown.{items_inside}
-use Rattle.arrow_data.specs.Value.{value_view, values_view}
-use Rattle.arrow_data.specs.declared.value.Value.{Value}
+use Rattle.arrow_layout.proofs.Widths.{items_inside}
+use Rattle.arrow_layout.specs.Value.{value_view, values_view}
+use Rattle.arrow_layout.specs.declared.value.Value.{Value}
 use Rattle.arrow_builder.specs.Built.{Built, AreBelow, fields_in, given_items, items_of, sized_items, with_value, with_values}
 use Rattle.arrow_builder.specs.Fields.{FitsField}
 use Rattle.arrow_builder.specs.Kept.{KeepsLists}

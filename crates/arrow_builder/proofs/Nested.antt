@@ -3,9 +3,9 @@ use Rattle.std.proofs.Common.{◌≡◌, ℕ, zero, suc, ◌+◌, ◌<◌, ◌�
 use Rattle.std.specs.List.{AllByRecursion}
 use Rattle.std.proofs.lemmas.List.{take-append-le, take-take}
 use Rattle.arrow_types.specs.Field.{more, levels}
-use Rattle.arrow_data.specs.Fits.{Fits, PartsFit}
-use Rattle.arrow_data.specs.PlainValue.{PlainValue, PlainValues, null_value, bool_value, int_value, binary_value, utf8_value, list_value, struct_value, no_values, more_values, field_value, nth_value, value_at, values_of}
-use Rattle.arrow_data.specs.declared.form.Form.TheVariants as forms
+use Rattle.arrow_layout.specs.Fits.{Fits, PartsFit}
+use Rattle.arrow_layout.specs.PlainValue.{PlainValue, PlainValues, null_value, bool_value, int_value, binary_value, utf8_value, list_value, struct_value, no_values, more_values, field_value, nth_value, value_at, values_of}
+use Rattle.arrow_layout.specs.declared.form.Form.TheVariants as forms
 use Rattle.arrow_builder.specs.Built.{Built, HaveSlots, built_size, counts_in, cut_to, fields_in, raws_in, with_parts, with_value, with_values}
 use Rattle.arrow_builder.specs.Fields.{FitsField}
 

@@ -6,24 +6,25 @@ use Rattle.std.proofs.lemmas.List.{length-map, take_all}
 use Rattle.arrow_types.specs.Field.{FieldTree}
 use Rattle.arrow_types.specs.View.{field_view}
 use Rattle.arrow_types.specs.declared.field.Encoding.{Encoding}
-use Rattle.arrow_data.specs.Fits.{Fits, PartsFit}
-use Rattle.arrow_data.specs.Layout.{child_count, list_offsets}
+use Rattle.arrow_bits.specs.Bitmap.{PutsBit}
+use Rattle.arrow_layout.specs.Fits.{Fits, PartsFit}
+use Rattle.arrow_layout.specs.Layout.{child_count, list_offsets}
 use Rattle.arrow_data.specs.Parts.{value_slot}
-use Rattle.arrow_data.specs.PlainValue.{PlainValue, PlainValues, is_null_value, field_value, struct_value, value_at, values_of}
+use Rattle.arrow_layout.specs.PlainValue.{PlainValue, PlainValues, is_null_value, field_value, struct_value, value_at, values_of}
 use Rattle.arrow_data.specs.Same.{Begins}
-use Rattle.arrow_data.specs.Slots.{is_valid_at, item_place, list_slot, place_of, struct_slot}
+use Rattle.arrow_layout.specs.Slots.{is_valid_at, item_place, list_slot, place_of, struct_slot}
 use Rattle.arrow_data.proofs.Shown.{length_slots}
-use Rattle.arrow_data.specs.declared.form.Form.TheVariants as forms
-use Rattle.arrow_data.specs.declared.form.ListForm.{ListForm}
-use Rattle.arrow_data.specs.declared.form.ListForm.TheVariants as lists
-use Rattle.arrow_data.specs.declared.form.OffsetWidth.{OffsetWidth}
+use Rattle.arrow_layout.specs.declared.form.Form.TheVariants as forms
+use Rattle.arrow_layout.specs.declared.form.ListForm.{ListForm}
+use Rattle.arrow_layout.specs.declared.form.ListForm.TheVariants as lists
+use Rattle.arrow_layout.specs.declared.form.OffsetWidth.{OffsetWidth}
 use Rattle.arrow_builder.specs.Buffers.{buffers_in}
 use Rattle.arrow_builder.specs.Built.{Built, AreBelow, counts_in, cut_to, fields_in, given_items, items_of, raws_in, sized_items, with_parts, with_value, with_values}
 use Rattle.arrow_builder.specs.Columns.{AreHeld, all_items, child_column}
 use Rattle.arrow_builder.specs.Fields.{FitsField, field_form}
 use Rattle.arrow_builder.specs.Kept.{CountsItems, Keeps, KeepsLists, KeepsRanges, KeepsStructs}
 use Rattle.arrow_builder.specs.Nodes.{IsNode, built_of, slot_in}
-use Rattle.arrow_builder.specs.Puts.{PutsBit, PutsSlot, PutsValid, StayPlaces, StaySlots}
+use Rattle.arrow_builder.specs.Puts.{PutsSlot, PutsValid, StayPlaces, StaySlots}
 use Rattle.arrow_builder.specs.declared.node.Node.TheInside.{Inside}
 use Rattle.arrow_builder.proofs.Held.{begins_self, counted_grows, held_cut, held_struct, items_grown}
 use Rattle.arrow_builder.proofs.Listed.{StayItems, items_given, lists_put, lists_stay, plain_list, plain_struct, sized_long, struct_in_slot}
@@ -85,7 +86,7 @@ struct_grows a b v form few ok fits bit parts =
     let fit : Fits forms.Structs (field_view a.field).children v = subst (λ f. Fits f (field_view a.field).children v) form fits in
     let cut : map (cut_to at) b.children.items ≡ map (cut_to at) a.children.items = ap (map (cut_to at)) parts ∙ parts_cut 0 at a.children.items v there in
     let keeps : KeepsStructs (at + 1) b.buffers.validity.items (counts_in b.children.items) =
-    record { bits = bit.long; longer = subst (λ bs. AllByRecursion (λ count. at + 1 ≤ count) (counts_in bs)) (sym parts) (parts_long 0 at a.children.items v there) } in
+    record { bits = omega (arith, bit.long); longer = subst (λ bs. AllByRecursion (λ count. at + 1 ≤ count) (counts_in bs)) (sym parts) (parts_long 0 at a.children.items v there) } in
     let row : (ws : PlainValues) → v ≡ struct_value ws → values_of (map (λ values. value_at values at) (raws_in b.children.items)) ≡ ws =
     λ ws is. ap (λ bs. values_of (map (λ values. value_at values at) (raws_in bs))) parts
     ∙ row_of_parts 0 at a.children.items v ws (λ i. let here : 0 + i ≡ i = omega arith in ap (λ m. field_value m v) here ∙ ap (field_value i) is)
@@ -233,4 +234,4 @@ sized_grows a b size child child' v form only only' few ok fits grown bit =
       same = λ j h. valid_stays at (not (is_null_value v)) a.buffers.validity.items b.buffers.validity.items kept.bits bit j h;
       put = valid_put at (not (is_null_value v)) a.buffers.validity.items b.buffers.validity.items bit;
     } in
-    items_grow a b (lists.Fixed size) child child' v (sized_items size v) form only only' few ok fits grown refl (record { bits = bit.long; inside = omega (arith, end) }) end valid (λ j h. refl)
+    items_grow a b (lists.Fixed size) child child' v (sized_items size v) form only only' few ok fits grown refl (record { bits = omega (arith, bit.long); inside = omega (arith, end) }) end valid (λ j h. refl)

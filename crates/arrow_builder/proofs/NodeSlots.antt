@@ -3,9 +3,9 @@ use Rattle.std.proofs.Common.{◌≡◌, ℕ, ◌+◌, ◌<◌, ◌≤◌, List,
 use Rattle.std.specs.List.{AllByRecursion}
 use Rattle.arrow_types.specs.View.{field_view}
 use Rattle.arrow_data.specs.Parts.{value_slot}
-use Rattle.arrow_data.specs.PlainValue.{PlainValue}
-use Rattle.arrow_data.specs.declared.form.Form.{Form}
-use Rattle.arrow_data.specs.declared.form.Form.TheVariants as forms
+use Rattle.arrow_layout.specs.PlainValue.{PlainValue}
+use Rattle.arrow_layout.specs.declared.form.Form.{Form}
+use Rattle.arrow_layout.specs.declared.form.Form.TheVariants as forms
 use Rattle.arrow_data.proofs.Shown.{length_slots}
 use Rattle.arrow_builder.specs.Buffers.{IsLeaf, buffers_in}
 use Rattle.arrow_builder.specs.Built.{Built, AreBelow, counts_in, cut_to, raws_in, with_value}

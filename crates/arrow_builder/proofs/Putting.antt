@@ -6,13 +6,13 @@ use Rattle.std.proofs.Math.Dec.{eqb-suc-zero}
 use Rattle.std.proofs.Math.Nat.{mul-le-mul_left}
 use Rattle.std.proofs.lemmas.List.{take-append-le, take-take}
 use Rattle.bytes.proofs.Ranges.{slice_range_front, slice_range_grown}
-use Rattle.arrow_bits.specs.Bitmap.{bit_of}
+use Rattle.arrow_bits.specs.Bitmap.{bit_of, PutsBit}
 use Rattle.arrow_bits.specs.Numbers.{number_at, signed_at, int_of, FitsInt}
 use Rattle.arrow_bits.proofs.Places.{number_in_part}
-use Rattle.arrow_data.specs.PlainValue.{PlainValue, bool_value, int_value, binary_value}
-use Rattle.arrow_data.specs.Slots.{is_valid_at, or_null, bool_slot, int_slot, fixed_slot}
+use Rattle.arrow_layout.specs.PlainValue.{PlainValue, bool_value, int_value, binary_value}
+use Rattle.arrow_layout.specs.Slots.{is_valid_at, or_null, bool_slot, int_slot, fixed_slot}
 use Rattle.arrow_builder.specs.Kept.{KeepsBools, KeepsFixed}
-use Rattle.arrow_builder.specs.Puts.{PutsBit, PutsSlot, StaySlots, value_or_null}
+use Rattle.arrow_builder.specs.Puts.{PutsSlot, StaySlots, value_or_null}
 
 -- what holds anyway holds after an error
 pub after_err : {A E P : Type 0} (r : Result A E) → P → OnErr r P
@@ -37,7 +37,7 @@ valid_by_bit (byte ∷ validity) j h = rw (eqb-suc-zero (length validity)) refl
 pub valid_stays : (at : ℕ) (bit : Bool) (old new : List ℕ) → at ≤ 8 * length old → PutsBit at bit old new → (j : ℕ) → j < at
     → is_valid_at new j ≡ is_valid_at old j
 valid_stays at bit old new le puts j h =
-    valid_by_bit new j (omega (arith, puts.long)) ∙ puts.same j h ∙ sym (valid_by_bit old j (omega (arith, le, h)))
+    valid_by_bit new j (omega (arith, puts.long)) ∙ puts.same j (λ e. omega (arith, h, e)) ∙ sym (valid_by_bit old j (omega (arith, le, h)))
 
 -- the bit after them is the validity of the slot after them
 pub valid_put : (at : ℕ) (bit : Bool) (old new : List ℕ) → PutsBit at bit old new → is_valid_at new at ≡ bit
@@ -97,7 +97,7 @@ pub bools_put : (at : ℕ) (truth : Option Bool) (bit : Bool) (validity values v
     → PutsSlot at (value_or_null bool_value truth) (bool_slot validity values) (bool_slot validity' values')
 bools_put at truth bit validity values validity' values' kept puts valid same = record {
   same = λ j h. or_null_same validity validity' j (bool_value (bit_of values j)) (bool_value (bit_of values' j))
-      (valid_stays at (is_some truth) validity validity' kept.bits valid j h) (ap bool_value (puts.same j h));
+      (valid_stays at (is_some truth) validity validity' kept.bits valid j h) (ap bool_value (puts.same j (λ e. omega (arith, h, e))));
   put = or_null_put bool_value truth validity' at (bool_value (bit_of values' at)) (valid_put at (is_some truth) validity validity' valid)
       (bool_in_slot truth bit values' at puts.put same);
 }
@@ -105,7 +105,7 @@ bools_put at truth bit validity values validity' values' kept puts valid same = 
 -- the first truth values stay if their bits do
 pub bools_stay : (at : ℕ) (bit : Bool) (validity values values' : List ℕ) → PutsBit at bit values values'
     → StaySlots at (bool_slot validity values) (bool_slot validity values')
-bools_stay at bit validity values values' puts = λ j h. or_null_same validity validity j (bool_value (bit_of values j)) (bool_value (bit_of values' j)) refl (ap bool_value (puts.same j h))
+bools_stay at bit validity values values' puts = λ j h. or_null_same validity validity j (bool_value (bit_of values j)) (bool_value (bit_of values' j)) refl (ap bool_value (puts.same j (λ e. omega (arith, h, e))))
 
 -- a number is the one that was stored
 int_in_slot : (number : Option ℤ) (stored : ℤ) (values : List ℕ) (place width : ℕ) (signed : Bool)

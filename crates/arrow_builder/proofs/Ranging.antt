@@ -7,11 +7,11 @@ use Rattle.std.proofs.Common.{inl, inr}
 use mir.Syntax.{w128}
 use mir.Val.{to_z}
 use Rattle.arrow_bits.specs.Numbers.{number_at, number_bytes, int_bytes, int_of, FitsInt}
-use Rattle.arrow_data.specs.Form.{offset_bytes}
-use Rattle.arrow_data.specs.PlainValue.{PlainValue}
-use Rattle.arrow_data.specs.Slots.{is_valid_at, place_of, range_of}
-use Rattle.arrow_data.specs.declared.form.OffsetWidth.{OffsetWidth}
-use Rattle.arrow_data.specs.declared.form.OffsetWidth.TheVariants.{Small, Large}
+use Rattle.arrow_layout.specs.Form.{offset_bytes}
+use Rattle.arrow_layout.specs.PlainValue.{PlainValue}
+use Rattle.arrow_layout.specs.Slots.{is_valid_at, place_of, range_of}
+use Rattle.arrow_layout.specs.declared.form.OffsetWidth.{OffsetWidth}
+use Rattle.arrow_layout.specs.declared.form.OffsetWidth.TheVariants.{Small, Large}
 use Rattle.arrow_builder.specs.Kept.{KeepsRanges, offset_bound}
 use Rattle.arrow_builder.specs.Puts.{PutsSlot, PutsValid, StayPlaces, StaySlots, part_slot, value_or_null}
 use Rattle.arrow_builder.proofs.Putting.{number_by_start, or_null_put, or_null_same, place_inside, range_after, range_by_start}

@@ -2,11 +2,11 @@
 use Rattle.std.proofs.Common.{◌≡◌, ℕ, zero, suc, ◌+◌, ◌*◌, ◌≤◌, List, [], ◌∷◌, ◌++◌, length, replicate, subst, arith, length-append}
 use Rattle.std.proofs.lemmas.List.{length-replicate}
 use Rattle.arrow_types.specs.Field.{FieldTree, FieldShape, none, more}
-use Rattle.arrow_data.specs.Form.{node_form}
-use Rattle.arrow_data.specs.PlainValue.{PlainValue, null_value}
-use Rattle.arrow_data.specs.declared.form.Form.{Form}
-use Rattle.arrow_data.specs.declared.form.Form.TheVariants as forms
-use Rattle.arrow_data.specs.declared.form.OffsetWidth.TheVariants.{Small, Large}
+use Rattle.arrow_layout.specs.Form.{node_form}
+use Rattle.arrow_layout.specs.PlainValue.{PlainValue, null_value}
+use Rattle.arrow_layout.specs.declared.form.Form.{Form}
+use Rattle.arrow_layout.specs.declared.form.Form.TheVariants as forms
+use Rattle.arrow_layout.specs.declared.form.OffsetWidth.TheVariants.{Small, Large}
 use Rattle.arrow_builder.specs.Columns.{AllBelow, AllNodes, child_column}
 use Rattle.arrow_builder.specs.Fields.{field_form}
 use Rattle.arrow_builder.specs.Tally.{IsTotal}

@@ -1,7 +1,7 @@
 -- The buffers of a growing node.
 use Rattle.std.specs.Prelude.{ℕ, List, [], ◌∷◌, ⊤}
-use Rattle.arrow_data.specs.declared.form.Form.{Form}
-use Rattle.arrow_data.specs.declared.form.Form.TheVariants as forms
+use Rattle.arrow_layout.specs.declared.form.Form.{Form}
+use Rattle.arrow_layout.specs.declared.form.Form.TheVariants as forms
 use Rattle.arrow_builder.specs.declared.slots.SlotBuffers.{SlotBuffers}
 
 -- the bytes of each buffer, in the order of the format; after them the buffers that the form does not have, which are

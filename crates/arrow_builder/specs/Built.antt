@@ -6,10 +6,10 @@ use Rattle.arrow_types.specs.Field.{FieldTree, FieldShape, fields_of, levels}
 use Rattle.arrow_types.specs.Schema.{has_encoding}
 use Rattle.arrow_types.specs.Stored.{field_code}
 use Rattle.arrow_types.specs.declared.field.Encoding.{Encoding}
-use Rattle.arrow_data.specs.PlainValue.{PlainValue, PlainValues, null_value, bool_value, int_value, binary_value, utf8_value, list_of_values, list_value, struct_value, no_values, field_value}
-use Rattle.arrow_data.specs.Stored.{value_code}
-use Rattle.arrow_data.specs.declared.form.ListForm.{ListForm}
-use Rattle.arrow_data.specs.declared.form.ListForm.TheVariants as lists
+use Rattle.arrow_layout.specs.PlainValue.{PlainValue, PlainValues, null_value, bool_value, int_value, binary_value, utf8_value, list_of_values, list_value, struct_value, no_values, field_value}
+use Rattle.arrow_layout.specs.Stored.{value_code}
+use Rattle.arrow_layout.specs.declared.form.ListForm.{ListForm}
+use Rattle.arrow_layout.specs.declared.form.ListForm.TheVariants as lists
 
 -- the field, and the raw values so far
 pub record Built : Type 0 where

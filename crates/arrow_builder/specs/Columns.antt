@@ -3,12 +3,12 @@
 use Rattle.std.specs.Prelude.{◌+◌, ℕ, List, [], ◌∷◌, ◌++◌, length, map, take, ⊤}
 use Rattle.std.specs.List.{range_with_len}
 use Rattle.arrow_types.specs.Field.{FieldTree, FieldShape, FieldHeader, none, more}
-use Rattle.arrow_data.specs.Form.{node_form}
-use Rattle.arrow_data.specs.PlainValue.{PlainValue, field_value}
+use Rattle.arrow_layout.specs.Form.{node_form}
+use Rattle.arrow_layout.specs.PlainValue.{PlainValue, field_value}
 use Rattle.arrow_data.specs.Same.{Begins}
-use Rattle.arrow_data.specs.declared.form.Form.{Form}
-use Rattle.arrow_data.specs.declared.form.Form.TheVariants as forms
-use Rattle.arrow_data.specs.declared.form.ListForm.{ListForm}
+use Rattle.arrow_layout.specs.declared.form.Form.{Form}
+use Rattle.arrow_layout.specs.declared.form.Form.TheVariants as forms
+use Rattle.arrow_layout.specs.declared.form.ListForm.{ListForm}
 use Rattle.arrow_builder.specs.Built.{Built, given_items}
 use Rattle.arrow_builder.specs.Fields.{field_form}
 

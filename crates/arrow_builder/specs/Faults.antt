@@ -1,7 +1,7 @@
 -- Why a value is not pushed, and why no array can be made of a column.
 use Rattle.std.specs.Prelude.{ℕ, ℤ, List, codes}
 use Rattle.arrow_data.specs.Column.{ValueList}
-use Rattle.arrow_data.specs.PlainValue.{PlainValue}
+use Rattle.arrow_layout.specs.PlainValue.{PlainValue}
 use Rattle.arrow_builder.specs.Built.{Built, with_value}
 use Rattle.arrow_builder.specs.Fields.{FitsField}
 use Rattle.arrow_builder.specs.Finished.{AreIndexed, AreTyped}

@@ -1,9 +1,9 @@
 -- Which values a slot in the column of a field can hold (Columnar Format, "Physical Memory Layout").
 use Rattle.arrow_types.specs.Field.{FieldShape}
-use Rattle.arrow_data.specs.Fits.{Fits}
-use Rattle.arrow_data.specs.Form.{node_form}
-use Rattle.arrow_data.specs.PlainValue.{PlainValue}
-use Rattle.arrow_data.specs.declared.form.Form.{Form}
+use Rattle.arrow_layout.specs.Fits.{Fits}
+use Rattle.arrow_layout.specs.Form.{node_form}
+use Rattle.arrow_layout.specs.PlainValue.{PlainValue}
+use Rattle.arrow_layout.specs.declared.form.Form.{Form}
 
 -- the form of a field's column
 abbrev pub field_form : FieldShape → Form

@@ -8,8 +8,8 @@ use Rattle.arrow_types.specs.declared.field.Encoding.{Encoding}
 use Rattle.arrow_data.specs.Column.{Column, ValueList}
 use Rattle.arrow_data.specs.Listed.{listed, values_by}
 use Rattle.arrow_data.specs.Parts.{IsOfType, type_of}
-use Rattle.arrow_data.specs.PlainValue.{PlainValue, null_value, bool_value, int_value, binary_value, utf8_value, list_value, struct_value}
-use Rattle.arrow_data.specs.Slots.{IsIndex}
+use Rattle.arrow_layout.specs.PlainValue.{PlainValue, null_value, bool_value, int_value, binary_value, utf8_value, list_value, struct_value}
+use Rattle.arrow_layout.specs.Slots.{IsIndex}
 use Rattle.arrow_builder.specs.Built.{Built}
 use Rattle.arrow_builder.specs.Columns.{AllNodes, child_columns, item_offsets}
 use Rattle.arrow_builder.specs.Fields.{field_form}

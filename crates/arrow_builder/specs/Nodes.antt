@@ -2,10 +2,10 @@
 use Rattle.std.specs.Prelude.{◌≤◌, ℕ}
 use Rattle.std.specs.List.{AllByRecursion}
 use Rattle.arrow_types.specs.View.{field_view}
-use Rattle.arrow_data.specs.Form.{HasFieldsOf, form_of}
+use Rattle.arrow_layout.specs.Form.{HasFieldsOf, form_of}
 use Rattle.arrow_data.specs.Parts.{value_slot}
-use Rattle.arrow_data.specs.PlainValue.{PlainValue}
-use Rattle.arrow_data.specs.Slots.{slots}
+use Rattle.arrow_layout.specs.PlainValue.{PlainValue}
+use Rattle.arrow_layout.specs.Slots.{slots}
 use Rattle.arrow_builder.specs.Buffers.{buffers_in}
 use Rattle.arrow_builder.specs.Built.{Built, AreBelow, counts_in, raws_in}
 use Rattle.arrow_builder.specs.Columns.{AreHeld}

@@ -1,15 +1,8 @@
 -- What it means to put one more after the first bits or slots (Columnar Format, "Physical Memory Layout").
-use Rattle.std.specs.Prelude.{◌≡◌, ◌≤◌, ◌<◌, ◌+◌, ◌*◌, ℕ, Bool, List, length, Option, None, Some}
-use Rattle.arrow_bits.specs.Bitmap.{bit_of}
-use Rattle.arrow_data.specs.PlainValue.{PlainValue, null_value}
-use Rattle.arrow_data.specs.Slots.{is_valid_at, or_null, place_of, range_of}
-use Rattle.arrow_data.specs.declared.form.OffsetWidth.{OffsetWidth}
-
--- the first `at` bits stay, and the one after them is this bit
-pub record PutsBit (at : ℕ) (bit : Bool) (old new : List ℕ) : Type 0 where
-  pub same : (j : ℕ) → j < at → bit_of new j ≡ bit_of old j
-  pub put : bit_of new at ≡ bit
-  pub long : at + 1 ≤ 8 * length new
+use Rattle.std.specs.Prelude.{◌≡◌, ◌≤◌, ◌<◌, ℕ, Bool, List, Option, None, Some}
+use Rattle.arrow_layout.specs.PlainValue.{PlainValue, null_value}
+use Rattle.arrow_layout.specs.Slots.{is_valid_at, or_null, place_of, range_of}
+use Rattle.arrow_layout.specs.declared.form.OffsetWidth.{OffsetWidth}
 
 -- the first `at` slots stay, and the one after them has the value
 pub record PutsSlot (at : ℕ) (value : PlainValue) (old new : ℕ → PlainValue) : Type 0 where

@@ -2,9 +2,9 @@
 use Rattle.std.specs.Prelude.{◌≡◌, ◌≤◌, ◌+◌, ℕ, Bool, true, false, List, [], ◌∷◌, ◌++◌, length, ⊤, Option, None, Some}
 use denote.Param.Weighed.{most}
 use Rattle.arrow_types.specs.Field.{FieldTree, FieldShape, none, more}
-use Rattle.arrow_data.specs.Form.{node_form}
-use Rattle.arrow_data.specs.PlainValue.{PlainValue}
-use Rattle.arrow_data.specs.declared.form.Form.{Form}
+use Rattle.arrow_layout.specs.Form.{node_form}
+use Rattle.arrow_layout.specs.PlainValue.{PlainValue}
+use Rattle.arrow_layout.specs.declared.form.Form.{Form}
 use Rattle.arrow_builder.specs.Columns.{AllBelow, AllNodes, child_column}
 use Rattle.arrow_builder.specs.Fields.{field_form}
 use Rattle.arrow_builder.specs.Within.{IsShort, IsShortNode, data_bytes}

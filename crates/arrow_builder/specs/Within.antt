@@ -4,12 +4,12 @@
 -- most 2^40.
 use Rattle.std.specs.Prelude.{◌≤◌, ◌+◌, ◌^◌, ℕ, List, [], ◌∷◌, length}
 use Rattle.arrow_types.specs.Field.{FieldHeader}
-use Rattle.arrow_data.specs.Form.{node_form}
-use Rattle.arrow_data.specs.PlainValue.{PlainValue, null_value, bool_value, int_value, binary_value, utf8_value, list_value, struct_value}
-use Rattle.arrow_data.specs.declared.form.Form.{Form}
-use Rattle.arrow_data.specs.declared.form.Form.TheVariants as forms
-use Rattle.arrow_data.specs.declared.form.OffsetWidth.{OffsetWidth}
-use Rattle.arrow_data.specs.declared.form.OffsetWidth.TheVariants.{Small, Large}
+use Rattle.arrow_layout.specs.Form.{node_form}
+use Rattle.arrow_layout.specs.PlainValue.{PlainValue, null_value, bool_value, int_value, binary_value, utf8_value, list_value, struct_value}
+use Rattle.arrow_layout.specs.declared.form.Form.{Form}
+use Rattle.arrow_layout.specs.declared.form.Form.TheVariants as forms
+use Rattle.arrow_layout.specs.declared.form.OffsetWidth.{OffsetWidth}
+use Rattle.arrow_layout.specs.declared.form.OffsetWidth.TheVariants.{Small, Large}
 use Rattle.arrow_builder.specs.Built.{Built}
 use Rattle.arrow_builder.specs.Columns.{AllNodes}
 

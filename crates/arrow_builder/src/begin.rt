@@ -9,7 +9,7 @@ ghost use Rattle.arrow_types.specs.View.{field_view, fields_view};
 
 use crate::node::Node;
 use crate::slots::SlotBuffers;
-use arrow_data::form::{Form, ListForm, OffsetWidth, has_own_fields, node_form};
+use arrow_layout::form::{Form, ListForm, OffsetWidth, has_own_fields, node_form};
 use arrow_types::Field;
 use std::alloc::{AllocError, Global};
 

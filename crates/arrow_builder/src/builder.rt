@@ -1,7 +1,7 @@
 //! Columns built value by value.
 
 ghost use Rattle.std.specs.Prelude.{◌≡◌, false, length, IfOk, OnErr, OnOk, MatchResult};
-ghost use Rattle.arrow_data.specs.Value.{value_view};
+ghost use Rattle.arrow_layout.specs.Value.{value_view};
 ghost use Rattle.arrow_data.specs.Listed.{ResolvesBy};
 ghost use Rattle.arrow_builder.specs.Built.{no_values_of, with_value};
 ghost use Rattle.arrow_builder.specs.Faults.{ExplainsArray, ExplainsPush, TakesValue};
@@ -17,7 +17,8 @@ use crate::indexed::are_indexed;
 use crate::node::{Node, push_value};
 use crate::tally::{Tally, add, nothing, settle};
 use crate::typed::are_typed;
-use arrow_data::{Array, Dictionary, DictionaryMap, Value};
+use arrow_data::{Array, Dictionary, DictionaryMap};
+use arrow_layout::Value;
 use arrow_types::Field;
 use std::alloc::{AllocError, Global};
 use std::marker::Model;

@@ -3,9 +3,9 @@
 ghost use Rattle.std.specs.Prelude.{◌≡◌, ◌≤◌, IfOk, map, length};
 ghost use Rattle.std.specs.List.{AllByRecursion};
 ghost use Rattle.arrow_data.specs.Column.{counts_of};
-ghost use Rattle.arrow_data.specs.Form.{node_form};
-ghost use Rattle.arrow_data.specs.Layout.{IsIndexed, IsText};
-ghost use Rattle.arrow_data.specs.Node.{IsInside, bytes_of};
+ghost use Rattle.arrow_layout.specs.Form.{node_form};
+ghost use Rattle.arrow_layout.specs.Layout.{IsIndexed, IsText};
+ghost use Rattle.arrow_layout.specs.ByteRanges.{IsInside, bytes_of};
 ghost use Rattle.arrow_data.specs.Parts.{AreChildren, IsOfType, node_column, values_in};
 ghost use Rattle.arrow_builder.specs.Buffers.{buffers_in};
 ghost use Rattle.arrow_builder.specs.Built.{HaveSlots, cut_to};
@@ -15,7 +15,8 @@ ghost use Rattle.arrow_types.specs.View.{type_view};
 
 use crate::node::Node;
 use crate::slots::SlotBuffers;
-use arrow_data::{Array, ByteRange, ChildData, DictionaryMap, NodeBuffers, SharedBody};
+use arrow_data::{Array, ChildData, DictionaryMap};
+use arrow_layout::{ByteRange, NodeBuffers, SharedBody};
 use arrow_types::Field;
 use bytes::Bytes;
 use std::alloc::{AllocError, Global};

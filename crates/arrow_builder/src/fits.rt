@@ -1,17 +1,17 @@
 //! Whether a value fits a column.
 
 ghost use Rattle.std.specs.Prelude.{◌↔◌, IsTrue, length};
-ghost use Rattle.arrow_data.specs.Fits.{HoldsBinary, HoldsInt, HoldsUtf8, ItemsFit, PartsFit};
-ghost use Rattle.arrow_data.specs.Form.{HoldsList, int_width};
-ghost use Rattle.arrow_data.specs.PlainValue.{list_of_values, values_of};
-ghost use Rattle.arrow_data.specs.Value.{value_view, values_view};
+ghost use Rattle.arrow_layout.specs.Fits.{HoldsBinary, HoldsInt, HoldsUtf8, ItemsFit, PartsFit};
+ghost use Rattle.arrow_layout.specs.Form.{HoldsList, int_width};
+ghost use Rattle.arrow_layout.specs.PlainValue.{list_of_values, values_of};
+ghost use Rattle.arrow_layout.specs.Value.{value_view, values_view};
 ghost use Rattle.arrow_bits.specs.Numbers.{FitsInt};
 ghost use Rattle.arrow_builder.specs.Fields.{FitsField};
 ghost use Rattle.arrow_types.specs.View.{field_view, fields_view};
 ghost use Rattle.std.specs.String.{string_bytes};
 
-use arrow_data::Value;
-use arrow_data::form::{Form, ListForm, NumberForm, node_form};
+use arrow_layout::Value;
+use arrow_layout::form::{Form, ListForm, NumberForm, node_form};
 use arrow_types::{BitWidth, Field};
 
 /// Whether a slot of the field's column can hold the value.

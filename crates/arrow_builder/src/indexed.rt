@@ -7,9 +7,10 @@ ghost use Rattle.arrow_builder.specs.Built.{HaveSlots, cut_to};
 ghost use Rattle.arrow_builder.specs.Finished.{AreIndexed, IsIndexed};
 
 use crate::node::Node;
-use arrow_data::form::int_width;
-use arrow_data::layout::are_indices;
-use arrow_data::{DictionaryMap, NumberBuffers};
+use arrow_data::DictionaryMap;
+use arrow_layout::NumberBuffers;
+use arrow_layout::form::int_width;
+use arrow_layout::layout::are_indices;
 use arrow_types::Encoding;
 
 /// Whether each index in the first `len` slots, and in what these cover of the columns below, has

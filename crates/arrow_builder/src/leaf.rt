@@ -1,18 +1,18 @@
 //! Slots put after the first ones of a node of any form without children.
 
 ghost use Rattle.std.specs.Prelude.{◌≡◌, ◌+◌, OnErr, OnOk, List, [], option_map};
-ghost use Rattle.arrow_data.specs.Fits.{Fits};
+ghost use Rattle.arrow_layout.specs.Fits.{Fits};
 ghost use Rattle.arrow_data.specs.Parts.{value_slot};
-ghost use Rattle.arrow_data.specs.PlainValue.{PlainValue, binary_in, bool_in, int_in, utf8_in};
-ghost use Rattle.arrow_data.specs.Value.{value_view};
+ghost use Rattle.arrow_layout.specs.PlainValue.{PlainValue, binary_in, bool_in, int_in, utf8_in};
+ghost use Rattle.arrow_layout.specs.Value.{value_view};
 ghost use Rattle.arrow_builder.specs.Buffers.{IsLeaf, buffers_in};
 ghost use Rattle.arrow_builder.specs.Kept.{Keeps};
 ghost use Rattle.arrow_builder.specs.Puts.{PutsSlot, StaySlots};
 ghost use Rattle.arrow_types.specs.Field.{none};
 
 use crate::slots::{SlotBuffers, put_bool, put_bytes, put_fixed, put_number};
-use arrow_data::Value;
-use arrow_data::form::Form;
+use arrow_layout::Value;
+use arrow_layout::form::Form;
 use std::alloc::AllocError;
 
 /// The truth value, if it is one.

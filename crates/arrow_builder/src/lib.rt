@@ -40,7 +40,6 @@
 #![tactic(auto)]
 
 pub(crate) mod begin;
-pub(crate) mod bits;
 mod builder;
 mod faults;
 pub(crate) mod finish;

@@ -3,22 +3,23 @@
 
 ghost use Rattle.std.specs.Prelude.{◌≡◌, ◌≤◌, ◌<◌, ℕ, length, map, replicate, take, OnErr, OnOk};
 ghost use Rattle.std.specs.List.{AllByRecursion};
-ghost use Rattle.arrow_data.specs.Fits.{Fits};
-ghost use Rattle.arrow_data.specs.PlainValue.{field_value, is_null_value, nth_value, null_value, values_of};
-ghost use Rattle.arrow_data.specs.Value.{value_view, values_view};
-ghost use Rattle.arrow_data.specs.declared.form.Form.TheVariants as forms;
-ghost use Rattle.arrow_data.specs.declared.form.ListForm.TheVariants as lists;
+ghost use Rattle.arrow_layout.specs.Fits.{Fits};
+ghost use Rattle.arrow_layout.specs.PlainValue.{field_value, is_null_value, nth_value, null_value};
+ghost use Rattle.arrow_layout.specs.PlainValue.{values_of};
+ghost use Rattle.arrow_layout.specs.Value.{value_view, values_view};
+ghost use Rattle.arrow_layout.specs.declared.form.Form.TheVariants as forms;
+ghost use Rattle.arrow_layout.specs.declared.form.ListForm.TheVariants as lists;
 ghost use Rattle.arrow_builder.specs.Buffers.{IsLeaf};
 ghost use Rattle.arrow_builder.specs.Built.{cut_to, fields_in, items_of, with_parts, with_value};
 ghost use Rattle.arrow_builder.specs.Built.{HaveSlots, sized_items, with_values};
 ghost use Rattle.arrow_builder.specs.Columns.{child_column};
 ghost use Rattle.arrow_builder.specs.Fields.{FitsField, field_form};
 
-use crate::bits::put_bit;
 use crate::leaf::put_leaf;
 use crate::slots::{SlotBuffers, SlotEnd, place_at, put_range, sized_place};
-use arrow_data::Value;
-use arrow_data::form::{Form, ListForm, OffsetWidth, node_form};
+use arrow_bits::put_bit;
+use arrow_layout::form::{Form, ListForm, OffsetWidth, node_form};
+use arrow_layout::{MOST_SLOTS, Value};
 use arrow_types::Field;
 use std::alloc::AllocError;
 use std::marker::Model;
@@ -113,9 +114,6 @@ impl Node {
         Ok(())
     }
 }
-
-/// The most slots that a node has.
-pub(crate) const MOST_SLOTS: usize = 2_147_483_647;
 
 /// Puts a value that fits after the others. After an error, which means that an allocation failed
 /// or a node would have too many slots or bytes, the values are unchanged.

@@ -4,21 +4,20 @@
 //! allocation fails, the first slots are unchanged.
 
 ghost use Rattle.std.specs.Prelude.{◌≡◌, ◌+◌, ◌++◌, IfSome, OnErr, OnOk, Bool, length, take};
-ghost use Rattle.arrow_data.specs.PlainValue.{binary_value, bool_value, int_value};
-ghost use Rattle.arrow_data.specs.Slots.{bool_slot, fixed_slot, int_slot};
+ghost use Rattle.arrow_layout.specs.PlainValue.{binary_value, bool_value, int_value};
+ghost use Rattle.arrow_layout.specs.Slots.{bool_slot, fixed_slot, int_slot};
 ghost use Rattle.arrow_bits.specs.Numbers.{FitsInt, FitsWidth, IsAnyWidth};
 ghost use Rattle.std.specs.Prelude.{◌*◌, ◌≤◌, ◌<◌, ◌↔◌, ℕ, IsTrue, List};
-ghost use Rattle.arrow_data.specs.Form.{offset_bytes};
-ghost use Rattle.arrow_data.specs.PlainValue.{PlainValue};
-ghost use Rattle.arrow_data.specs.Slots.{place_of};
+ghost use Rattle.arrow_layout.specs.Form.{offset_bytes};
+ghost use Rattle.arrow_layout.specs.PlainValue.{PlainValue};
+ghost use Rattle.arrow_layout.specs.Slots.{place_of};
 ghost use Rattle.arrow_builder.specs.Kept.{KeepsBools, KeepsFixed, KeepsParts, KeepsRanges};
 ghost use Rattle.arrow_builder.specs.Kept.{offset_bound};
 ghost use Rattle.arrow_builder.specs.Puts.{PutsSlot, PutsValid, StayPlaces, StaySlots, part_slot};
 ghost use Rattle.arrow_builder.specs.Puts.{value_or_null};
 
-use crate::bits::put_bit;
-use arrow_bits::{int_at, put_int};
-use arrow_data::form::OffsetWidth;
+use arrow_bits::{int_at, put_bit, put_int, put_zeros};
+use arrow_layout::form::OffsetWidth;
 use std::alloc::AllocError;
 
 /// The buffers of a node, in the order of the format (Columnar Format, "Buffer Listing for Each
@@ -128,17 +127,8 @@ fn append_fixed(values: &mut Vec<u8>, width: usize, bytes: Option<&[u8]>) -> Res
 {
     match bytes {
         Some(bytes) => values.extend_from_slice(bytes),
-        None => append_zeros(values, width),
+        None => put_zeros(values, width),
     }
-}
-
-/// Appends `count` zeros.
-fn append_zeros(values: &mut Vec<u8>, count: usize) -> Result<(), AllocError>
-    ensures start { take (length values.old.items) values.new.items ≡ values.old.items }
-    ensures long { OnOk result (length values.new.items ≡ length values.old.items + count) }
-{
-    let end = values.len().checked_add(count).ok_or(AllocError)?;
-    values.resize(end, 0)
 }
 
 /// The offset at which the first `at` slots end.

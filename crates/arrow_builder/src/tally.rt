@@ -4,9 +4,9 @@
 //! What a value adds is counted on every level before it is put anywhere, without allocating.
 
 ghost use Rattle.std.specs.Prelude.{◌≡◌, ◌≤◌, ◌*◌, ◌↔◌, ◌∷◌, [], false, ℕ, replicate, IfOk, IsTrue};
-ghost use Rattle.arrow_data.specs.PlainValue.{null_value};
-ghost use Rattle.arrow_data.specs.Value.{value_view, values_view};
-ghost use Rattle.arrow_data.specs.declared.form.Form.{Form};
+ghost use Rattle.arrow_layout.specs.PlainValue.{null_value};
+ghost use Rattle.arrow_layout.specs.Value.{value_view, values_view};
+ghost use Rattle.arrow_layout.specs.declared.form.Form.{Form};
 ghost use Rattle.arrow_builder.specs.Built.{given_items, sized_items};
 ghost use Rattle.arrow_builder.specs.Columns.{all_items, child_column};
 ghost use Rattle.arrow_builder.specs.Tally.{Adds, AddsBelow, AllSettle, AreCounted, Grows};
@@ -14,9 +14,9 @@ ghost use Rattle.arrow_builder.specs.Tally.{IsCounted, Settles};
 ghost use Rattle.arrow_builder.specs.Within.{most_after, most_bytes, slot_bytes, value_bytes};
 ghost use Rattle.arrow_types.specs.View.{field_view, fields_view};
 
-use crate::node::{MOST_SLOTS, items_in, null, part_of};
-use arrow_data::Value;
-use arrow_data::form::{Form, ListForm, OffsetWidth, node_form};
+use crate::node::{items_in, null, part_of};
+use arrow_layout::form::{Form, ListForm, OffsetWidth, node_form};
+use arrow_layout::{MOST_SLOTS, Value};
 use arrow_types::Field;
 use std::alloc::{AllocError, Global};
 

@@ -99,8 +99,6 @@ use arrowflow::stream::laws::text_is_a_stream;
 use arrowflow::stream::probe::Failing;
 use arrowflow::stream::probe::Narrow;
 use arrowflow::stream::probe::Trickle;
-use arrowflow::stream::put_end_marker;
-use arrowflow::stream::put_frame;
 use arrowflow::types::BitWidth;
 use arrowflow::types::Buffer;
 use arrowflow::types::DataType;

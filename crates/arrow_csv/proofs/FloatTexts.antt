@@ -27,7 +27,7 @@ use lib.Ieee.Fits.{and_l, and_r, cond-fits, down_pos, inf-fits, nan-fits, odd-fi
 use lib.Ieee.Scale.{round_same}
 use lib.Pow.{pow-lt, pow_mono, pow_pos, shl_lt}
 use native.Mathlib.Nat.{lt_of_lt_of_le, lt_of_mul-lt-mul_right, mul-div_cancel, mul-lt-mul_of_pos_right, pow-suc}
-use Rattle.arrow_data.specs.Half.{half_number, half_of_fields}
+use Rattle.arrow_layout.specs.Half.{half_number, half_of_fields}
 
 -- ---- digits of a number of any size
 

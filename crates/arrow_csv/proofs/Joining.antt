@@ -5,7 +5,7 @@ use Rattle.std.proofs.lemmas.List.{get_or-drop, length-drop, take_all}
 use Rattle.arrow_types.specs.Field.{FieldHeader, FieldTree, none, more, TypeShape}
 use Rattle.arrow_types.specs.View.{field_view, fields_view}
 use Rattle.arrow_types.specs.declared.field.Field.{Field}
-use Rattle.arrow_data.specs.PlainValue.{PlainValue, int_value, list_value, struct_value, null_value, value_at, values_of}
+use Rattle.arrow_layout.specs.PlainValue.{PlainValue, int_value, list_value, struct_value, null_value, value_at, values_of}
 use Rattle.arrow_data.specs.Column.{Column, AreOf, resolved_row_of, values_from}
 use Rattle.arrow_data.specs.Shown.{ListsItems}
 use Rattle.arrow_data.proofs.Sameness.{length-values_from}

@@ -6,7 +6,7 @@ use Rattle.std.proofs.lemmas.List.{get_or_append_left, length-append, take_all}
 use Rattle.bytes.proofs.Ranges.{slice_range_front}
 use Rattle.arrow_types.specs.Schema.{has_encoding}
 use Rattle.arrow_data.specs.Column.{Column, HasValue, IsColumn, IsValueList, ValueList}
-use Rattle.arrow_data.specs.PlainValue.{value_at}
+use Rattle.arrow_layout.specs.PlainValue.{value_at}
 use Rattle.arrow_data.specs.View.{RefersTo}
 use Rattle.arrow_csv.specs.Made.{AreFirst, HasFields, IsEntryField, IsField}
 use Rattle.arrow_csv.specs.Texts.{Appends, IsFieldOf, IsSomeField}

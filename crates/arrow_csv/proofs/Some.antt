@@ -12,8 +12,8 @@ use Rattle.arrow_types.specs.declared.data_type.Precision.TheVariants.{Half, Sin
 use Rattle.arrow_types.specs.Field.{FieldTree, none, more, TypeShape}
 use Rattle.arrow_data.specs.Batch.{Table}
 use Rattle.arrow_data.specs.Column.{Column}
-use Rattle.arrow_data.specs.PlainValue.{PlainValue, PlainValues, null_value, bool_value, int_value, binary_value, utf8_value, list_value, struct_value, no_values, more_values, value_at}
-use Rattle.arrow_data.specs.Floats.{bits_in, number_of}
+use Rattle.arrow_layout.specs.PlainValue.{PlainValue, PlainValues, null_value, bool_value, int_value, binary_value, utf8_value, list_value, struct_value, no_values, more_values, value_at}
+use Rattle.arrow_layout.specs.Floats.{bits_in, number_of}
 use Rattle.arrow_csv.specs.Floats.{IsFloatText, IsNumberText, text_format}
 use Rattle.arrow_csv.proofs.FloatTexts.{bits_fit, float_text, half_fits}
 use Rattle.arrow_csv.specs.Decimals.{decimal_text}

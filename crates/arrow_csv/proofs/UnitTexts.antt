@@ -1,9 +1,9 @@
 -- Numbers with their units, one after another, and the texts of bytes.
 use Rattle.std.proofs.Common.{◌≡◌, ℕ, ℤ, List, ◌++◌, codes, sym, ap, ap₂, ◌∙◌, subst, append_assoc}
 use Rattle.arrow_types.specs.Field.{TypeShape}
-use Rattle.arrow_data.specs.PlainValue.{PlainValue, binary_value}
-use Rattle.arrow_data.specs.declared.intervals.Interval.{Interval}
-use Rattle.arrow_data.specs.declared.intervals.Interval.TheVariants.{DayTime, MonthDayNano}
+use Rattle.arrow_layout.specs.PlainValue.{PlainValue, binary_value}
+use Rattle.arrow_layout.specs.declared.intervals.Interval.{Interval}
+use Rattle.arrow_layout.specs.declared.intervals.Interval.TheVariants.{DayTime, MonthDayNano}
 use Rattle.arrow_csv.specs.Intervals.{bytes_text, counted, interval_text, months_text}
 use Rattle.arrow_csv.specs.Texts.{Appends, IsPlain, IsText}
 use Rattle.arrow_csv.proofs.Numerals.{both_plain}

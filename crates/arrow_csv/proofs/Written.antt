@@ -14,7 +14,7 @@ use Rattle.csv.specs.Writing.{default_writer, field_text, fields_text, is_blank,
 use Rattle.arrow_data.specs.Column.{Column}
 use Rattle.arrow_data.specs.Same.{HaveSlot}
 use Rattle.arrow_types.specs.Field.{TypeShape}
-use Rattle.arrow_data.specs.PlainValue.{PlainValue, null_value, value_at}
+use Rattle.arrow_layout.specs.PlainValue.{PlainValue, null_value, value_at}
 use Rattle.arrow_csv.specs.Records.{AreColumnTexts, AreFieldsAfter, AreFieldsJoined, AreRows, IsBareRow, IsHead, IsRowAfter, IsRowPast, first_of, record_of, rows_text}
 use Rattle.arrow_csv.specs.Texts.{Appends, Each, IsFieldOf, IsSomeField, IsText}
 use Rattle.arrow_csv.proofs.Digits.{digits_plain}

@@ -8,7 +8,7 @@ use Rattle.arrow_types.specs.DataType.{TypeId}
 use Rattle.arrow_types.specs.DataType as tags
 use Rattle.arrow_types.specs.declared.data_type.Precision.{Precision}
 use Rattle.arrow_types.specs.declared.data_type.Precision.TheVariants.{Half, Single, Double}
-use Rattle.arrow_data.specs.Floats.{bits_in, number_of}
+use Rattle.arrow_layout.specs.Floats.{bits_in, number_of}
 use Rattle.arrow_csv.specs.Decimals.{decimal_text}
 use Rattle.arrow_csv.specs.Intervals.{months_text}
 

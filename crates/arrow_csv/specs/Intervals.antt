@@ -4,11 +4,11 @@ use Rattle.std.specs.Fmt.{signed_decimal}
 use Rattle.hex.specs.Hex.{encode_lower}
 use Rattle.arrow_types.specs.DataType.{TypeId}
 use Rattle.arrow_types.specs.DataType as tags
-use Rattle.arrow_data.specs.Decimals.{decimal_of_bytes, unscaled_of}
-use Rattle.arrow_data.specs.Intervals.{interval_of_bytes}
+use Rattle.arrow_layout.specs.Decimals.{decimal_of_bytes, unscaled_of}
+use Rattle.arrow_layout.specs.Intervals.{interval_of_bytes}
 use Rattle.arrow_csv.specs.Decimals.{decimal_text}
-use Rattle.arrow_data.specs.declared.intervals.Interval.{Interval}
-use Rattle.arrow_data.specs.declared.intervals.Interval.TheVariants.{YearMonth, DayTime, MonthDayNano}
+use Rattle.arrow_layout.specs.declared.intervals.Interval.{Interval}
+use Rattle.arrow_layout.specs.declared.intervals.Interval.TheVariants.{YearMonth, DayTime, MonthDayNano}
 
 -- a number, then its unit
 abbrev pub counted : ℤ → List ℕ → List ℕ

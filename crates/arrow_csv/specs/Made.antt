@@ -1,7 +1,7 @@
 -- Fields that are made before the rows that contain them. Only the crate's private contracts use these.
 use Rattle.std.specs.Prelude.{◌≡◌, ◌≤◌, ◌<◌, ◌+◌, ℕ, List, length, get_or, slice_range, ⊤, Option, None, Some}
 use Rattle.arrow_data.specs.Column.{Column, HasDictionary, ValueList}
-use Rattle.arrow_data.specs.PlainValue.{value_at}
+use Rattle.arrow_layout.specs.PlainValue.{value_at}
 use Rattle.arrow_csv.specs.Texts.{IsSomeField}
 use Rattle.arrow_csv.specs.declared.column_text.DictionaryTexts.{DictionaryTexts}
 

@@ -9,7 +9,7 @@ use Rattle.arrow_types.specs.Field.{FieldTree, none, more}
 use Rattle.arrow_types.specs.Notes.{SchemaShape}
 use Rattle.arrow_data.specs.Batch.{Table, table_code}
 use Rattle.arrow_data.specs.Column.{Column}
-use Rattle.arrow_data.specs.PlainValue.{value_at}
+use Rattle.arrow_layout.specs.PlainValue.{value_at}
 use Rattle.arrow_csv.specs.Layouts.{Form, first_field, form_code}
 use Rattle.arrow_csv.specs.Texts.{Each, IsText}
 

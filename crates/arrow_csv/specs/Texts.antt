@@ -4,7 +4,7 @@ use Rattle.csv.specs.Writing.{default_writer, field_text, needs_quotes}
 use Rattle.arrow_csv.specs.Floats.{IsNumberText}
 use Rattle.arrow_csv.specs.Intervals.{bytes_text}
 use Rattle.arrow_types.specs.Field.{FieldTree, none, more, TypeShape}
-use Rattle.arrow_data.specs.PlainValue.{PlainValue, PlainValues, null_value, bool_value, int_value, binary_value, utf8_value, list_value, struct_value, no_values, more_values, values_of}
+use Rattle.arrow_layout.specs.PlainValue.{PlainValue, PlainValues, null_value, bool_value, int_value, binary_value, utf8_value, list_value, struct_value, no_values, more_values, values_of}
 
 -- texts after the first, each after a semicolon
 abbrev pub after : List (List ℕ) → List ℕ

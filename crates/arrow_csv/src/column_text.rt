@@ -2,7 +2,7 @@
 //! once.
 
 ghost use Rattle.std.specs.Prelude.{◌≡◌, ◌<◌, IfOk, IfSome, OnOk, length};
-ghost use Rattle.arrow_data.specs.PlainValue.{value_at};
+ghost use Rattle.arrow_layout.specs.PlainValue.{value_at};
 ghost use Rattle.arrow_csv.specs.Layouts.{null_by};
 ghost use Rattle.arrow_data.specs.Shown.{HoldsValue};
 ghost use Rattle.arrow_data.specs.declared.array.SlotValue.TheVariants.{Null};

@@ -2,14 +2,14 @@
 
 ghost use Rattle.std.specs.Prelude.{◌≡◌, ◌+◌, ◌++◌, OnOk};
 ghost use Rattle.std.specs.Fmt.{sign_text};
-ghost use Rattle.arrow_data.specs.Decimals.{unscaled_of};
+ghost use Rattle.arrow_layout.specs.Decimals.{unscaled_of};
 ghost use Rattle.arrow_csv.specs.Decimals.{decimal_text, numeral, scaled, with_point, zero_filled};
 ghost use Rattle.arrow_csv.specs.Texts.{Appends, IsPlain};
 ghost use Rattle.arrow_csv.specs.Wide.{wide_number};
 
 use crate::digit_texts::push_number;
 use crate::wide::{Wide, first_digit};
-use arrow_data::Decimal;
+use arrow_layout::Decimal;
 use itoa::Buffer;
 use std::alloc::AllocError;
 

@@ -8,7 +8,7 @@ ghost use Rattle.arrow_csv.specs.Texts.{Appends, IsPlain};
 
 use crate::decimals::push_wide_decimal;
 use crate::digit_texts::{push_bytes, push_number};
-use arrow_data::{Interval, decimals, intervals};
+use arrow_layout::{Interval, decimals, intervals};
 use arrow_types::DataType;
 use std::alloc::AllocError;
 

@@ -1,14 +1,16 @@
 //! The records of a schema and of the rows of batches.
 
-ghost use Rattle.std.specs.Prelude.{◌≡◌, ◌≤◌, ◌<◌, ◌-◌, ◌++◌, [], codes, IfOk, IfSome, OnErr, OnOk, length, map};
+ghost use Rattle.std.specs.Prelude.{◌≡◌, ◌≤◌, ◌<◌, ◌-◌, ◌++◌, [], codes, IfOk, IfSome, OnErr, OnOk};
+ghost use Rattle.std.specs.Prelude.{length, map};
 ghost use Rattle.std.specs.Fmt.{decimal};
-ghost use Rattle.arrow_data.specs.PlainValue.{value_at};
+ghost use Rattle.arrow_layout.specs.PlainValue.{value_at};
 ghost use Rattle.arrow_data.specs.Same.{HaveSlot};
 ghost use Rattle.arrow_csv.specs.Texts.{Appends, IsSomeField};
 ghost use Rattle.csv.specs.Records.{fields_of, partial_of};
 ghost use Rattle.arrow_types.specs.Field.{none};
 ghost use Rattle.arrow_types.specs.View.{fields_view};
-ghost use Rattle.arrow_csv.specs.Named.{HaveSlots, choice_by, chosen, chosen_shape, fields_named, with_field};
+ghost use Rattle.arrow_csv.specs.Named.{HaveSlots, choice_by, chosen, chosen_shape, fields_named};
+ghost use Rattle.arrow_csv.specs.Named.{with_field};
 ghost use Rattle.arrow_csv.specs.Layouts.{first_field, form_by, null_by, usual_form};
 ghost use Rattle.arrow_csv.specs.Records.{AreBatchRows, AreFieldsAfter, AreFieldsJoined, AreRows};
 ghost use Rattle.arrow_csv.specs.Records.{IsBareRow, IsHead, IsRowAfter, IsRowPast, first_of};

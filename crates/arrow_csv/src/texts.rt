@@ -2,7 +2,7 @@
 
 ghost use Rattle.std.specs.Prelude.{◌≡◌, ◌≤◌, ◌<◌, ◌+◌, OnOk, length};
 ghost use Rattle.arrow_data.specs.Column.{AreOf, resolved_row_of, values_from};
-ghost use Rattle.arrow_data.specs.PlainValue.{value_at};
+ghost use Rattle.arrow_layout.specs.PlainValue.{value_at};
 ghost use Rattle.arrow_data.specs.Same.{HaveSlot};
 ghost use Rattle.arrow_data.specs.Shown.{HoldsValue};
 ghost use Rattle.arrow_types.specs.View.{fields_view};

@@ -1,10 +1,10 @@
 //! Numbers of 256 bits, and their decimal digits.
 
 ghost use Rattle.std.specs.Prelude.{◌≡◌, ◌<◌, ◌≤◌, ◌+◌, ◌*◌, ◌^◌, ◌++◌, drop, length, unsigned_abs};
-ghost use Rattle.arrow_data.specs.Decimals.{unscaled_of};
+ghost use Rattle.arrow_layout.specs.Decimals.{unscaled_of};
 ghost use Rattle.arrow_csv.specs.Wide.{last_digits, wide_number, without_zeros};
 
-use arrow_data::Decimal;
+use arrow_layout::Decimal;
 
 /// The size of a chunk: ten to the power of 19, the highest power of ten that fits 64 bits.
 const CHUNK: u128 = 10_000_000_000_000_000_000;

@@ -4,8 +4,8 @@ use Rattle.std.proofs.lemmas.Bool.{cases_lt}
 use Rattle.std.proofs.lemmas.List.{append-nil, get_or_append_left, get_or-append-add, length-map, map-append}
 use Rattle.std.specs.List.{AllByRecursion}
 use Rattle.arrow_data.specs.Segments.{AreSame, Between, HaveStarts, IsBlock, IsPartWith, block_segments, block_starts, columns_of, joined, starts_of}
-use Rattle.arrow_data.specs.declared.dictionary.Block.{Block}
-use Rattle.arrow_data.specs.declared.dictionary.Segment.{Segment}
+use Rattle.arrow_data.specs.declared.array.Block.{Block}
+use Rattle.arrow_data.specs.declared.array.Segment.{Segment}
 use Rattle.arrow_data.proofs.Segments.{first_start, length-starts_of}
 
 -- the columns of two lists of segments, one list after the other

@@ -9,15 +9,16 @@ use Rattle.std.proofs.lemmas.List.FromFn.{get_or-map-range_with_len, length-map-
 use Rattle.std.proofs.lemmas.Option.{get_or_from_slice_get, slice_get-map, slice_get_read, slice_get_within}
 use Rattle.arrow_bits.proofs.Rising.{numbers_from_offsets, offsets_inside}
 use Rattle.arrow_types.specs.Field.{FieldTree, FieldHeader, none, more, TypeShape}
-use Rattle.arrow_data.specs.PlainValue.{PlainValue, value_at, null_value, is_null_value, list_value, struct_value, values_of, field_value, nth_value}
+use Rattle.arrow_layout.specs.PlainValue.{PlainValue, value_at, null_value, is_null_value, list_value, struct_value, values_of, field_value, nth_value}
 use Rattle.arrow_data.specs.Column.{Column, AreOf, HasChild, HasField, HasItems, IsColumn, column_dictionaries, dictionaries_of_field, field_of_listed, listed_of, slots_of, type_of_field, struct_fields, struct_fields_of}
-use Rattle.arrow_data.specs.Form.{IsLists, form_of, offset_bytes}
-use Rattle.arrow_data.specs.Slots.{slots, item_place, item_places, items_at, list_slot, struct_slot, is_valid_at, place_of, HasItemPlaces, HasOffsets}
-use Rattle.arrow_data.specs.declared.form.Form.TheVariants as forms
-use Rattle.arrow_data.specs.declared.form.ListForm.{ListForm}
-use Rattle.arrow_data.specs.declared.form.ListForm.TheVariants.{Offsets, Fixed}
-use Rattle.arrow_data.specs.declared.form.OffsetWidth.{OffsetWidth}
-use Rattle.arrow_data.proofs.Shown.{length_slots, at_slots, items_inside, row_same}
+use Rattle.arrow_layout.specs.Form.{IsLists, form_of, offset_bytes}
+use Rattle.arrow_layout.specs.Slots.{slots, item_place, item_places, items_at, list_slot, struct_slot, is_valid_at, place_of, HasItemPlaces, HasOffsets}
+use Rattle.arrow_layout.specs.declared.form.Form.TheVariants as forms
+use Rattle.arrow_layout.specs.declared.form.ListForm.{ListForm}
+use Rattle.arrow_layout.specs.declared.form.ListForm.TheVariants.{Offsets, Fixed}
+use Rattle.arrow_layout.specs.declared.form.OffsetWidth.{OffsetWidth}
+use Rattle.arrow_data.proofs.Shown.{length_slots, at_slots, row_same}
+use Rattle.arrow_layout.proofs.Widths.{items_inside}
 
 -- a slot that is not null is valid
 valid_from_value : (b : Bool) (x : PlainValue) → is_null_value (if b then x else null_value) ≡ false → b ≡ true

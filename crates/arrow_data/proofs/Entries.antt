@@ -6,7 +6,7 @@ use Rattle.arrow_types.specs.declared.field.Encoding.{Encoding}
 use Rattle.arrow_data.specs.Column.{Column, HasDictionary}
 use Rattle.arrow_data.specs.Node.{column_by, AreEntriesBy}
 use Rattle.arrow_data.specs.declared.buffers.Ints.{Ints}
-use Rattle.arrow_data.specs.declared.dictionary.Dictionary.{Dictionary}
+use Rattle.arrow_data.specs.declared.array.Dictionary.{Dictionary}
 use Rattle.arrow_data.specs.declared.array.Ranges.TheVariants.{Indices}
 
 -- the dictionary of a column of indices

@@ -9,22 +9,23 @@ use Rattle.arrow_bits.proofs.Reading.{bytes_take}
 use Rattle.arrow_types.specs.Field.{FieldTree, FieldHeader, none, more, TypeShape}
 use Rattle.arrow_types.specs.declared.field.Encoding.{Encoding}
 use Rattle.arrow_data.specs.Column.{Column, AreOf, IsColumn}
-use Rattle.arrow_data.specs.Fits.{AllFit, Fits, FitsType, HoldsBinary, HoldsInt, HoldsUtf8, ItemsFit, PartsFit}
-use Rattle.arrow_data.specs.Form.{form_of, node_form, number_width, HoldsItems, HoldsList}
-use Rattle.arrow_data.specs.Node.{AreBytes, AreInts, AreRanges, IsFormat, bytes_of, raw_slot}
-use Rattle.arrow_data.specs.PlainValue.{PlainValue, value_at, list_of_values, null_value, values_of}
-use Rattle.arrow_data.specs.Slots.{slots, is_valid_at, item_place, items_at, range_of, HasItemPlaces}
+use Rattle.arrow_layout.specs.Fits.{AllFit, Fits, FitsType, HoldsBinary, HoldsInt, HoldsUtf8, ItemsFit, PartsFit}
+use Rattle.arrow_layout.specs.Form.{form_of, node_form, number_width, HoldsItems, HoldsList}
+use Rattle.arrow_layout.specs.ByteRanges.{AreBytes, bytes_of}
+use Rattle.arrow_data.specs.Node.{AreInts, AreRanges, IsFormat, raw_slot}
+use Rattle.arrow_layout.specs.PlainValue.{PlainValue, value_at, list_of_values, null_value, values_of}
+use Rattle.arrow_layout.specs.Slots.{slots, is_valid_at, item_place, items_at, range_of, HasItemPlaces}
 use Rattle.arrow_data.specs.declared.array.Ranges.{Ranges}
 use Rattle.arrow_data.specs.declared.array.Ranges.TheVariants as ranges
 use Rattle.arrow_data.specs.declared.buffers.Ints.{Ints}
-use Rattle.arrow_data.specs.declared.byte_range.ByteRange.{ByteRange}
-use Rattle.arrow_data.specs.declared.form.Form.{Form}
-use Rattle.arrow_data.specs.declared.form.Form.TheVariants as forms
-use Rattle.arrow_data.specs.declared.form.ListForm.{ListForm}
-use Rattle.arrow_data.specs.declared.form.ListForm.TheVariants.{Offsets, Fixed}
-use Rattle.arrow_data.specs.declared.form.OffsetWidth.{OffsetWidth}
+use Rattle.arrow_layout.specs.declared.byte_range.ByteRange.{ByteRange}
+use Rattle.arrow_layout.specs.declared.form.Form.{Form}
+use Rattle.arrow_layout.specs.declared.form.Form.TheVariants as forms
+use Rattle.arrow_layout.specs.declared.form.ListForm.{ListForm}
+use Rattle.arrow_layout.specs.declared.form.ListForm.TheVariants.{Offsets, Fixed}
+use Rattle.arrow_layout.specs.declared.form.OffsetWidth.{OffsetWidth}
 use Rattle.arrow_data.proofs.Lists.{list_again}
-use Rattle.arrow_data.proofs.Shown.{items_inside, slot_inside}
+use Rattle.arrow_layout.proofs.Widths.{items_inside, slot_inside}
 
 -- slot by slot
 fit_from : (P : PlainValue → Type 0) (n a : ℕ) (f : ℕ → PlainValue) → ((j : ℕ) → j < a + n → P (f j)) → AllByRecursion P (map f (range_with_len a n))

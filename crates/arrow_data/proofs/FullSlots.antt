@@ -12,24 +12,26 @@ use Rattle.arrow_bits.specs.Offsets.{plain_list}
 use Rattle.arrow_types.specs.Field.{TypeShape}
 use Rattle.arrow_types.specs.declared.field.Encoding.{Encoding}
 use Rattle.arrow_data.specs.Column.{Column, ValueList, values_from}
-use Rattle.arrow_data.specs.Form.{node_form, offset_bytes}
-use Rattle.arrow_data.specs.FullSlots.{AreFull, IsFirstInvalid, IsFirstNull, value_bytes, width_in}
-use Rattle.arrow_data.specs.Node.{AreBytes, AreEntriesBy, AreInts, AreRanges, IsFormat, IsInside, bytes_of, fixed_at, int_at, raw_slot, validity_in}
-use Rattle.arrow_data.specs.PlainValue.{PlainValue, null_value, binary_value, int_value, is_null_value, value_at}
-use Rattle.arrow_data.specs.Slots.{HasBits, is_valid_at, or_null, place_of, range_of, slots}
+use Rattle.arrow_layout.specs.Form.{node_form, offset_bytes}
+use Rattle.arrow_data.specs.FullSlots.{AreFull, IsFirstNull, value_bytes, width_in}
+use Rattle.arrow_layout.specs.Slots.{IsFirstInvalid, HasBits, is_valid_at, or_null, place_of, range_of, slots}
+use Rattle.arrow_layout.specs.ByteRanges.{AreBytes, IsInside, bytes_of}
+use Rattle.arrow_data.specs.Node.{AreEntriesBy, AreInts, AreRanges, IsFormat, fixed_at, int_at, raw_slot, validity_in}
+use Rattle.arrow_layout.specs.PlainValue.{PlainValue, null_value, binary_value, int_value, is_null_value, value_at}
 use Rattle.arrow_data.specs.declared.array.Ranges.{Ranges}
 use Rattle.arrow_data.specs.declared.array.Ranges.TheVariants as ranges
-use Rattle.arrow_data.specs.declared.byte_range.ByteRange.{ByteRange}
+use Rattle.arrow_layout.specs.declared.byte_range.ByteRange.{ByteRange}
 use Rattle.arrow_data.specs.declared.buffers.Fixed.{Fixed}
 use Rattle.arrow_data.specs.declared.buffers.Ints.{Ints}
 use Rattle.arrow_data.specs.declared.buffers.Strings.{Strings}
-use Rattle.arrow_data.specs.declared.form.Form.{Form}
-use Rattle.arrow_data.specs.declared.form.Form.TheVariants as forms
+use Rattle.arrow_layout.specs.declared.form.Form.{Form}
+use Rattle.arrow_layout.specs.declared.form.Form.TheVariants as forms
 use Rattle.arrow_data.proofs.Again.{int_again_at}
-use Rattle.arrow_data.proofs.Cuts.{places_order}
+use Rattle.arrow_layout.proofs.Cuts.{places_order}
 use Rattle.arrow_data.proofs.Fitting.{part_small, some_bytes}
 use Rattle.arrow_data.proofs.Sameness.{at_values_from, length-values_from}
-use Rattle.arrow_data.proofs.Shown.{at_slots, slot_inside}
+use Rattle.arrow_data.proofs.Shown.{at_slots}
+use Rattle.arrow_layout.proofs.Widths.{slot_inside}
 
 -- the first k + 1 values are the first k and one more
 take_next : (vs : List PlainValue) (k : ℕ) → k < length vs → take (suc k) vs ≡ take k vs ++ value_at vs k ∷ []

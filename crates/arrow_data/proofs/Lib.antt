@@ -14,15 +14,8 @@ pub mod SlotValues
 pub mod Viewing
 pub mod NodeParts
 pub mod Batches
-pub mod Values
-pub mod Cuts
-pub mod Indices
 pub mod Listing
 pub mod Ids
 pub mod Lists
-mod LowBits
-mod ReadBack
-mod SignedNumbers
 mod Blocks
 mod OnlyChild
-mod Widened

@@ -7,11 +7,11 @@ use Rattle.arrow_types.specs.Field.{FieldTree, FieldHeader, none, more, TypeShap
 use Rattle.arrow_types.specs.Schema.{dictionary_fields, dictionary_of, has_encoding}
 use Rattle.arrow_types.specs.declared.field.Encoding.{Encoding}
 use Rattle.arrow_data.specs.Column.{Column, ValueList, AreOf, IsColumn, IsValueList, column_dictionaries, field_of_listed, listed_of}
-use Rattle.arrow_data.specs.Form.{HasFieldsOf}
+use Rattle.arrow_layout.specs.Form.{HasFieldsOf}
 use Rattle.arrow_data.specs.Node.{IsFormat}
 use Rattle.arrow_data.specs.declared.buffers.Ints.{Ints}
-use Rattle.arrow_data.specs.declared.form.Form.{Form}
-use Rattle.arrow_data.specs.declared.form.Form.TheVariants as forms
+use Rattle.arrow_layout.specs.declared.form.Form.{Form}
+use Rattle.arrow_layout.specs.declared.form.Form.TheVariants as forms
 
 -- a field that is not dictionary-encoded refers to no dictionary of its own
 encoding_says : (head : FieldHeader) (children : FieldTree) (e : Option Encoding) → head.encoding ≡ e → is_some e ≡ false → dictionary_of head children ≡ []

@@ -1,6 +1,6 @@
 -- Values of a list, as a list and back.
 use Rattle.std.proofs.Common.{◌≡◌, List, [], ◌∷◌, refl, ap}
-use Rattle.arrow_data.specs.PlainValue.{PlainValue, PlainValues, no_values, more_values, list_of_values, values_of}
+use Rattle.arrow_layout.specs.PlainValue.{PlainValue, PlainValues, no_values, more_values, list_of_values, values_of}
 
 -- the values of a list are that list
 pub list_again : (values : List PlainValue) → list_of_values (values_of values) ≡ values

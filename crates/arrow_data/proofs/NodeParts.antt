@@ -8,25 +8,26 @@ use Rattle.std.specs.Prelude.{slice_index_or}
 use Rattle.std.specs.declared.alloc.Global.{Global}
 use Rattle.std.specs.declared.vec.Vec.{Vec}
 use Rattle.arrow_types.specs.Field.{FieldTree, none, more, TypeShape}
-use Rattle.arrow_data.specs.declared.form.NumberForm.{NumberForm}
+use Rattle.arrow_layout.specs.declared.form.NumberForm.{NumberForm}
 use Rattle.arrow_types.specs.declared.field.Encoding.{Encoding}
 use Rattle.arrow_data.specs.Column.{Column, AreOf, IsColumn, counts_of, listed_of, plain_column, slots_of}
-use Rattle.arrow_data.specs.Form.{HasFieldsOf, IsLeaf, IsOneField, form_of, list_buffers, node_form}
-use Rattle.arrow_data.specs.Layout.{buffer, list_offsets, HasStrings, HoldsSlots}
-use Rattle.arrow_data.specs.Node.{column_by, AreLists, AreStrings, AreStructs, bytes_of, list_range, IsInside, IsFormat}
+use Rattle.arrow_layout.specs.Form.{HasFieldsOf, IsLeaf, IsOneField, form_of, list_buffers, node_form}
+use Rattle.arrow_layout.specs.Layout.{buffer, list_offsets, HasStrings, HoldsSlots}
+use Rattle.arrow_layout.specs.ByteRanges.{bytes_of, IsInside}
+use Rattle.arrow_data.specs.Node.{column_by, AreLists, AreStrings, AreStructs, list_range, IsFormat}
 use Rattle.arrow_data.specs.Parts.{node_column, node_offsets, value_slot}
-use Rattle.arrow_data.specs.PlainValue.{PlainValue}
-use Rattle.arrow_data.specs.Slots.{AreTexts, slots, entry_slot, int_slot, item_places, list_slot, struct_slot}
+use Rattle.arrow_layout.specs.PlainValue.{PlainValue}
+use Rattle.arrow_layout.specs.Slots.{AreTexts, slots, entry_slot, int_slot, item_places, list_slot, struct_slot}
 use Rattle.arrow_data.specs.declared.buffers.Ints.{Ints}
 use Rattle.arrow_data.specs.declared.buffers.Strings.{Strings}
 use Rattle.arrow_data.specs.declared.array.Array.{Array}
 use Rattle.arrow_data.specs.declared.array.Ranges.TheVariants as ranges
-use Rattle.arrow_data.specs.declared.dictionary.Dictionary.{Dictionary}
-use Rattle.arrow_data.specs.declared.byte_range.ByteRange.{ByteRange}
-use Rattle.arrow_data.specs.declared.form.Form.{Form}
-use Rattle.arrow_data.specs.declared.form.Form.TheVariants as forms
-use Rattle.arrow_data.specs.declared.form.ListForm.{ListForm}
-use Rattle.arrow_data.specs.declared.form.ListForm.TheVariants.{Offsets, Fixed}
+use Rattle.arrow_data.specs.declared.array.Dictionary.{Dictionary}
+use Rattle.arrow_layout.specs.declared.byte_range.ByteRange.{ByteRange}
+use Rattle.arrow_layout.specs.declared.form.Form.{Form}
+use Rattle.arrow_layout.specs.declared.form.Form.TheVariants as forms
+use Rattle.arrow_layout.specs.declared.form.ListForm.{ListForm}
+use Rattle.arrow_layout.specs.declared.form.ListForm.TheVariants.{Offsets, Fixed}
 
 -- the bytes of a buffer that was read
 pub buffer_read : (body : List ℕ) (bs : List ByteRange) (k : ℕ) (d : ByteRange) → k < length bs → buffer (map (bytes_of body) bs) k ≡ bytes_of body (slice_index_or bs k d)

@@ -8,11 +8,12 @@ use Rattle.arrow_types.specs.Field.{FieldTree, FieldHeader, none, more, TypeShap
 use Rattle.arrow_types.specs.Schema.{has_encoding}
 use Rattle.arrow_types.specs.declared.field.Encoding.{Encoding}
 use Rattle.arrow_data.specs.Column.{Column, ValueList, AreOf, IsColumn, IsValueList}
-use Rattle.arrow_data.specs.Fits.{AllFit, FitsType, ItemsFit, PartsFit, plain_fields, plain_head, plain_type}
-use Rattle.arrow_data.specs.Form.{form_of}
-use Rattle.arrow_data.specs.Node.{AreBytes, AreRanges, bytes_of, resolved_slot}
-use Rattle.arrow_data.specs.PlainValue.{PlainValue, value_at, values_of}
-use Rattle.arrow_data.specs.Slots.{slots, entry_at, is_valid_at, item_place, HasItemPlaces}
+use Rattle.arrow_layout.specs.Fits.{AllFit, FitsType, ItemsFit, PartsFit, plain_fields, plain_head, plain_type}
+use Rattle.arrow_layout.specs.Form.{form_of}
+use Rattle.arrow_layout.specs.ByteRanges.{AreBytes, bytes_of}
+use Rattle.arrow_data.specs.Node.{AreRanges, resolved_slot}
+use Rattle.arrow_layout.specs.PlainValue.{PlainValue, value_at, values_of}
+use Rattle.arrow_layout.specs.Slots.{slots, entry_at, is_valid_at, item_place, HasItemPlaces}
 use Rattle.arrow_data.specs.declared.array.Ranges.{Ranges}
 use Rattle.arrow_data.specs.declared.array.Ranges.TheVariants as ranges
 use Rattle.arrow_data.proofs.Fitting.{all_at, all_drop, all_take, items_fit, list_many, ranges_fit, shown_fits, slots_fit}

@@ -11,19 +11,20 @@ use Rattle.arrow_types.specs.Field.{FieldTree, none, more, TypeShape}
 use Rattle.arrow_types.specs.Schema.{dictionary_fields, has_encoding}
 use Rattle.arrow_types.specs.View.{type_view}
 use Rattle.arrow_types.specs.declared.field.Encoding.{Encoding}
-use Rattle.arrow_data.specs.PlainValue.{PlainValue, PlainValues, value_at, null_value, list_value, struct_value, more_values, values_of}
-use Rattle.arrow_data.specs.Fits.{AllFit, plain_type}
-use Rattle.arrow_data.specs.Form.{form_of}
-use Rattle.arrow_data.specs.Resolve.{resolve, resolve_items, resolve_parts, entry_of, before}
+use Rattle.arrow_layout.specs.PlainValue.{PlainValue, PlainValues, value_at, null_value, list_value, struct_value, more_values, values_of}
+use Rattle.arrow_layout.specs.Fits.{AllFit, plain_type}
+use Rattle.arrow_layout.specs.Form.{form_of}
+use Rattle.arrow_layout.specs.Resolve.{resolve, resolve_items, resolve_parts, entry_of, before}
 use Rattle.arrow_data.specs.Column.{Column, ValueList, AreOf, Agree, IsColumn, IsValueList, field_of_listed, listed_of}
-use Rattle.arrow_data.specs.Slots.{slots, list_slot, struct_slot, is_valid_at, item_place, entry_at, IsIndex}
-use Rattle.arrow_data.specs.Node.{AreBytes, HasOwnFields, column_by, column_of, raw_slot, resolved_slot, AreRanges, IsArray, bytes_of}
+use Rattle.arrow_layout.specs.Slots.{slots, list_slot, struct_slot, is_valid_at, item_place, entry_at, IsIndex}
+use Rattle.arrow_layout.specs.ByteRanges.{AreBytes, bytes_of}
+use Rattle.arrow_data.specs.Node.{HasOwnFields, column_by, column_of, raw_slot, resolved_slot, AreRanges, IsArray}
 use Rattle.arrow_data.specs.declared.array.Array.TheInside.{Inside}
 use Rattle.arrow_data.specs.declared.array.Ranges.{Ranges}
 use Rattle.arrow_data.specs.declared.array.Ranges.TheVariants as ranges
 use Rattle.arrow_data.proofs.Fitting.{ranges_fit}
 use Rattle.arrow_data.proofs.ResolvedFitting.{no_encoding, ranges_resolved_fit}
-use Rattle.arrow_data.specs.declared.form.Form.TheVariants as forms
+use Rattle.arrow_layout.specs.declared.form.Form.TheVariants as forms
 use Rattle.arrow_data.proofs.Listings.{all_listed_known, child_listed, fields_listed, leaf_listed, number_listed}
 use Rattle.arrow_data.proofs.Shown.{length_slots}
 

@@ -3,7 +3,7 @@ use Rattle.std.proofs.Common.{◌≡◌, ◌<◌, ◌≤◌, ◌+◌, ◌-◌, �
 use Rattle.std.proofs.lemmas.List.{ext_get_or, get_or-take, length-take-le}
 use Rattle.std.proofs.lemmas.Bool.{cases_lt}
 use Rattle.arrow_data.specs.Column.{Column, values_from}
-use Rattle.arrow_data.specs.PlainValue.{PlainValue, null_value, value_at}
+use Rattle.arrow_layout.specs.PlainValue.{PlainValue, null_value, value_at}
 use Rattle.arrow_data.specs.Same.{Begins}
 use Rattle.arrow_data.proofs.Sameness.{at_values_from, items_same}
 

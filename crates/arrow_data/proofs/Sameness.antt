@@ -1,18 +1,12 @@
 -- When two slots are the same.
-use Rattle.std.proofs.Common.{◌≡◌, ◌↔◌, ℕ, ◌+◌, ◌-◌, ◌<◌, ◌≤◌, List, [], ◌∷◌, length, drop, get_or, refl, sym, ap, ◌∙◌, arith, length-drop, Bool, IsTrue}
+use Rattle.std.proofs.Common.{◌≡◌, ◌↔◌, ℕ, ◌+◌, ◌-◌, ◌<◌, ◌≤◌, List, [], ◌∷◌, length, drop, get_or, sym, ap, ◌∙◌, arith, length-drop, Bool, IsTrue}
 use Rattle.std.proofs.lemmas.List.{ext_get_or, get_or-take, get_or-drop, get_or-map, length-map, length-take}
 use Rattle.std.specs.List.{AllByRecursion}
-use Rattle.arrow_data.specs.PlainValue.{PlainValue, value_at, null_value, list_value, struct_value, values_of}
+use Rattle.arrow_layout.specs.PlainValue.{PlainValue, value_at, null_value, list_value, struct_value, values_of}
 use Rattle.arrow_data.specs.Column.{Column, AreOf, HasItems, HasParts, values_from, row_of}
+use Rattle.arrow_layout.proofs.Values.{values_same}
 use Rattle.arrow_data.specs.Falls.{most_le-levels}
 use Rattle.arrow_data.specs.Same.{HaveSlot, slot_measure, items_measure, parts_measure}
-
--- lists of values are equal if they convert to the same `PlainValues`
-pub values_same : (xs ys : List PlainValue) → values_of xs ≡ values_of ys → xs ≡ ys
-values_same [] [] e = refl
-values_same (x ∷ xs) (y ∷ ys) e = let tail : values_of xs ≡ values_of ys = cc in let rest = values_same xs ys tail in let head : x ≡ y = cc in cc
-values_same [] (y ∷ ys) e = cc
-values_same (x ∷ xs) [] e = cc
 
 -- comparing the items of a slot is less than comparing the slot
 pub child_smaller : (c child : Column) → AreOf c.data_type.children (child ∷ []) → items_measure child < slot_measure c

@@ -4,11 +4,11 @@ use Rattle.std.proofs.lemmas.List.{append-nil, get_or_append_left, get_or-append
 use Rattle.std.proofs.lemmas.List.Elements.{All-from_recursion}
 use Rattle.std.specs.List.{AllByRecursion}
 use Rattle.arrow_types.specs.Field.{TypeShape}
-use Rattle.arrow_data.specs.Fits.{AllFit, FitsType}
-use Rattle.arrow_data.specs.PlainValue.{PlainValue, value_at, null_value}
+use Rattle.arrow_layout.specs.Fits.{AllFit, FitsType}
+use Rattle.arrow_layout.specs.PlainValue.{PlainValue, value_at, null_value}
 use Rattle.arrow_data.specs.Column.{Column, ValueList, HasValue, IsColumn}
 use Rattle.arrow_data.specs.Segments.{columns_of, joined, IsSegment, starts_from, starts_of, Between}
-use Rattle.arrow_data.specs.declared.dictionary.Segment.{Segment}
+use Rattle.arrow_data.specs.declared.array.Segment.{Segment}
 
 -- the values with those of one more column
 pub joined_push : (cs : List Column) (c : Column) → joined (cs ++ c ∷ []) ≡ joined cs ++ c.raw

@@ -1,14 +1,15 @@
 -- The slots of ranges.
-use Rattle.std.proofs.Common.{◌≡◌, ℕ, ◌+◌, ◌*◌, ◌<◌, ◌≤◌, true, List, [], ◌∷◌, length, map, refl, ap, ◌∙◌, arith, if◌then◌else◌}
+use Rattle.std.proofs.Common.{◌≡◌, ℕ, ◌<◌, ◌≤◌, true, List, [], ◌∷◌, length, map, refl, ap, ◌∙◌, arith, if◌then◌else◌}
 use Rattle.std.proofs.lemmas.List.FromFn.{get_or-map-range_with_len, length-map-range_with_len}
-use Rattle.std.proofs.lemmas.Nat.{column_fits, mul-le}
 use Rattle.std.specs.List.{AllByRecursion}
 use Rattle.arrow_types.specs.Field.{TypeShape}
-use Rattle.arrow_data.specs.PlainValue.{PlainValue, value_at, null_value, struct_value, values_of}
+use Rattle.arrow_layout.specs.PlainValue.{PlainValue, value_at, null_value, struct_value, values_of}
 use Rattle.arrow_data.specs.Column.{Column, HasParts, counts_of}
-use Rattle.arrow_data.specs.Slots.{slots, struct_slot, is_valid_at}
-use Rattle.arrow_data.specs.Node.{bytes_of, AreStructs}
-use Rattle.arrow_data.specs.declared.byte_range.ByteRange.{ByteRange}
+use Rattle.arrow_layout.specs.Slots.{slots, struct_slot, is_valid_at}
+use Rattle.arrow_layout.specs.ByteRanges.{bytes_of}
+use Rattle.arrow_data.specs.Node.{AreStructs}
+use Rattle.arrow_layout.specs.declared.byte_range.ByteRange.{ByteRange}
+use Rattle.arrow_layout.proofs.Widths.{slot_inside}
 
 -- there are as many values as slots
 pub length_slots : (n : ℕ) (f : ℕ → PlainValue) → length (slots n f) ≡ n
@@ -17,18 +18,6 @@ length_slots n f = length-map-range_with_len f 0 n
 -- the value of a slot
 pub at_slots : (n : ℕ) (f : ℕ → PlainValue) (i : ℕ) → i < n → value_at (slots n f) i ≡ f i
 at_slots n f i h = get_or-map-range_with_len f 0 n i i null_value h (omega arith)
-
--- the bytes of a slot of fixed width
-pub slot_inside : (width i n m : ℕ) → i < n → width * n ≤ m → width * i + width ≤ m
-slot_inside width i n m h long = omega (arith, column_fits width i width n h (omega arith), long)
-
--- the bytes of slots of fixed width one after another
-pub parts_inside : (width i k n m : ℕ) → i ≤ k → k ≤ n → width * n ≤ m → (width * i ≤ width * k) × (width * k ≤ m)
-parts_inside width i k n m order inside long = (mul-le width i width k (omega arith) order, omega (arith, mul-le width k width n (omega arith) inside, long))
-
--- the items of a fixed-size list
-pub items_inside : (size i n m : ℕ) → i < n → size * n ≤ m → (size * i ≤ size * (i + 1)) × (size * (i + 1) ≤ m)
-items_inside size i n m h long = parts_inside size i (i + 1) n m (omega arith) (omega (arith, h)) long
 
 -- the number of slots, the value in each, and where its bytes are
 pub ruleset shown = (length_slots, at_slots, slot_inside)

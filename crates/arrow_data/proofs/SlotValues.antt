@@ -5,11 +5,12 @@ use Rattle.arrow_types.specs.Field.{TypeShape}
 use Rattle.arrow_types.specs.View.{type_view}
 use Rattle.arrow_types.specs.Schema.{has_encoding}
 use Rattle.arrow_types.specs.declared.field.Encoding.{Encoding}
-use Rattle.arrow_data.specs.PlainValue.{PlainValue, value_at, null_value, int_value, list_value, struct_value}
+use Rattle.arrow_layout.specs.PlainValue.{PlainValue, value_at, null_value, int_value, list_value, struct_value}
 use Rattle.arrow_data.specs.Column.{Column, AreOf, IsColumn, HasEntry, HasNoIndex}
-use Rattle.arrow_data.specs.Node.{AreRanges, IsArray, bytes_of, column_of, raw_slot, resolved_slot}
+use Rattle.arrow_layout.specs.ByteRanges.{bytes_of}
+use Rattle.arrow_data.specs.Node.{AreRanges, IsArray, column_of, raw_slot, resolved_slot}
 use Rattle.arrow_data.specs.Shown.{HoldsValue, Shows, value_shown}
-use Rattle.arrow_data.specs.Slots.{is_valid_at}
+use Rattle.arrow_layout.specs.Slots.{is_valid_at}
 use Rattle.arrow_data.specs.declared.array.Array.TheInside.{Inside}
 use Rattle.arrow_data.specs.declared.array.Ranges.{Ranges}
 use Rattle.arrow_data.specs.declared.array.Ranges.TheVariants as ranges

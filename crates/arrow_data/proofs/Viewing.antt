@@ -3,14 +3,15 @@ use Rattle.std.proofs.Common.{◌≡◌, ◌<◌, ◌*◌, ℕ, ℤ, pos, negsuc
 use Rattle.std.specs.Global.{Box, Vec}
 use Rattle.arrow_bits.specs.Numbers.{IsIntWidth, int_of}
 use Rattle.arrow_types.specs.Field.{TypeShape}
-use Rattle.arrow_data.specs.declared.form.NumberForm.{NumberForm}
+use Rattle.arrow_layout.specs.declared.form.NumberForm.{NumberForm}
 use Rattle.arrow_types.specs.declared.field.Encoding.{Encoding}
 use Rattle.arrow_types.specs.View.{type_view}
 use Rattle.arrow_data.specs.Column.{Column, HasDictionary, HasEntry, HasFields, HasValue, ValueList}
-use Rattle.arrow_data.specs.Form.{form_of, node_form}
-use Rattle.arrow_data.specs.Node.{AreEntriesBy, AreInts, AreRanges, IsArray, IsFormat, below_of, bytes_of, column_by, column_of, dictionaries_of, int_at, offsets_in, raw_slot, resolved_slot}
-use Rattle.arrow_data.specs.PlainValue.{PlainValue, int_in, int_value, is_null_value, null_value, value_at}
-use Rattle.arrow_data.specs.Slots.{AreIndices, IsIndex, entry_at, is_valid_at}
+use Rattle.arrow_layout.specs.Form.{form_of, node_form}
+use Rattle.arrow_layout.specs.ByteRanges.{bytes_of}
+use Rattle.arrow_data.specs.Node.{AreEntriesBy, AreInts, AreRanges, IsArray, IsFormat, below_of, column_by, column_of, dictionaries_of, int_at, offsets_in, raw_slot, resolved_slot}
+use Rattle.arrow_layout.specs.PlainValue.{PlainValue, int_in, int_value, is_null_value, null_value, value_at}
+use Rattle.arrow_layout.specs.Slots.{AreIndices, IsIndex, entry_at, is_valid_at}
 use Rattle.arrow_data.specs.View.{AreRaw, AreValues, HoldBinaries, HoldBools, HoldFixed, HoldIndices, HoldInts, HoldLists, HoldNulls, HoldStructs, HoldTexts, IsOfNumbers}
 use Rattle.arrow_data.specs.declared.array.Array.{Array}
 use Rattle.arrow_data.specs.declared.array.Array.TheInside.{Inside}
@@ -20,12 +21,12 @@ use Rattle.arrow_data.specs.declared.buffers.Bools.{Bools}
 use Rattle.arrow_data.specs.declared.buffers.Fixed.{Fixed}
 use Rattle.arrow_data.specs.declared.buffers.Ints.{Ints}
 use Rattle.arrow_data.specs.declared.buffers.Strings.{Strings}
-use Rattle.arrow_data.specs.declared.byte_range.ByteRange.{ByteRange}
-use Rattle.arrow_data.specs.declared.dictionary.Dictionary.{Dictionary}
-use Rattle.arrow_data.specs.declared.form.Form.{Form}
-use Rattle.arrow_data.specs.declared.form.Form.TheVariants as forms
-use Rattle.arrow_data.specs.declared.form.ListForm.{ListForm}
-use Rattle.arrow_data.specs.declared.form.OffsetWidth.{OffsetWidth}
+use Rattle.arrow_layout.specs.declared.byte_range.ByteRange.{ByteRange}
+use Rattle.arrow_data.specs.declared.array.Dictionary.{Dictionary}
+use Rattle.arrow_layout.specs.declared.form.Form.{Form}
+use Rattle.arrow_layout.specs.declared.form.Form.TheVariants as forms
+use Rattle.arrow_layout.specs.declared.form.ListForm.{ListForm}
+use Rattle.arrow_layout.specs.declared.form.OffsetWidth.{OffsetWidth}
 use Rattle.arrow_data.proofs.Children.{child_shown, part_of_column}
 use Rattle.arrow_data.proofs.Entries.{dictionary_shown}
 use Rattle.arrow_data.proofs.Fitting.{part_small}

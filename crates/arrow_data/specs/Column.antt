@@ -7,13 +7,13 @@ use Rattle.arrow_types.specs.Schema.{DictionaryField, dictionary_fields, has_enc
 use Rattle.arrow_types.specs.Stored.{type_code}
 use Rattle.arrow_types.specs.contracts.field.Encoding.{the_row as encoding_row}
 use Rattle.arrow_types.specs.declared.field.Encoding.{Encoding}
-use Rattle.arrow_data.specs.Fits.{AllFit, plain_type}
-use Rattle.arrow_data.specs.Form.{IsLists, node_form}
-use Rattle.arrow_data.specs.PlainValue.{PlainValue, value_at, null_value, int_value, list_value, struct_value, values_of, is_null_value, field_value}
-use Rattle.arrow_data.specs.Resolve.{resolve}
-use Rattle.arrow_data.specs.Stored.{value_code}
-use Rattle.arrow_data.specs.declared.form.Form.{Form}
-use Rattle.arrow_data.specs.declared.form.Form.TheVariants as forms
+use Rattle.arrow_layout.specs.Fits.{AllFit, plain_type}
+use Rattle.arrow_layout.specs.Form.{IsLists, node_form}
+use Rattle.arrow_layout.specs.PlainValue.{PlainValue, value_at, null_value, int_value, list_value, struct_value, values_of, is_null_value, field_value}
+use Rattle.arrow_layout.specs.Resolve.{resolve}
+use Rattle.arrow_layout.specs.Stored.{value_code}
+use Rattle.arrow_layout.specs.declared.form.Form.{Form}
+use Rattle.arrow_layout.specs.declared.form.Form.TheVariants as forms
 
 -- What a dictionary is to contracts: the type of its values, and the values.
 pub record ValueList : Type 0 where

@@ -11,8 +11,8 @@ use Rattle.arrow_data.specs.Segments.{block_segments, columns_of, IsSegment}
 use Rattle.arrow_data.specs.declared.array.Ranges.{Ranges}
 use Rattle.arrow_data.specs.declared.array.Ranges.TheVariants as ranges
 use Rattle.arrow_data.specs.declared.array.Array.TheDeep.{deep-Block, deep-Ranges, deep-Segment}
-use Rattle.arrow_data.specs.declared.dictionary.Block.{Block}
-use Rattle.arrow_data.specs.declared.dictionary.Segment.{Segment}
+use Rattle.arrow_data.specs.declared.array.Block.{Block}
+use Rattle.arrow_data.specs.declared.array.Segment.{Segment}
 
 -- a dictionary adds two steps at most
 index_levels-le : (e : Option Encoding) → index_levels e ≤ 2

@@ -2,11 +2,10 @@
 use Rattle.std.specs.Prelude.{◌≡◌, ◌≤◌, ◌<◌, ℕ, true, false, List, []}
 use Rattle.arrow_bits.specs.Numbers.{int_bytes}
 use Rattle.arrow_data.specs.Column.{Column}
-use Rattle.arrow_data.specs.Form.{number_width}
-use Rattle.arrow_data.specs.PlainValue.{PlainValue, null_value, bool_value, int_value, binary_value, utf8_value, list_value, struct_value, is_null_value, value_at}
-use Rattle.arrow_data.specs.Slots.{is_valid_at}
-use Rattle.arrow_data.specs.declared.form.Form.{Form}
-use Rattle.arrow_data.specs.declared.form.Form.TheVariants as forms
+use Rattle.arrow_layout.specs.Form.{number_width}
+use Rattle.arrow_layout.specs.PlainValue.{PlainValue, null_value, bool_value, int_value, binary_value, utf8_value, list_value, struct_value, is_null_value, value_at}
+use Rattle.arrow_layout.specs.declared.form.Form.{Form}
+use Rattle.arrow_layout.specs.declared.form.Form.TheVariants as forms
 
 -- none of the slots from `start` up to `stop` is null
 abbrev pub AreFull : Column → ℕ → ℕ → Type 0
@@ -18,13 +17,6 @@ pub record IsFirstNull (c : Column) (start stop i : ℕ) : Type 0 where
   pub high : i ≤ stop
   pub full : AreFull c start i
   pub null : i < stop → is_null_value (value_at c.raw i) ≡ true
-
--- slot i is the first one from `start` on that is not valid, or it is `stop` and each one before it is
-pub record IsFirstInvalid (validity : List ℕ) (start stop i : ℕ) : Type 0 where
-  pub low : start ≤ i
-  pub high : i ≤ stop
-  pub valid : (j : ℕ) → start ≤ j → j < i → is_valid_at validity j ≡ true
-  pub invalid : i < stop → is_valid_at validity i ≡ false
 
 -- how many bytes each number of a node of the form takes, 0 if the form has no numbers
 abbrev pub width_in : Form → ℕ

@@ -1,14 +1,5 @@
-pub mod PlainValue
-pub mod Form
-pub mod Stored
-pub mod Resolve
-pub mod Fits
 pub mod Column
 pub mod Listed
-pub mod Slots
-pub mod Cuts
-pub mod Layout
-pub mod Shared
 pub mod Parts
 pub mod Node
 pub mod Segments
@@ -16,11 +7,6 @@ pub mod Falls
 pub mod Shown
 pub mod View
 pub mod Same
-pub mod Value
 pub mod Batch
 pub mod FullSlots
 pub mod Laws
-pub mod Half
-pub mod Floats
-pub mod Intervals
-pub mod Decimals

@@ -7,8 +7,8 @@ use Rattle.arrow_types.specs.Schema.{has_encoding}
 use Rattle.arrow_types.specs.declared.field.Encoding.{Encoding}
 use Rattle.arrow_data.specs.Column.{Column, ValueList}
 use Rattle.arrow_data.specs.Parts.{IsOfType, values_in}
-use Rattle.arrow_data.specs.PlainValue.{PlainValue}
-use Rattle.arrow_data.specs.Resolve.{resolve}
+use Rattle.arrow_layout.specs.PlainValue.{PlainValue}
+use Rattle.arrow_layout.specs.Resolve.{resolve}
 
 -- the dictionary that is listed first for an id, if there is one
 abbrev pub listed : List (ℤ × ValueList) → ℤ → Option ValueList

@@ -1,35 +1,28 @@
 -- What the ranges of a node represent, and what is known of them in every array.
-use Rattle.std.specs.Prelude.{◌≡◌, ◌≤◌, ◌<◌, ℕ, ℤ, List, [], ◌∷◌, map, length, get_or, slice_index_or, slice_range, Option, None, Some}
+use Rattle.std.specs.Prelude.{◌≡◌, ◌≤◌, ℕ, ℤ, List, [], ◌∷◌, map, length, slice_index_or, Option, None, Some}
 use Rattle.std.specs.List.{AllByRecursion}
 use Rattle.arrow_bits.specs.Numbers.{IsIntWidth}
 use Rattle.arrow_types.specs.Field.{TypeShape}
 use Rattle.arrow_types.specs.View.{type_view}
 use Rattle.arrow_types.specs.declared.field.Encoding.{Encoding}
-use Rattle.arrow_data.specs.Form.{HasFieldsOf, form_of, node_form, number_width, has_sign}
-use Rattle.arrow_data.specs.PlainValue.{PlainValue, null_value}
+use Rattle.arrow_layout.specs.Form.{HasFieldsOf, form_of, node_form, number_width, has_sign}
+use Rattle.arrow_layout.specs.PlainValue.{PlainValue, null_value}
 use Rattle.arrow_data.specs.Column.{Column, ValueList, AreOf, IsColumn, IsValueList, listed_of, counts_of, slots_of}
-use Rattle.arrow_data.specs.Slots.{slots, bool_slot, int_slot, fixed_slot, binary_slot, utf8_slot, item_places, list_slot, struct_slot, entry_slot, AreTexts, AreIndices}
-use Rattle.arrow_data.specs.Layout.{HasBools, HasFixed, HasStrings, HasLists, HasStructs}
-use Rattle.arrow_data.specs.declared.byte_range.ByteRange.{ByteRange}
+use Rattle.arrow_layout.specs.ByteRanges.{bytes_of, IsInside, AreBytes}
+use Rattle.arrow_layout.specs.Slots.{slots, bool_slot, int_slot, fixed_slot, binary_slot, utf8_slot, item_places, list_slot, struct_slot, entry_slot, AreTexts, AreIndices}
+use Rattle.arrow_layout.specs.Layout.{HasBools, HasFixed, HasStrings, HasLists, HasStructs}
+use Rattle.arrow_layout.specs.declared.byte_range.ByteRange.{ByteRange}
 use Rattle.arrow_data.specs.declared.buffers.Bools.{Bools}
 use Rattle.arrow_data.specs.declared.buffers.Fixed.{Fixed}
 use Rattle.arrow_data.specs.declared.buffers.Ints.{Ints}
 use Rattle.arrow_data.specs.declared.buffers.Strings.{Strings}
 use Rattle.arrow_data.specs.declared.array.Ranges.{Ranges}
-use Rattle.arrow_data.specs.declared.form.Form.{Form}
-use Rattle.arrow_data.specs.declared.form.Form.TheVariants as forms
-use Rattle.arrow_data.specs.declared.form.ListForm.{ListForm}
-use Rattle.arrow_data.specs.declared.form.ListForm.TheVariants as lists
+use Rattle.arrow_layout.specs.declared.form.Form.{Form}
+use Rattle.arrow_layout.specs.declared.form.Form.TheVariants as forms
+use Rattle.arrow_layout.specs.declared.form.ListForm.{ListForm}
+use Rattle.arrow_layout.specs.declared.form.ListForm.TheVariants as lists
 use Rattle.arrow_data.specs.declared.array.Ranges.TheVariants as ranges
 use Rattle.arrow_data.specs.declared.array.Array.TheInside.{Inside}
-
--- the bytes of a range of the body
-abbrev pub bytes_of : List ℕ → ByteRange → List ℕ
-bytes_of body r = slice_range body r.start r.end
-
--- the range lies inside the body
-abbrev pub IsInside : List ℕ → ByteRange → Type 0
-IsInside body r = (r.start ≤ r.end) × (r.end ≤ length body)
 
 -- the truth value of a slot, from the ranges of the body
 abbrev pub bool_at : List ℕ → Bools → ℕ → PlainValue
@@ -224,10 +217,6 @@ column_by t e len body r = record {
 -- the column that an array represents
 abbrev pub column_of : Inside → Column
 column_of a = column_by (type_view a.data_type.value) a.encoding a.len a.body a.ranges
-
--- each of the numbers is a byte
-abbrev pub AreBytes : List ℕ → Type 0
-AreBytes body = (i : ℕ) → get_or body i 0 < 256
 
 -- the fields below a type are those that its form requires
 abbrev pub HasOwnFields : TypeShape → Type 0

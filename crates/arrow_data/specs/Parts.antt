@@ -3,13 +3,13 @@ use Rattle.std.specs.Prelude.{◌≡◌, ℕ, List, [], ◌∷◌, map, ⊤, get
 use Rattle.arrow_types.specs.Field.{FieldShape, TypeShape}
 use Rattle.arrow_types.specs.Schema.{has_encoding}
 use Rattle.arrow_types.specs.declared.field.Encoding.{Encoding}
-use Rattle.arrow_data.specs.PlainValue.{PlainValue, null_value}
+use Rattle.arrow_layout.specs.PlainValue.{PlainValue, null_value}
 use Rattle.arrow_data.specs.Column.{Column, ValueList, AreOf, listed_of, slots_of}
-use Rattle.arrow_data.specs.Form.{form_of, number_width, has_sign}
-use Rattle.arrow_data.specs.Layout.{buffer, list_offsets}
-use Rattle.arrow_data.specs.Slots.{slots, bool_slot, int_slot, fixed_slot, binary_slot, utf8_slot, item_places, list_slot, struct_slot, entry_slot, index_width}
-use Rattle.arrow_data.specs.declared.form.Form.{Form}
-use Rattle.arrow_data.specs.declared.form.Form.TheVariants as forms
+use Rattle.arrow_layout.specs.Form.{form_of, number_width, has_sign}
+use Rattle.arrow_layout.specs.Layout.{buffer, list_offsets}
+use Rattle.arrow_layout.specs.Slots.{slots, bool_slot, int_slot, fixed_slot, binary_slot, utf8_slot, item_places, list_slot, struct_slot, entry_slot, index_width}
+use Rattle.arrow_layout.specs.declared.form.Form.{Form}
+use Rattle.arrow_layout.specs.declared.form.Form.TheVariants as forms
 
 -- the type of a field's values
 abbrev pub type_of : FieldShape → TypeShape

@@ -7,8 +7,8 @@ use Rattle.std.specs.Coded.{coded_list}
 use Rattle.std.specs.Ordering.{on}
 use Rattle.arrow_types.specs.Equality.{is_equal, is_equal_equivalence}
 use Rattle.arrow_data.specs.Column.{Column, ValueList, column_size}
-use Rattle.arrow_data.specs.PlainValue.{PlainValue}
-use Rattle.arrow_data.specs.Stored.{value_code}
+use Rattle.arrow_layout.specs.PlainValue.{PlainValue}
+use Rattle.arrow_layout.specs.Stored.{value_code}
 
 -- whether two dictionaries have the same values
 abbrev pub same_values : ValueList → ValueList → Bool

@@ -4,11 +4,11 @@ use Rattle.std.specs.List.{AllByRecursion}
 use Rattle.std.specs.Rc.{rc_value}
 use Rattle.arrow_types.specs.Field.{TypeShape}
 use Rattle.arrow_types.specs.View.{type_view}
-use Rattle.arrow_data.specs.PlainValue.{PlainValue}
+use Rattle.arrow_layout.specs.PlainValue.{PlainValue}
 use Rattle.arrow_data.specs.Column.{Column, ValueList, IsValueList}
-use Rattle.arrow_data.specs.declared.dictionary.Block.{Block}
-use Rattle.arrow_data.specs.declared.dictionary.Segment.{Segment}
-use Rattle.arrow_data.specs.declared.dictionary.Dictionary.TheInside.{Inside}
+use Rattle.arrow_data.specs.declared.array.Block.{Block}
+use Rattle.arrow_data.specs.declared.array.Segment.{Segment}
+use Rattle.arrow_data.specs.declared.array.Dictionary.TheInside.{Inside}
 
 -- the columns of the segments
 abbrev pub columns_of : List Segment → List Column

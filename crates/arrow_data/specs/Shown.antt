@@ -1,7 +1,13 @@
 -- What a slot shows.
-use Rattle.std.specs.Prelude.{◌≡◌, ◌≤◌, ℕ, List, [], ◌∷◌, length}
-use Rattle.arrow_data.specs.PlainValue.{value_at, null_value, bool_value, int_value, binary_value, utf8_value, list_value, struct_value, values_of}
+use Rattle.std.specs.Prelude.{◌≡◌, ◌≤◌, ℕ, List, [], ◌∷◌, length, Option, None, is_some, if◌then◌else◌}
+use Rattle.arrow_layout.specs.PlainValue.{value_at, null_value, bool_value, int_value, binary_value, utf8_value, list_value, struct_value, values_of}
 use Rattle.arrow_data.specs.Column.{Column, AreOf, HasItems, HasParts, values_from, resolved_row_of}
+use Rattle.std.specs.Float.{Float}
+use Rattle.arrow_layout.specs.Decimals.{decimal_in}
+use Rattle.arrow_layout.specs.Floats.{float_in}
+use Rattle.arrow_layout.specs.Intervals.{interval_in}
+use Rattle.arrow_layout.specs.declared.decimals.Decimal.{Decimal}
+use Rattle.arrow_layout.specs.declared.intervals.Interval.{Interval}
 use Rattle.arrow_data.specs.Same.{HaveSlot}
 use Rattle.arrow_data.specs.declared.array.SlotRef.{SlotRef}
 use Rattle.arrow_data.specs.declared.array.SlotValue.{SlotValue}
@@ -51,3 +57,15 @@ value_shown i (Binary bytes) = values.Bytes bytes
 value_shown i (Text text) = values.Text text
 value_shown i (Items start stop child) = values.List start stop child
 value_shown i (Parts children) = values.Struct children i
+
+-- the number in slot i of a column whose values are not given by indices
+abbrev pub float_shown : Column → ℕ → Option Float
+float_shown column i = if is_some column.encoding then None else float_in column.data_type.tag (value_at column.raw i)
+
+-- the decimal in slot i of a column whose values are not given by indices
+abbrev pub decimal_shown : Column → ℕ → Option Decimal
+decimal_shown column i = if is_some column.encoding then None else decimal_in column.data_type.tag (value_at column.raw i)
+
+-- the interval in slot i of a column whose values are not given by indices
+abbrev pub interval_shown : Column → ℕ → Option Interval
+interval_shown column i = if is_some column.encoding then None else interval_in column.data_type.tag (value_at column.raw i)

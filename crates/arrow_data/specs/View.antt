@@ -1,16 +1,16 @@
 -- What the buffers of a column hold (Columnar Format, "Physical Memory Layout").
 use Rattle.std.specs.Prelude.{◌≡◌, ◌<◌, ℕ, pos, Bool, List, length, map, None, is_some, IsTrue}
 use Rattle.arrow_bits.specs.Numbers.{IsIntWidth}
-use Rattle.arrow_data.specs.declared.form.NumberForm.{NumberForm}
-use Rattle.arrow_data.specs.PlainValue.{PlainValue, int_value, null_value, value_at}
+use Rattle.arrow_layout.specs.declared.form.NumberForm.{NumberForm}
+use Rattle.arrow_layout.specs.PlainValue.{PlainValue, int_value, null_value, value_at}
 use Rattle.arrow_data.specs.Column.{Column, HasChild, HasDictionary, HasFields, ValueList}
-use Rattle.arrow_data.specs.Form.{has_sign, node_form, number_width}
-use Rattle.arrow_data.specs.Layout.{HasBools, HasFixed, HasLists, HasStrings}
-use Rattle.arrow_data.specs.Slots.{AreIndices, AreTexts, HasBits, binary_slot, bool_slot, entry_slot, fixed_slot, int_slot, item_places, list_slot, struct_slot, utf8_slot}
-use Rattle.arrow_data.specs.declared.form.Form.{Form}
-use Rattle.arrow_data.specs.declared.form.Form.TheVariants as forms
-use Rattle.arrow_data.specs.declared.form.ListForm.{ListForm}
-use Rattle.arrow_data.specs.declared.form.OffsetWidth.{OffsetWidth}
+use Rattle.arrow_layout.specs.Form.{has_sign, node_form, number_width}
+use Rattle.arrow_layout.specs.Layout.{HasBools, HasFixed, HasLists, HasStrings}
+use Rattle.arrow_layout.specs.Slots.{AreIndices, AreTexts, HasBits, binary_slot, bool_slot, entry_slot, fixed_slot, int_slot, item_places, list_slot, struct_slot, utf8_slot}
+use Rattle.arrow_layout.specs.declared.form.Form.{Form}
+use Rattle.arrow_layout.specs.declared.form.Form.TheVariants as forms
+use Rattle.arrow_layout.specs.declared.form.ListForm.{ListForm}
+use Rattle.arrow_layout.specs.declared.form.OffsetWidth.{OffsetWidth}
 use Rattle.arrow_data.specs.declared.view.Buffers.{Buffers}
 use Rattle.arrow_data.specs.declared.view.Buffers.TheVariants as buffers
 

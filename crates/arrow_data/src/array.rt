@@ -1,32 +1,8 @@
-//! Arrays, and the values in their slots.
+//! The types of arrays and dictionaries, which refer to each other, and of the content of a slot.
 
-ghost use Rattle.std.specs.Prelude.{◌≡◌, ◌≤◌, ◌<◌, length, option_map, MatchOption, None};
-ghost use Rattle.arrow_types.specs.View.{type_view};
-ghost use Rattle.arrow_data.specs.Column.{HasItems, HasChild, HasField, HasEntry, HasNoIndex};
-ghost use Rattle.arrow_data.specs.Column.{HasDictionary, IsColumn, IsList, struct_fields};
-ghost use Rattle.arrow_data.specs.Column.{HasFields, IsStruct, type_of_field};
-ghost use Rattle.arrow_data.specs.PlainValue.{value_at, is_null_value, bool_in, int_in, binary_in};
-ghost use Rattle.arrow_data.specs.PlainValue.{utf8_in, items_in};
-ghost use Rattle.arrow_data.specs.Column.{values_from};
-ghost use Rattle.arrow_data.specs.Floats.{float_shown};
-ghost use Rattle.arrow_data.specs.Form.{node_form};
-ghost use Rattle.arrow_data.specs.FullSlots.{AreFull, IsFirstNull, value_bytes};
-ghost use Rattle.arrow_data.specs.Decimals.{decimal_shown};
-ghost use Rattle.arrow_data.specs.Intervals.{interval_shown};
-ghost use Rattle.arrow_data.specs.Node.{validity_in};
-ghost use Rattle.arrow_data.specs.Shown.{HoldsValue, Shows, value_shown};
-ghost use Rattle.std.specs.List.{flat_map};
-
-use crate::buffers::{Bools, Fixed, Ints, SlotRange, Strings};
-use crate::byte_range::{ByteRange, bytes_in};
-use crate::decimals::{self, Decimal};
-use crate::dictionary::Dictionary;
-use crate::floats::number_of;
-use crate::form::ListForm;
-use crate::intervals::{self, Interval};
-use crate::offsets::ItemPlaces;
-use crate::shared_body::SharedBody;
-use crate::slot::{first_invalid, is_valid};
+use crate::buffers::{Bools, Fixed, Ints, Strings};
+use arrow_layout::form::ListForm;
+use arrow_layout::{ByteRange, SharedBody};
 use arrow_types::{DataType, Encoding};
 use std::marker::Model;
 use std::rc::Rc;
@@ -52,22 +28,6 @@ pub(crate) enum Ranges {
         children: Vec<Array>,
     },
     Indices(Ints, Box<Dictionary>),
-}
-
-impl Ranges {
-    /// Where the validity of the slots lies; None if every slot is null.
-    fn validity(&self) -> Option<ByteRange>
-        ensures { result ≡ validity_in self.now }
-    {
-        match self {
-            Ranges::Nulls => None,
-            Ranges::Bools(bools) => Some(bools.validity),
-            Ranges::Ints(ints) | Ranges::Indices(ints, _) => Some(ints.validity),
-            Ranges::Binaries(strings) | Ranges::Texts(strings) => Some(strings.validity),
-            Ranges::FixedBytes(fixed) => Some(fixed.validity),
-            Ranges::Lists { validity, .. } | Ranges::Structs { validity, .. } => Some(*validity),
-        }
-    }
 }
 
 /// A column: its type, and a value in each slot (Columnar Format, "Physical Memory Layout").
@@ -107,6 +67,62 @@ impl Model for Array {
         depth_le-levels a.len (type_view a.data_type.value) a.encoding a.body a.ranges h.1 };
 }
 
+/// Values that were added together, and the number of the first of them in the dictionary.
+#[cycle(arrays)]
+#[derive(Drop)]
+pub(crate) struct Segment {
+    pub(crate) start: usize,
+    pub(crate) array: Rc<Array>,
+}
+
+/// Segments that no longer change, and the number of the first value of the first of them.
+#[cycle(arrays)]
+#[derive(Drop)]
+pub(crate) struct Block {
+    pub(crate) start: usize,
+    pub(crate) segments: Vec<Segment>,
+}
+
+/// A list of values of one type (Columnar Format, "Dictionary-encoded Layout"). A value may be
+/// null.
+///
+/// It is stored as the arrays that contain its values, one after another. Copies share these
+/// arrays, so copying or extending a dictionary costs nothing for the values that are there. They
+/// also share the lists of the arrays, 64 at a time: a copy takes a step for every 64 arrays, and
+/// one for each of the last ones.
+#[cycle(arrays)]
+#[derive(Drop)]
+pub struct Dictionary {
+    pub(crate) data_type: DataType,
+    pub(crate) older: Vec<Rc<Block>>,
+    pub(crate) segments: Vec<Segment>,
+    pub(crate) len: usize,
+}
+
+impl Model for Dictionary {
+    ghost use Rattle.arrow_data.specs.Column.{ValueList, value_list_code, value_list_size};
+
+    ghost Value = { ValueList };
+
+    ghost coded = { value_list_code };
+
+    ghost use Rattle.arrow_data.specs.Segments.{value_list_of, IsDictionary};
+
+    ghost view = { value_list_of };
+
+    ghost invariant = { IsDictionary };
+
+    ghost size = { value_list_size };
+
+    ghost use Rattle.std.proofs.Common.{arith};
+    ghost use Rattle.std.specs.Rc.{rc_value};
+    ghost use Rattle.arrow_types.specs.View.{type_view};
+    ghost use Rattle.arrow_data.specs.Falls.{all_fall};
+
+    ghost size_decreases = { λ d h. let fall = all_fall rc_value (type_view d.data_type)
+        d.older.items d.segments.items h.typed in omega (arith, fall.0, fall.1) };
+}
+
 /// The content of a slot, as `seen` reads it from the ranges.
 #[derive(Clone, Copy)]
 pub(crate) enum SlotRef<'a> {
@@ -137,356 +153,4 @@ pub enum SlotValue<'a> {
     List(usize, usize, &'a Array),
     /// A struct: the arrays of its fields, and the slot in which each of them has its value.
     Struct(&'a [Array], usize),
-}
-
-impl<'a> SlotRef<'a> {
-    /// What slot `i` shows, as a value.
-    #[inline(always)]
-    fn at(self, i: usize) -> SlotValue<'a>
-        ensures { result ≡ value_shown i self.entry }
-    {
-        match self {
-            SlotRef::Nothing => SlotValue::Null,
-            SlotRef::Truth(truth) => SlotValue::Bool(truth),
-            SlotRef::Number(number) => SlotValue::Int(number),
-            SlotRef::Binary(bytes) => SlotValue::Bytes(bytes),
-            SlotRef::Text(text) => SlotValue::Text(text),
-            SlotRef::Items(start, end, items) => SlotValue::List(start, end, items),
-            SlotRef::Parts(children) => SlotValue::Struct(children, i),
-        }
-    }
-}
-
-#[tactic(auto, using(crate::proofs::Shown::shown))]
-impl Array {
-    /// How many slots there are, null or not: at most 2,147,483,647.
-    pub fn len(&self) -> usize
-        ensures count { result ≡ length self.now.raw }
-        ensures known { IsColumn self.now }
-    {
-        self.len
-    }
-
-    /// The type of the values. In a dictionary-encoded column it is the type of the dictionary's
-    /// values.
-    pub fn data_type(&self) -> &DataType
-        ensures { type_view result.now ≡ self.now.data_type }
-    {
-        &self.data_type
-    }
-
-    /// How the column refers to its dictionary. None if its slots hold the values themselves.
-    pub fn encoding(&self) -> Option<&Encoding>
-        ensures { option_map (λ e. e.now) result ≡ self.now.encoding }
-    {
-        self.encoding.as_ref()
-    }
-
-    /// The content of slot `i`; a dictionary-encoded column holds numbers.
-    #[inline(always)]
-    pub(crate) fn seen(&self, i: usize) -> SlotRef<'_>
-        requires { i < length self.now.raw }
-        ensures { Shows self.now i result }
-    {
-        let body = self.body.as_slice();
-        match &self.ranges {
-            Ranges::Bools(bools) => match bools.at(body, self.len, i) {
-                Some(truth) => SlotRef::Truth(truth),
-                None => SlotRef::Nothing,
-            },
-            Ranges::Ints(ints) | Ranges::Indices(ints, _) => match ints.at(body, self.len, i) {
-                Some(number) => SlotRef::Number(number),
-                None => SlotRef::Nothing,
-            },
-            Ranges::Binaries(strings) => match strings.binary_at(body, self.len, i) {
-                Some(bytes) => SlotRef::Binary(bytes),
-                None => SlotRef::Nothing,
-            },
-            Ranges::Texts(strings) => match strings.text_at(body, self.len, i) {
-                Some(text) => SlotRef::Text(text),
-                None => SlotRef::Nothing,
-            },
-            Ranges::FixedBytes(fixed) => match fixed.at(body, self.len, i) {
-                Some(bytes) => SlotRef::Binary(bytes),
-                None => SlotRef::Nothing,
-            },
-            Ranges::Lists {
-                form,
-                validity,
-                offsets,
-                child,
-            } => {
-                let (marks, offsets) = (bytes_in(body, *validity), bytes_in(body, *offsets));
-                let places = ItemPlaces {
-                    form: *form,
-                    len: self.len,
-                    top: child.len(),
-                    offsets,
-                };
-                match places.range_at(marks, i) {
-                    Some((start, end)) => SlotRef::Items(start, end, child),
-                    None => SlotRef::Nothing,
-                }
-            }
-            Ranges::Structs { validity, children } if is_valid(bytes_in(body, *validity), i) => {
-                SlotRef::Parts(children)
-            }
-            Ranges::Nulls | Ranges::Structs { .. } => SlotRef::Nothing,
-        }
-    }
-
-    /// Whether slot `i` is null. An index is not null, even if the value that it refers to is.
-    #[inline(always)]
-    pub fn is_null(&self, i: usize) -> bool
-        requires { i < length self.now.raw }
-        ensures { result ≡ is_null_value (value_at self.now.raw i) }
-    {
-        matches!(self.seen(i), SlotRef::Nothing)
-    }
-
-    /// The first null slot from `start` on, or `stop` if none before it is null. If the column has
-    /// no validity bitmap, no slot is inspected.
-    pub fn first_null(&self, start: usize, stop: usize) -> usize
-        requires order { start ≤ stop }
-        requires inside { stop ≤ length self.now.raw }
-        ensures { IsFirstNull self.now start stop result }
-    {
-        match self.ranges.validity() {
-            Some(range) => first_invalid(bytes_in(self.body.as_slice(), range), start, stop),
-            None => start,
-        }
-    }
-
-    /// The consecutive bytes that contain the values of a range of slots: for numbers or indices
-    /// the bytes of the numbers, for byte strings and texts their bytes. No slot of the range is
-    /// null. Slots that hold something else have no bytes here. Nothing is copied.
-    pub fn value_bytes(&self, start: usize, stop: usize) -> &[u8]
-        requires order { start ≤ stop }
-        requires inside { stop ≤ length self.now.raw }
-        requires full { AreFull self.now start stop }
-        ensures { result.now ≡ flat_map
-            (value_bytes (node_form self.now.data_type.tag self.now.encoding))
-            (values_from self.now.raw start stop) }
-    {
-        if start == stop {
-            return &[];
-        }
-        let body = self.body.as_slice();
-        let slots = SlotRange { start, stop };
-        match &self.ranges {
-            Ranges::Nulls => &[],
-            Ranges::Bools(_) => &[],
-            Ranges::Ints(ints) => ints.part(body, self.len, slots),
-            Ranges::Binaries(strings) => strings.part(body, self.len, slots),
-            Ranges::Texts(strings) => strings.part(body, self.len, slots),
-            Ranges::FixedBytes(fixed) => fixed.part(body, self.len, slots),
-            Ranges::Lists { .. } => &[],
-            Ranges::Structs { .. } => &[],
-            Ranges::Indices(ints, _) => ints.part(body, self.len, slots),
-        }
-    }
-
-    /// The truth value in slot `i`. None if the slot is null or holds something else.
-    #[inline(always)]
-    pub fn bool_at(&self, i: usize) -> Option<bool>
-        requires { i < length self.now.raw }
-        ensures { result ≡ bool_in (value_at self.now.raw i) }
-    {
-        match self.seen(i) {
-            SlotRef::Truth(truth) => Some(truth),
-            _ => None,
-        }
-    }
-
-    /// The number in slot `i` of a column of type Int, Date, Time, Timestamp or Duration, the whole
-    /// number of one of type Decimal of at most 128 bits, the months of one of type Interval in
-    /// months, the bits of one of type FloatingPoint, or the index in slot `i` of a
-    /// dictionary-encoded column of any type. None if the slot is null or holds something else.
-    #[inline(always)]
-    pub fn int_at(&self, i: usize) -> Option<i128>
-        requires { i < length self.now.raw }
-        ensures { result ≡ int_in (value_at self.now.raw i) }
-    {
-        match self.seen(i) {
-            SlotRef::Number(number) => Some(number),
-            _ => None,
-        }
-    }
-
-    /// The floating-point number in slot `i`, widened if it has 16 or 32 bits; a NaN is returned as
-    /// a NaN. ([`Array::int_at`] returns its own bits.) None if the slot is null, or the column has
-    /// another type or is dictionary-encoded.
-    pub fn float_at(&self, i: usize) -> Option<f64>
-        requires { i < length self.now.raw }
-        ensures { result ≡ float_shown self.now i }
-    {
-        match self.data_type() {
-            DataType::FloatingPoint(precision) if self.encoding().is_none() => {
-                Some(number_of(*precision, self.int_at(i)?))
-            }
-            _ => None,
-        }
-    }
-
-    /// The decimal in slot `i`. None if the slot is null, or the column has another type or is
-    /// dictionary-encoded.
-    pub fn decimal_at(&self, i: usize) -> Option<Decimal>
-        requires { i < length self.now.raw }
-        ensures { result ≡ decimal_shown self.now i }
-    {
-        match self.data_type() {
-            DataType::Decimal { scale, .. } if self.encoding().is_none() => match self.seen(i) {
-                SlotRef::Number(number) => Some(decimals::of_number(*scale, number)),
-                SlotRef::Binary(bytes) => decimals::of_bytes(*scale, bytes),
-                _ => None,
-            },
-            _ => None,
-        }
-    }
-
-    /// The interval in slot `i`. None if the slot is null, or the column has another type or is
-    /// dictionary-encoded.
-    pub fn interval_at(&self, i: usize) -> Option<Interval>
-        requires { i < length self.now.raw }
-        ensures { result ≡ interval_shown self.now i }
-    {
-        match self.data_type() {
-            DataType::Interval(unit) if self.encoding().is_none() => match self.seen(i) {
-                SlotRef::Number(number) => intervals::of_number(*unit, number),
-                SlotRef::Binary(bytes) => intervals::of_bytes(*unit, bytes),
-                _ => None,
-            },
-            _ => None,
-        }
-    }
-
-    /// The byte string in slot `i`, which may have a fixed size, or the bytes of an interval of
-    /// several numbers or of a decimal of 256 bits. None if the slot is null or holds something
-    /// else.
-    #[inline(always)]
-    pub fn bytes_at(&self, i: usize) -> Option<&[u8]>
-        requires { i < length self.now.raw }
-        ensures { option_map (λ b. b.now) result ≡ binary_in (value_at self.now.raw i) }
-    {
-        match self.seen(i) {
-            SlotRef::Binary(bytes) => Some(bytes),
-            _ => None,
-        }
-    }
-
-    /// The text in slot `i`. None if the slot is null or holds something else.
-    #[inline(always)]
-    pub fn text_at(&self, i: usize) -> Option<&str>
-        requires { i < length self.now.raw }
-        ensures { option_map (λ t. t.now) result ≡ utf8_in (value_at self.now.raw i) }
-    {
-        match self.seen(i) {
-            SlotRef::Text(text) => Some(text),
-            _ => None,
-        }
-    }
-
-    /// The items in slot `i`: the first and the end of their slots in the child array, and the
-    /// child array. None if the slot is null or holds something else.
-    #[inline(always)]
-    pub fn list_at(&self, i: usize) -> Option<(usize, usize, &Array)>
-        requires { i < length self.now.raw }
-        ensures { MatchOption result (items_in (value_at self.now.raw i) ≡ None)
-            (λ r. HasItems self.now i r.0 r.1 r.2.now) }
-    {
-        match self.seen(i) {
-            SlotRef::Items(start, end, child) => Some((start, end, child)),
-            _ => None,
-        }
-    }
-
-    /// The child array that contains the items of all lists. None if slots do not hold lists.
-    pub fn items(&self) -> Option<&Array>
-        ensures { MatchOption result (IsList self.now → ⊥) (λ child. HasChild self.now child.now) }
-    {
-        match &self.ranges {
-            Ranges::Lists { child, .. } => Some(child),
-            _ => None,
-        }
-    }
-
-    /// The array of field `k` of a struct: slot i of the struct is slot i of this array. It may
-    /// have more slots. None if slots do not hold structs, or these have no field `k`.
-    pub fn field(&self, k: usize) -> Option<&Array>
-        ensures { MatchOption result (type_of_field (struct_fields self.now) k ≡ None)
-            (λ child. HasField self.now k child.now) }
-    {
-        match &self.ranges {
-            Ranges::Structs { children, .. } => children.get(k),
-            _ => None,
-        }
-    }
-
-    /// The arrays of the fields of a struct, in order. None if slots do not hold structs.
-    pub fn fields(&self) -> Option<&[Array]>
-        ensures { MatchOption result (IsStruct self.now → ⊥)
-            (λ children. HasFields self.now children.now) }
-    {
-        match &self.ranges {
-            Ranges::Structs { children, .. } => Some(children),
-            _ => None,
-        }
-    }
-
-    /// The dictionary that the indices of the column refer to. None if the column is not
-    /// dictionary-encoded.
-    pub fn dictionary(&self) -> Option<&Dictionary>
-        ensures { MatchOption result (self.now.encoding ≡ None)
-            (λ dictionary. HasDictionary self.now dictionary.now) }
-    {
-        match &self.ranges {
-            Ranges::Indices(_, dictionary) => Some(dictionary),
-            _ => None,
-        }
-    }
-
-    /// Where the value that slot `i` refers to is: an array and an index in it. None if the slot is
-    /// null, or the column is not dictionary-encoded.
-    #[inline(always)]
-    pub fn resolved(&self, i: usize) -> Option<(&Array, usize)>
-        requires { i < length self.now.raw }
-        ensures { MatchOption result (HasNoIndex self.now i)
-            (λ r. HasEntry self.now i r.0.now r.1) }
-    {
-        match &self.ranges {
-            Ranges::Indices(ints, dictionary) => {
-                let index = ints.at(self.body.as_slice(), self.len, i)?;
-                Some(dictionary.value(index as usize))
-            }
-            _ => None,
-        }
-    }
-
-    /// The value of slot `i`, whatever its type. In a dictionary-encoded column it is the
-    /// dictionary's value, and null if the index or that value is null. Nothing is allocated.
-    #[inline(always)]
-    pub fn slot(&self, i: usize) -> SlotValue<'_>
-        requires { i < length self.now.raw }
-        ensures { HoldsValue self.now i result }
-    {
-        // A field is named so that the proof can use what is known of every array.
-        let _ = &self.len;
-        match self.resolved(i) {
-            Some((values, place)) => values.own_slot(place),
-            None => self.own_slot(i),
-        }
-    }
-
-    /// The value of slot `i`, which holds no index.
-    #[inline(always)]
-    fn own_slot(&self, i: usize) -> SlotValue<'_>
-        requires inside { i < length self.now.raw }
-        requires own { HasNoIndex self.now i }
-        ensures holds { HoldsValue self.now i result }
-        ensures column { IsColumn self.now }
-    {
-        // As in `slot`.
-        let _ = &self.len;
-        self.seen(i).at(i)
-    }
 }

@@ -3,17 +3,16 @@
 ghost use Rattle.std.specs.Prelude.{◌≡◌, ◌≤◌, ◌<◌, ◌*◌, MatchOption, length, slice_range};
 ghost use Rattle.std.specs.List.Sorted.{IsNonDecreasing};
 ghost use Rattle.arrow_bits.specs.Offsets.{plain_list};
-ghost use Rattle.arrow_data.specs.Form.{offset_bytes};
+ghost use Rattle.arrow_layout.specs.Form.{offset_bytes};
 ghost use Rattle.arrow_data.specs.Node.{AreBools, AreInts, AreStrings, bool_at, int_at, binary_at};
-ghost use Rattle.arrow_data.specs.Node.{AreFixed, fixed_at, utf8_at, bytes_of};
-ghost use Rattle.arrow_data.specs.PlainValue.{null_value, bool_value, int_value, binary_value};
-ghost use Rattle.arrow_data.specs.PlainValue.{utf8_value};
-ghost use Rattle.arrow_data.specs.Slots.{AreTexts, place_of};
+ghost use Rattle.arrow_data.specs.Node.{AreFixed, fixed_at, utf8_at};
+ghost use Rattle.arrow_layout.specs.ByteRanges.{bytes_of, IsInside};
+ghost use Rattle.arrow_layout.specs.PlainValue.{null_value, bool_value, int_value, binary_value};
+ghost use Rattle.arrow_layout.specs.PlainValue.{utf8_value};
+ghost use Rattle.arrow_layout.specs.Slots.{AreTexts, place_of};
 
-use crate::byte_range::{ByteRange, bytes_in};
-use crate::form::OffsetWidth;
-use crate::slot;
-use crate::view::{NumberBuffers, StringBuffers};
+use arrow_layout::form::OffsetWidth;
+use arrow_layout::{ByteRange, NumberBuffers, StringBuffers, bytes_in, slot};
 
 /// The slots from `start` up to `stop`.
 #[derive(Clone, Copy)]
@@ -23,7 +22,7 @@ pub(crate) struct SlotRange {
 }
 
 /// The bytes of a range of `len` slots that have `width` bytes each.
-#[tactic(auto, using(crate::proofs::Shown::parts_inside))]
+#[tactic(auto, using(arrow_layout::proofs::Widths::parts_inside))]
 fn cells(values: &[u8], width: usize, len: usize, slots: SlotRange) -> &[u8]
     requires order { slots.start ≤ slots.stop }
     requires inside { slots.stop ≤ len }
@@ -69,6 +68,24 @@ pub(crate) struct Ints {
 
 #[tactic(auto, using(crate::proofs::Shown::shown))]
 impl Ints {
+    /// The numbers as slices of the body.
+    #[inline(always)]
+    pub(crate) fn slices(self, body: &[u8]) -> NumberBuffers<'_>
+        requires validity { IsInside body.now self.validity }
+        requires values { IsInside body.now self.values }
+        ensures width { result.width ≡ self.width }
+        ensures signed { result.signed ≡ self.signed }
+        ensures validity { result.validity.now ≡ bytes_of body.now self.validity }
+        ensures values { result.values.now ≡ bytes_of body.now self.values }
+    {
+        NumberBuffers {
+            width: self.width as usize,
+            signed: self.signed,
+            validity: bytes_in(body, self.validity),
+            values: bytes_in(body, self.values),
+        }
+    }
+
     /// The number of slot `i` of `len`, if it is valid.
     pub(crate) fn at(self, body: &[u8], len: usize, i: usize) -> Option<i128>
         requires slot { i < len }
@@ -76,7 +93,7 @@ impl Ints {
         ensures { MatchOption result (int_at body.now self i ≡ null_value)
             (λ z. int_at body.now self i ≡ int_value z) }
     {
-        NumberBuffers::of(self, body).number_at(i)
+        self.slices(body).number_at(i)
     }
 
     /// The bytes of the numbers of a range of the `len` slots.
@@ -139,6 +156,25 @@ pub(crate) struct Strings {
 }
 
 impl Strings {
+    /// The byte strings as slices of the body.
+    #[inline(always)]
+    pub(crate) fn slices(self, body: &[u8]) -> StringBuffers<'_>
+        requires validity { IsInside body.now self.validity }
+        requires offsets { IsInside body.now self.offsets }
+        requires bytes { IsInside body.now self.bytes }
+        ensures width { result.width ≡ self.width }
+        ensures validity { result.validity.now ≡ bytes_of body.now self.validity }
+        ensures offsets { result.offsets.now ≡ bytes_of body.now self.offsets }
+        ensures bytes { result.bytes.now ≡ bytes_of body.now self.bytes }
+    {
+        StringBuffers {
+            width: self.width,
+            validity: bytes_in(body, self.validity),
+            offsets: bytes_in(body, self.offsets),
+            bytes: bytes_in(body, self.bytes),
+        }
+    }
+
     /// The byte string of slot `i` of `len`, if it is valid.
     pub(crate) fn binary_at(self, body: &[u8], len: usize, i: usize) -> Option<&[u8]>
         requires slot { i < len }
@@ -146,7 +182,7 @@ impl Strings {
         ensures { MatchOption result (binary_at body.now self i ≡ null_value)
             (λ b. binary_at body.now self i ≡ binary_value b.now) }
     {
-        StringBuffers::of(self, body).binary_at(len, i)
+        self.slices(body).binary_at(len, i)
     }
 
     /// The text of slot `i` of `len`, if it is valid.
@@ -158,7 +194,7 @@ impl Strings {
         ensures { MatchOption result (utf8_at body.now self i ≡ null_value)
             (λ t. utf8_at body.now self i ≡ utf8_value t.now) }
     {
-        StringBuffers::of(self, body).text_at(len, i)
+        self.slices(body).text_at(len, i)
     }
 
     /// The bytes of a range of the `len` slots, one slot after another, regardless of nulls.
@@ -172,7 +208,7 @@ impl Strings {
         ensures rising { IsNonDecreasing (plain_list (offset_bytes self.width) len
             (bytes_of body.now self.offsets)) }
     {
-        let strings = StringBuffers::of(self, body);
+        let strings = self.slices(body);
         let (first, end) = strings.ranges(len).places_at(slots.start, slots.stop);
         &strings.bytes[first..end]
     }

@@ -9,74 +9,17 @@ ghost use Rattle.arrow_types.specs.View.{type_view};
 ghost use Rattle.arrow_data.specs.Column.{HasValue, IsValueList};
 ghost use Rattle.arrow_data.specs.Same.{Begins};
 ghost use Rattle.arrow_data.specs.Segments.{AreSame, Between, HaveStarts, IsBlock, IsPartWith};
-ghost use Rattle.arrow_data.specs.Segments.{block_segments, block_starts, columns_of};
-ghost use Rattle.arrow_data.specs.Segments.{joined, starts_of};
+ghost use Rattle.arrow_data.specs.Segments.{block_segments, block_starts, columns_of, joined};
+ghost use Rattle.arrow_data.specs.Segments.{starts_of};
 
-use crate::array::Array;
+use crate::array::{Array, Block, Dictionary, Segment};
 use crate::same::{Items, same_items};
 use arrow_types::DataType;
 use std::alloc::{AllocError, Global};
-use std::marker::Model;
 use std::rc::Rc;
 
 /// How many segments a block has.
 const BLOCK: usize = 64;
-
-/// Values that were added together, and the number of the first of them in the dictionary.
-#[cycle(arrays)]
-#[derive(Drop)]
-pub(crate) struct Segment {
-    pub(crate) start: usize,
-    pub(crate) array: Rc<Array>,
-}
-
-/// Segments that no longer change, and the number of the first value of the first of them.
-#[cycle(arrays)]
-#[derive(Drop)]
-pub(crate) struct Block {
-    pub(crate) start: usize,
-    pub(crate) segments: Vec<Segment>,
-}
-
-/// A list of values of one type (Columnar Format, "Dictionary-encoded Layout"). A value may be
-/// null.
-///
-/// It is stored as the arrays that contain its values, one after another. Copies share these
-/// arrays, so copying or extending a dictionary costs nothing for the values that are there. They
-/// also share the lists of the arrays, 64 at a time: a copy takes a step for every 64 arrays, and
-/// one for each of the last ones.
-#[cycle(arrays)]
-#[derive(Drop)]
-pub struct Dictionary {
-    pub(crate) data_type: DataType,
-    pub(crate) older: Vec<Rc<Block>>,
-    pub(crate) segments: Vec<Segment>,
-    pub(crate) len: usize,
-}
-
-impl Model for Dictionary {
-    ghost use Rattle.arrow_data.specs.Column.{ValueList, value_list_code, value_list_size};
-
-    ghost Value = { ValueList };
-
-    ghost coded = { value_list_code };
-
-    ghost use Rattle.arrow_data.specs.Segments.{value_list_of, IsDictionary};
-
-    ghost view = { value_list_of };
-
-    ghost invariant = { IsDictionary };
-
-    ghost size = { value_list_size };
-
-    ghost use Rattle.std.proofs.Common.{arith};
-    ghost use Rattle.std.specs.Rc.{rc_value};
-    ghost use Rattle.arrow_types.specs.View.{type_view};
-    ghost use Rattle.arrow_data.specs.Falls.{all_fall};
-
-    ghost size_decreases = { λ d h. let fall = all_fall rc_value (type_view d.data_type)
-        d.older.items d.segments.items h.typed in omega (arith, fall.0, fall.1) };
-}
 
 #[tactic(auto, using(crate::proofs::Segments::segments))]
 impl Dictionary {

@@ -3,7 +3,7 @@
 ghost use Rattle.std.specs.Prelude.{◌≡◌, ◌↔◌, IfOk, IsTrue, int_lt, option_map};
 ghost use Rattle.arrow_data.specs.Listed.{Rises, dictionary_for, listed};
 
-use crate::dictionary::Dictionary;
+use crate::array::Dictionary;
 use arrow_types::Encoding;
 use std::alloc::{AllocError, Global};
 

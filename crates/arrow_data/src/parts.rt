@@ -7,35 +7,20 @@ ghost use Rattle.arrow_types.specs.Field.{none};
 ghost use Rattle.arrow_types.specs.Schema.{has_encoding};
 ghost use Rattle.arrow_types.specs.View.{type_view};
 ghost use Rattle.arrow_data.specs.Column.{AreOf, Column, IsColumn, IsValueList, counts_of};
-ghost use Rattle.arrow_data.specs.Form.{IsLeaf, form_of, list_buffers};
-ghost use Rattle.arrow_data.specs.Layout.{buffer_count, IsLaid, IsText, IsIndexed};
-ghost use Rattle.arrow_data.specs.Node.{bytes_of, column_by, AreRanges, IsFormat};
-ghost use Rattle.arrow_data.specs.Node.{IsInside, list_range};
-ghost use Rattle.arrow_data.specs.declared.form.Form.TheVariants as forms;
+ghost use Rattle.arrow_layout.specs.Form.{IsLeaf, form_of, list_buffers};
+ghost use Rattle.arrow_layout.specs.Layout.{buffer_count, IsLaid, IsText, IsIndexed};
+ghost use Rattle.arrow_layout.specs.ByteRanges.{bytes_of, IsInside};
+ghost use Rattle.arrow_data.specs.Node.{column_by, AreRanges, IsFormat, list_range};
+ghost use Rattle.arrow_layout.specs.declared.form.Form.TheVariants as forms;
 ghost use Rattle.arrow_data.specs.Parts.{node_column, values_in, AreChildren, IsOfType};
 
-use crate::array::{Array, Ranges};
+use crate::array::{Array, Dictionary, Ranges};
 use crate::buffers::{Bools, Fixed, Ints, Strings};
-use crate::byte_range::{ByteRange, hold_bytes};
-use crate::dictionary::Dictionary;
-use crate::form::{Form, ListForm, NumberForm, OffsetWidth, form_of, has_own_fields};
-use crate::shared_body::SharedBody;
-use crate::shared_type::SharedType;
+use arrow_layout::form::{Form, ListForm, NumberForm, OffsetWidth, form_of, has_own_fields};
+use arrow_layout::{ByteRange, NodeBuffers, SharedType, hold_bytes};
 use arrow_types::{DataType, Encoding, Field};
 use std::alloc::{AllocError, Global};
 use std::rc::Rc;
-
-/// The slots and the buffers of a node in a body.
-#[derive(Clone, Copy)]
-pub struct NodeBuffers<'a> {
-    /// How many slots the node has.
-    pub len: usize,
-    /// The body.
-    pub body: &'a SharedBody,
-    /// Where each buffer lies in the body, in the order of the format. An empty range means an
-    /// absent validity bitmap, or the offsets of no slots.
-    pub ranges: &'a [ByteRange],
-}
 
 /// The arrays that a node refers to.
 #[derive(Drop)]

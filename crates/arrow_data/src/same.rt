@@ -2,7 +2,7 @@
 
 ghost use Rattle.std.specs.Prelude.{◌≡◌, ◌↔◌, ◌<◌, ◌≤◌, length, IsTrue};
 ghost use Rattle.arrow_data.specs.Column.{values_from, row_of};
-ghost use Rattle.arrow_data.specs.PlainValue.{value_at};
+ghost use Rattle.arrow_layout.specs.PlainValue.{value_at};
 ghost use Rattle.arrow_data.specs.Same.{HaveSlot};
 
 use crate::array::{Array, SlotRef};

@@ -5,8 +5,8 @@ ghost use Rattle.arrow_data.specs.Shown.{HoldsValue};
 ghost use Rattle.arrow_data.specs.View.{HasNoEntry, RefersTo};
 
 use crate::array::{Array, SlotValue};
-use crate::slot::{bool_at, fixed_at};
 use crate::view::Buffers;
+use arrow_layout::slot::{bool_at, fixed_at};
 use std::marker::Model;
 
 /// The slots of an array, for callers that read many of them: where its buffers lie is looked up

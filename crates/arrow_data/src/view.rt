@@ -1,15 +1,11 @@
 //! The buffers of a column as in the Columnar Format ("Physical Memory Layout"), for callers that
 //! read them without a call for each slot.
 
-ghost use Rattle.std.specs.Prelude.{◌≡◌};
-ghost use Rattle.arrow_data.specs.Node.{IsInside, bytes_of};
 ghost use Rattle.arrow_data.specs.View.{AreBuffersOf};
 
-use crate::array::{Array, Ranges};
-use crate::buffers::{Ints, Strings};
-use crate::byte_range::bytes_in;
-use crate::dictionary::Dictionary;
-use crate::form::{ListForm, OffsetWidth};
+use crate::array::{Array, Dictionary, Ranges};
+use arrow_layout::form::ListForm;
+use arrow_layout::{NumberBuffers, StringBuffers, bytes_in};
 
 /// The buffers of a column, by its layout, with its children or its dictionary. They are slices of
 /// the message body: nothing is copied.
@@ -58,74 +54,6 @@ pub enum Buffers<'a> {
     Indices(NumberBuffers<'a>, &'a Dictionary),
 }
 
-/// Numbers of one width: that of slot i begins at byte `width * i` ("Fixed-size Primitive Layout").
-#[derive(Clone, Copy)]
-pub struct NumberBuffers<'a> {
-    /// How many bytes a number takes: 1, 2, 4, 8 or, for numbers with a sign, 16.
-    pub width: usize,
-    /// Whether the numbers have a sign, as two's complement.
-    pub signed: bool,
-    /// A bit for each slot, or empty.
-    pub validity: &'a [u8],
-    /// The numbers.
-    pub values: &'a [u8],
-}
-
-impl<'a> NumberBuffers<'a> {
-    /// The numbers whose buffers are these ranges of a body.
-    #[inline(always)]
-    pub(crate) fn of(ints: Ints, body: &'a [u8]) -> NumberBuffers<'a>
-        requires validity { IsInside body.now ints.validity }
-        requires values { IsInside body.now ints.values }
-        ensures width { result.width ≡ ints.width }
-        ensures signed { result.signed ≡ ints.signed }
-        ensures validity { result.validity.now ≡ bytes_of body.now ints.validity }
-        ensures values { result.values.now ≡ bytes_of body.now ints.values }
-    {
-        NumberBuffers {
-            width: ints.width as usize,
-            signed: ints.signed,
-            validity: bytes_in(body, ints.validity),
-            values: bytes_in(body, ints.values),
-        }
-    }
-}
-
-/// Byte strings or texts: that of slot i is `bytes` from offset i up to offset i + 1 ("Variable-size
-/// Binary Layout").
-#[derive(Clone, Copy)]
-pub struct StringBuffers<'a> {
-    /// How wide an offset is.
-    pub width: OffsetWidth,
-    /// A bit for each slot, or empty.
-    pub validity: &'a [u8],
-    /// The offsets, one more than there are slots; if there is no slot, it may be empty.
-    pub offsets: &'a [u8],
-    /// The bytes.
-    pub bytes: &'a [u8],
-}
-
-impl<'a> StringBuffers<'a> {
-    /// The byte strings whose buffers are these ranges of a body.
-    #[inline(always)]
-    pub(crate) fn of(strings: Strings, body: &'a [u8]) -> StringBuffers<'a>
-        requires validity { IsInside body.now strings.validity }
-        requires offsets { IsInside body.now strings.offsets }
-        requires bytes { IsInside body.now strings.bytes }
-        ensures width { result.width ≡ strings.width }
-        ensures validity { result.validity.now ≡ bytes_of body.now strings.validity }
-        ensures offsets { result.offsets.now ≡ bytes_of body.now strings.offsets }
-        ensures bytes { result.bytes.now ≡ bytes_of body.now strings.bytes }
-    {
-        StringBuffers {
-            width: strings.width,
-            validity: bytes_in(body, strings.validity),
-            offsets: bytes_in(body, strings.offsets),
-            bytes: bytes_in(body, strings.bytes),
-        }
-    }
-}
-
 impl Array {
     /// The buffers of the column, with its children or its dictionary. Nothing is allocated.
     pub fn buffers(&self) -> Buffers<'_>
@@ -138,9 +66,9 @@ impl Array {
                 validity: bytes_in(body, bools.validity),
                 values: bytes_in(body, bools.values),
             },
-            Ranges::Ints(ints) => Buffers::Numbers(NumberBuffers::of(*ints, body)),
-            Ranges::Binaries(strings) => Buffers::Binaries(StringBuffers::of(*strings, body)),
-            Ranges::Texts(strings) => Buffers::Texts(StringBuffers::of(*strings, body)),
+            Ranges::Ints(ints) => Buffers::Numbers(ints.slices(body)),
+            Ranges::Binaries(strings) => Buffers::Binaries(strings.slices(body)),
+            Ranges::Texts(strings) => Buffers::Texts(strings.slices(body)),
             Ranges::FixedBytes(fixed) => Buffers::FixedBytes {
                 width: fixed.width,
                 validity: bytes_in(body, fixed.validity),
@@ -161,9 +89,7 @@ impl Array {
                 validity: bytes_in(body, *validity),
                 children,
             },
-            Ranges::Indices(ints, dictionary) => {
-                Buffers::Indices(NumberBuffers::of(*ints, body), dictionary)
-            }
+            Ranges::Indices(ints, dictionary) => { Buffers::Indices(ints.slices(body), dictionary) }
         }
     }
 }

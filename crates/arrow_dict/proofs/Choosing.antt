@@ -5,8 +5,8 @@ use Rattle.std.proofs.lemmas.List.{length-take}
 use Rattle.std.proofs.Math.Seq.{take-length}
 use Rattle.std.specs.Prelude.{min}
 use Rattle.arrow_types.specs.Equality.{is_equal_decides}
-use Rattle.arrow_data.specs.PlainValue.{PlainValue}
-use Rattle.arrow_data.specs.Stored.{value_code}
+use Rattle.arrow_layout.specs.PlainValue.{PlainValue}
+use Rattle.arrow_layout.specs.Stored.{value_code}
 use Rattle.arrow_dict.specs.declared.update.Update.TheVariants as updates
 use Rattle.arrow_dict.specs.declared.update.Updates.{Updates}
 use Rattle.arrow_dict.specs.declared.update.Updates.TheVariants as modes

@@ -3,8 +3,8 @@
 use Rattle.std.specs.Prelude.{Bool, List, length, take, Option, Some, None, if◌then◌else◌}
 use Rattle.std.specs.Coded.{coded_list}
 use Rattle.arrow_types.specs.Equality.{is_equal}
-use Rattle.arrow_data.specs.PlainValue.{PlainValue}
-use Rattle.arrow_data.specs.Stored.{value_code}
+use Rattle.arrow_layout.specs.PlainValue.{PlainValue}
+use Rattle.arrow_layout.specs.Stored.{value_code}
 use Rattle.arrow_dict.specs.declared.update.Update.{Update}
 use Rattle.arrow_dict.specs.declared.update.Update.TheVariants as updates
 use Rattle.arrow_dict.specs.declared.update.Updates.{Updates}

@@ -1,12 +1,12 @@
 //! The field of a dictionary's values.
 
 ghost use Rattle.std.specs.Prelude.{◌≡◌, IfOk, [], ◌∷◌};
-ghost use Rattle.arrow_data.specs.Shared.{node_types};
+ghost use Rattle.arrow_layout.specs.Shared.{node_types};
 ghost use Rattle.arrow_dict.specs.ValueTypes.{value_field};
 ghost use Rattle.arrow_types.specs.Field.{fields_of};
 ghost use Rattle.arrow_types.specs.View.{fields_view, type_view};
 
-use arrow_data::{SharedType, shared_types};
+use arrow_layout::{SharedType, shared_types};
 use arrow_types::{DataType, Field};
 use std::alloc::{AllocError, Global};
 use std::marker::Model;
@@ -23,7 +23,7 @@ pub struct ValueField {
 
 impl Model for ValueField {
     ghost use Rattle.std.specs.Prelude.{◌≡◌, [], ◌∷◌};
-    ghost use Rattle.arrow_data.specs.Shared.{node_types};
+    ghost use Rattle.arrow_layout.specs.Shared.{node_types};
     ghost use Rattle.arrow_types.specs.Field.{FieldShape, fields_of};
     ghost use Rattle.arrow_types.specs.Stored.{field_code};
     ghost use Rattle.arrow_types.specs.View.{field_view};

@@ -10,8 +10,8 @@ use Rattle.std.specs.Str.{IsAscii, IsUtf8}
 use Rattle.std.specs.Str.Parse.{AllDigits}
 use Rattle.hex.proofs.HexLemmas.{IsAscii-encode_with}
 use Rattle.hex.specs.Hex.{encode_lower, lower_digits}
-use Rattle.arrow_data.specs.declared.intervals.Interval.{Interval}
-use Rattle.arrow_data.specs.declared.intervals.Interval.TheVariants.{DayTime, MonthDayNano, YearMonth}
+use Rattle.arrow_layout.specs.declared.intervals.Interval.{Interval}
+use Rattle.arrow_layout.specs.declared.intervals.Interval.TheVariants.{DayTime, MonthDayNano, YearMonth}
 use Rattle.arrow_csv.specs.Intervals.{counted, interval_text, months_text}
 use Rattle.arrow_csv.specs.Decimals.{decimal_text, numeral, scaled, zero_filled}
 use Rattle.arrow_csv.specs.Texts.{Appends, IsPlain}

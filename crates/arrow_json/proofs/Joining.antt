@@ -13,7 +13,7 @@ use Rattle.arrow_types.specs.Field.{FieldHeader, FieldTree, none, more, TypeShap
 use Rattle.arrow_types.specs.View.{field_view, fields_view}
 use Rattle.arrow_types.specs.declared.field.Field.{Field}
 use Rattle.arrow_data.specs.Column.{Column, AreOf, resolved_row_of, values_from}
-use Rattle.arrow_data.specs.PlainValue.{PlainValue, binary_value, int_value, list_value, struct_value, null_value, value_at, values_of}
+use Rattle.arrow_layout.specs.PlainValue.{PlainValue, binary_value, int_value, list_value, struct_value, null_value, value_at, values_of}
 use Rattle.arrow_data.specs.Shown.{ListsItems}
 use Rattle.arrow_csv.specs.Texts.{Each}
 use Rattle.arrow_csv.proofs.Joining.{as_many, each_more}

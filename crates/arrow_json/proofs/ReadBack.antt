@@ -13,11 +13,11 @@ use Rattle.hex.specs.Hex.{encode_lower}
 use Rattle.arrow_types.specs.Field.{FieldTree, none, more, TypeShape, levels}
 use Rattle.arrow_data.specs.Batch.{IsTable, Table}
 use Rattle.arrow_data.specs.Column.{resolved_row_of}
-use Rattle.arrow_data.specs.Decimals.{decimal_of_bytes, unscaled_of}
-use Rattle.arrow_data.specs.Intervals.{interval_of_bytes}
-use Rattle.arrow_data.specs.PlainValue.{PlainValue, PlainValues, null_value, bool_value, int_value, binary_value, utf8_value, list_value, struct_value, no_values, more_values, values_of}
-use Rattle.arrow_data.specs.declared.decimals.Decimal.{Decimal as Wide}
-use Rattle.arrow_data.specs.declared.intervals.Interval.{Interval as Many}
+use Rattle.arrow_layout.specs.Decimals.{decimal_of_bytes, unscaled_of}
+use Rattle.arrow_layout.specs.Intervals.{interval_of_bytes}
+use Rattle.arrow_layout.specs.PlainValue.{PlainValue, PlainValues, null_value, bool_value, int_value, binary_value, utf8_value, list_value, struct_value, no_values, more_values, values_of}
+use Rattle.arrow_layout.specs.declared.decimals.Decimal.{Decimal as Wide}
+use Rattle.arrow_layout.specs.declared.intervals.Interval.{Interval as Many}
 use Rattle.arrow_csv.specs.Decimals.{decimal_text}
 use Rattle.arrow_csv.specs.Intervals.{interval_text}
 use Rattle.arrow_json.specs.declared.kind.JsonKind.{JsonKind}

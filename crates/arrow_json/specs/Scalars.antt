@@ -9,9 +9,9 @@ use Rattle.hex.specs.Hex.{encode_lower}
 use Rattle.json.specs.Json.{Json, number, string}
 use Rattle.json.specs.Print.{IsNumber}
 use Rattle.ryu.specs.Plain.{word_of}
-use Rattle.arrow_data.specs.Decimals.{decimal_of_bytes, unscaled_of}
-use Rattle.arrow_data.specs.Intervals.{interval_of_bytes}
-use Rattle.arrow_data.specs.Floats.{bits_in, number_of}
+use Rattle.arrow_layout.specs.Decimals.{decimal_of_bytes, unscaled_of}
+use Rattle.arrow_layout.specs.Intervals.{interval_of_bytes}
+use Rattle.arrow_layout.specs.Floats.{bits_in, number_of}
 use Rattle.arrow_csv.specs.Decimals.{decimal_text}
 use Rattle.arrow_csv.specs.Floats.{text_format}
 use Rattle.arrow_csv.specs.Intervals.{interval_text, months_text}

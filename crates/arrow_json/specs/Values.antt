@@ -3,7 +3,7 @@ use Rattle.std.specs.Prelude.{◌≡◌, ℕ, List, [], ◌∷◌}
 use Rattle.json.specs.Json.{Json, null, boolean, string, array, object, Members, no_members, member}
 use Rattle.json.specs.Value.{items_of}
 use Rattle.arrow_types.specs.Field.{FieldTree, none, more, TypeShape}
-use Rattle.arrow_data.specs.PlainValue.{PlainValue, PlainValues, null_value, bool_value, int_value, binary_value, utf8_value, list_value, struct_value, no_values, more_values, values_of}
+use Rattle.arrow_layout.specs.PlainValue.{PlainValue, PlainValues, null_value, bool_value, int_value, binary_value, utf8_value, list_value, struct_value, no_values, more_values, values_of}
 use Rattle.arrow_csv.specs.Texts.{Each}
 use Rattle.arrow_json.specs.Kinds.{kind_of}
 use Rattle.arrow_json.specs.Scalars.{IsNumberJson, bytes_json}

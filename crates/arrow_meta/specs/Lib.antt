@@ -1,30 +1,4 @@
-pub use Rattle.arrow_meta_reader.specs.Kinds
-pub use Rattle.arrow_meta_reader.specs.Trees
-pub use Rattle.arrow_meta_reader.specs.Lies
-pub use Rattle.arrow_meta_reader.specs.Within
-pub use Rattle.arrow_meta_reader.specs.Views
-pub use Rattle.arrow_meta_reader.specs.Grows
-pub use Rattle.arrow_meta_reader.specs.Reads
-pub use Rattle.arrow_meta_reader.specs.Ranks
-pub use Rattle.arrow_meta_reader.specs.Stored
-pub use Rattle.arrow_meta_reader.specs.Codes
-pub use Rattle.arrow_meta_reader.specs.Parts
-pub use Rattle.arrow_meta_reader.specs.SchemaMeaning
-pub use Rattle.arrow_meta_reader.specs.Conditions
-pub use Rattle.arrow_meta_reader.specs.Faults
-pub use Rattle.arrow_meta_reader.specs.Means
-pub use Rattle.arrow_meta_reader.specs.Sharing
-pub use Rattle.arrow_meta_reader.specs.Builds
-pub use Rattle.arrow_meta_reader.specs.Judges
-pub use Rattle.arrow_meta_reader.specs.Straight
-pub use Rattle.arrow_meta_reader.specs.Slots
-pub use Rattle.arrow_meta_reader.specs.Types
-pub use Rattle.arrow_meta_writer.specs.Layouts
-pub use Rattle.arrow_meta_writer.specs.TypeSlots
-pub use Rattle.arrow_meta_writer.specs.Written
-pub use Rattle.arrow_meta_writer.specs.Metadata
-pub use Rattle.arrow_meta_writer.specs.Again
-pub use Rattle.arrow_meta_writer.specs.Aligned
-pub use Rattle.arrow_meta_writer.specs.Writable
-pub use Rattle.arrow_meta_writer.specs.Capped
-pub use Rattle.arrow_meta_writer.specs.Appends
+pub use Rattle.arrow_meta_tree.specs as Tree
+pub use Rattle.arrow_meta_schema.specs as Schema
+pub use Rattle.arrow_meta_reader.specs as Reader
+pub use Rattle.arrow_meta_writer.specs as Writer

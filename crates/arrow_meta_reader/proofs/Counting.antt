@@ -2,12 +2,13 @@
 use Rattle.std.proofs.Common.{List, ℕ, Result, Ok, Err, inr, sym, subst}
 use Rattle.std.specs.Prelude.{IfErr, IfOk}
 use Rattle.arrow_types.specs.Limits.{LimitNumbers}
-use Rattle.arrow_meta_reader.specs.declared.fault.MetaFault.{MetaFault}
+use Rattle.arrow_meta_tree.specs.declared.fault.MetaFault.{MetaFault}
 use Rattle.arrow_meta_reader.specs.declared.message.Message.{Message}
-use Rattle.arrow_meta_reader.specs.declared.decode_cost.DecodeCost.{DecodeCost}
-use Rattle.arrow_meta_reader.specs.Judges.{CountsFailed, IsTreeOf, Counts, CountsTree}
+use Rattle.arrow_meta_tree.specs.declared.decode_cost.DecodeCost.{DecodeCost}
+use Rattle.arrow_meta_reader.specs.Judges.{CountsFailed, CountsTree}
+use Rattle.arrow_meta_tree.specs.Costs.{IsTreeOf, Counts}
 use Rattle.arrow_meta_reader.specs.Straight.{IsBare}
-use Rattle.arrow_meta_reader.specs.Trees.{Tree}
+use Rattle.arrow_meta_tree.specs.Trees.{Tree}
 use Rattle.arrow_meta_reader.proofs.OneAnswer.{one_tree}
 
 -- the counts of one tree are those of every other

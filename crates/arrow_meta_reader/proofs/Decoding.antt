@@ -1,16 +1,17 @@
 -- The result for the tree at the root of some bytes is the result for the bytes.
 use Rattle.std.proofs.Common.{ℕ, List, Result, Ok, Err, inr, refl, arith}
 use Rattle.arrow_types.specs.Limits.{LimitNumbers}
-use Rattle.arrow_meta_reader.specs.declared.fault.MetaFault.{MetaFault}
-use Rattle.arrow_meta_reader.specs.declared.fault.MetaFault.TheVariants.{Memory}
-use Rattle.arrow_meta_reader.specs.declared.kinds.TableKind.TheVariants as kinds
+use Rattle.arrow_meta_tree.specs.declared.fault.MetaFault.{MetaFault}
+use Rattle.arrow_meta_tree.specs.declared.fault.MetaFault.TheVariants.{Memory}
+use Rattle.arrow_meta_tree.specs.declared.kinds.TableKind.TheVariants as kinds
 use Rattle.arrow_meta_reader.specs.declared.message.Message.{Message}
-use Rattle.arrow_meta_reader.specs.Grows.{GrowsAtRoot, RowGrows, table_grows, first_kept, whole}
-use Rattle.arrow_meta_reader.specs.Judges.{IsTreeOf, Judges, Decodes}
-use Rattle.arrow_meta_reader.specs.Kinds.{spots_of}
-use Rattle.arrow_meta_reader.specs.Trees.{Tree, leaf, table, tables, none, more}
-use Rattle.arrow_meta_reader.proofs.Layers.{element_layer}
-use Rattle.arrow_meta_reader.proofs.Roots.{leads}
+use Rattle.arrow_meta_tree.specs.Grows.{GrowsAtRoot, RowGrows, table_grows, first_kept, whole}
+use Rattle.arrow_meta_reader.specs.Judges.{Judges, Decodes}
+use Rattle.arrow_meta_tree.specs.Costs.{IsTreeOf}
+use Rattle.arrow_meta_tree.specs.Kinds.{spots_of}
+use Rattle.arrow_meta_tree.specs.Trees.{Tree, leaf, table, tables, none, more}
+use Rattle.arrow_meta_tree.proofs.Layers.{element_layer}
+use Rattle.arrow_meta_tree.proofs.Roots.{leads}
 
 -- Reading the bytes of a message requests memory: its version is kept.
 tree_grows : (limits : LimitNumbers) (bytes : List ℕ) (x : Tree) → IsTreeOf bytes limits x →

@@ -5,28 +5,28 @@ use Rattle.arrow_flatbuf.specs.Place.{◌>>=◌}
 use Rattle.arrow_types.specs.Field.{levels, count}
 use Rattle.arrow_types.specs.Notes.{pair_count}
 use Rattle.arrow_types.specs.Schema.{fault_of as schema_fault_of, is_nested, some_flawed, types_differ, dictionary_fields}
-use Rattle.arrow_types.specs.declared.schema.SchemaFault.{SchemaFault}
-use Rattle.arrow_types.specs.declared.schema.SchemaFault.TheVariants as schema_faults
-use Rattle.arrow_meta_reader.specs.declared.codes.HeaderKind.{HeaderKind}
-use Rattle.arrow_meta_reader.specs.declared.codes.HeaderKind.TheVariants as headers
-use Rattle.arrow_meta_reader.specs.declared.fault.BatchKind.{BatchKind}
-use Rattle.arrow_meta_reader.specs.declared.fault.BatchKind.TheVariants as batches
-use Rattle.arrow_meta_reader.specs.declared.fault.MetaFault.{MetaFault}
-use Rattle.arrow_meta_reader.specs.declared.fault.MetaFault.TheVariants.{Metadata, Version, Header, BodyLength, Unsupported, Schema, Compressed, Memory}
+use Rattle.arrow_types.specs.declared.fault.SchemaFault.{SchemaFault}
+use Rattle.arrow_types.specs.declared.fault.SchemaFault.TheVariants as schema_faults
+use Rattle.arrow_meta_tree.specs.declared.codes.HeaderKind.{HeaderKind}
+use Rattle.arrow_meta_tree.specs.declared.codes.HeaderKind.TheVariants as headers
+use Rattle.arrow_meta_tree.specs.declared.fault.BatchKind.{BatchKind}
+use Rattle.arrow_meta_tree.specs.declared.fault.BatchKind.TheVariants as batches
+use Rattle.arrow_meta_tree.specs.declared.fault.MetaFault.{MetaFault}
+use Rattle.arrow_meta_tree.specs.declared.fault.MetaFault.TheVariants.{Metadata, Version, Header, BodyLength, Unsupported, Schema, Compressed, Memory}
 use Rattle.arrow_meta_reader.specs.declared.message.Message.{Message}
 use Rattle.arrow_meta_reader.specs.declared.message.MetadataVersion.{MetadataVersion}
-use Rattle.arrow_meta_reader.specs.Builds.{BuildsMessage, FailsToBuild, Late}
-use Rattle.arrow_meta_reader.specs.Conditions.{any, any_in, is_misfit, is_unsupported, lacks_table}
+use Rattle.arrow_meta_reader.specs.Built.{BuildsMessage, FailsToBuild, Late}
+use Rattle.arrow_meta_schema.specs.Conditions.{any, any_in, is_misfit, is_unsupported, lacks_table}
 use Rattle.arrow_meta_reader.specs.Faults.{least, header_conditions, fault_of, version_in, header_in, header_of, data_of, body_of, is_bad_length, is_compressed, is_unsupported_schema, shares_an_id}
 use Rattle.arrow_meta_reader.specs.Judges.{AsksMemory, Judges, LengthFits}
 use Rattle.arrow_meta_reader.specs.Means.{PlainMessage, Means, message_by, message_view}
-use Rattle.arrow_meta_reader.specs.Parts.{parts}
-use Rattle.arrow_meta_reader.specs.SchemaMeaning.{schema_fields, schema_in}
-use Rattle.arrow_meta_reader.specs.Trees.{Tree, leaf, table, tables, Trees}
-use Rattle.arrow_meta_reader.specs.Within.{IsShallow}
+use Rattle.arrow_meta_tree.specs.Parts.{parts}
+use Rattle.arrow_meta_schema.specs.SchemaMeaning.{schema_fields, schema_in}
+use Rattle.arrow_meta_tree.specs.Trees.{Tree, leaf, table, tables, Trees}
+use Rattle.arrow_meta_tree.specs.Within.{IsShallow}
 use Rattle.std.proofs.lemmas.Bool.{or_right, or_parts}
-use Rattle.arrow_meta_reader.proofs.Flawless.{flawless_in}
-use Rattle.arrow_meta_reader.proofs.Shallow.{schema_levels, schema_count, schema_pair_count}
+use Rattle.arrow_meta_schema.proofs.Flawless.{flawless_in}
+use Rattle.arrow_meta_schema.proofs.Shallow.{schema_levels, schema_count, schema_pair_count}
 
 -- the faults that come before those of a header, by the truth values of their conditions
 abbrev early : Bool → Bool → Bool → Bool → Option MetaFault

@@ -2,15 +2,16 @@
 use Rattle.std.proofs.Common.{◌≡◌, ℕ, List, Some, None, inl, inr, sym, ap, ◌∙◌, subst}
 use Rattle.arrow_types.specs.Limits.{LimitNumbers}
 use Rattle.arrow_types.specs.declared.type_set.TypeSet.{TypeSet}
-use Rattle.arrow_meta_reader.specs.declared.fault.MetaFault.{MetaFault}
-use Rattle.arrow_meta_reader.specs.declared.kinds.TableKind.TheVariants as kinds
+use Rattle.arrow_meta_tree.specs.declared.fault.MetaFault.{MetaFault}
+use Rattle.arrow_meta_tree.specs.declared.kinds.TableKind.TheVariants as kinds
 use Rattle.arrow_meta_reader.specs.Faults.{fault_of}
-use Rattle.arrow_meta_reader.specs.Judges.{IsTreeOf, MetadataMeans, MetadataFails}
-use Rattle.arrow_meta_reader.specs.Lies.{Lies, LiesAtRoot}
+use Rattle.arrow_meta_reader.specs.Judges.{MetadataMeans, MetadataFails}
+use Rattle.arrow_meta_tree.specs.Costs.{IsTreeOf}
+use Rattle.arrow_meta_tree.specs.Lies.{Lies, LiesAtRoot}
 use Rattle.arrow_meta_reader.specs.Means.{PlainMessage, Means}
-use Rattle.arrow_meta_reader.specs.Parts.{parts}
-use Rattle.arrow_meta_reader.specs.Trees.{Tree}
-use Rattle.arrow_meta_reader.proofs.OneTree.{one_table}
+use Rattle.arrow_meta_tree.specs.Parts.{parts}
+use Rattle.arrow_meta_tree.specs.Trees.{Tree}
+use Rattle.arrow_meta_tree.proofs.OneTree.{one_table}
 
 -- Two trees that lie at the root of the same bytes are equal.
 pub one_root : (types : TypeSet) (bytes : List ℕ) (x y : Tree) → LiesAtRoot types x bytes → LiesAtRoot types y bytes → x ≡ y

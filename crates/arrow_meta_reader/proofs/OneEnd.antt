@@ -2,23 +2,24 @@
 -- value.
 use Rattle.std.proofs.Common.{◌≡◌, ℕ, ◌+◌, ◌≤◌, Bool, false, true, inl, inr, List, Some, refl, sym, ap, subst, ◌∙◌, arith}
 use Rattle.arrow_types.specs.Limits.{LimitNumbers}
-use Rattle.arrow_meta_reader.specs.declared.fault.MetaFault.{MetaFault}
-use Rattle.arrow_meta_reader.specs.declared.fault.MetaFault.TheVariants.{Memory}
-use Rattle.arrow_meta_reader.specs.declared.kinds.TableKind.{TableKind}
-use Rattle.arrow_meta_reader.specs.declared.kinds.FieldForm.TheVariants as forms
-use Rattle.arrow_meta_reader.specs.declared.decode_cost.DecodeCost.{DecodeCost}
-use Rattle.arrow_meta_reader.specs.Grows.{whole}
-use Rattle.arrow_meta_reader.specs.Judges.{IsTreeOf, Counts, EndsAtRoot, CountsFailed}
-use Rattle.arrow_meta_reader.specs.Kinds.{Spot}
-use Rattle.arrow_meta_reader.specs.Lies.{Layer, table_layer, tables_layer, layer}
-use Rattle.arrow_meta_reader.specs.Reads.{NoneFits, NoRowFits, LacksRoom, Ends, RowEnds}
-use Rattle.arrow_meta_reader.specs.Reads.{ends_unreadable, ends_unpaid, ends_paid, ends_long, ends_refused, ends_below, ends_inside, ends_first, ends_unkept, ends_later}
-use Rattle.arrow_meta_reader.specs.Trees.{Tree, Trees, none, more}
-use Rattle.arrow_meta_reader.specs.Within.{visit, entry, levels, levels_all, visits, visits_all, entries, entries_all, text_bytes, text_bytes_all, Room, Spends, Fits}
-use Rattle.arrow_meta_reader.proofs.Layers.{none_fits, too_long, no_room_at, no_fields, no_elements}
-use Rattle.arrow_meta_reader.proofs.OneTree.{one}
+use Rattle.arrow_meta_tree.specs.declared.fault.MetaFault.{MetaFault}
+use Rattle.arrow_meta_tree.specs.declared.fault.MetaFault.TheVariants.{Memory}
+use Rattle.arrow_meta_tree.specs.declared.kinds.TableKind.{TableKind}
+use Rattle.arrow_meta_tree.specs.declared.kinds.FieldForm.TheVariants as forms
+use Rattle.arrow_meta_tree.specs.declared.decode_cost.DecodeCost.{DecodeCost}
+use Rattle.arrow_meta_tree.specs.Grows.{whole}
+use Rattle.arrow_meta_reader.specs.Judges.{CountsFailed}
+use Rattle.arrow_meta_tree.specs.Costs.{IsTreeOf, Counts, EndsAtRoot}
+use Rattle.arrow_meta_tree.specs.Kinds.{Spot}
+use Rattle.arrow_meta_tree.specs.Lies.{Layer, table_layer, tables_layer, layer}
+use Rattle.arrow_meta_tree.specs.Reads.{NoneFits, NoRowFits, LacksRoom, Ends, RowEnds}
+use Rattle.arrow_meta_tree.specs.Reads.{ends_unreadable, ends_unpaid, ends_paid, ends_long, ends_refused, ends_below, ends_inside, ends_first, ends_unkept, ends_later}
+use Rattle.arrow_meta_tree.specs.Trees.{Tree, Trees, none, more}
+use Rattle.arrow_meta_tree.specs.Within.{visit, entry, levels, levels_all, visits, visits_all, entries, entries_all, text_bytes, text_bytes_all, Room, Spends, Fits}
+use Rattle.arrow_meta_tree.proofs.Layers.{none_fits, too_long, no_room_at, no_fields, no_elements}
+use Rattle.arrow_meta_tree.proofs.OneTree.{one}
 use Rattle.arrow_meta_reader.proofs.OneAnswer.{one_tree}
-use Rattle.arrow_meta_reader.proofs.Roots.{root_placed, table_there}
+use Rattle.arrow_meta_tree.proofs.Roots.{root_placed, table_there}
 
 -- spending the same leaves the same
 left_same : (room a b : Room) (v n t : ℕ) → Spends room a v n t → Spends room b v n t → a ≡ b

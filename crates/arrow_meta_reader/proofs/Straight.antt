@@ -5,31 +5,32 @@ use Rattle.std.proofs.lemmas.Bool.{le-ltb}
 use Rattle.arrow_flatbuf.specs.Place.{past}
 use Rattle.arrow_flatbuf.specs.Table.{TableAt, table_at, field_place}
 use Rattle.arrow_flatbuf.specs.Vector.{VectorAt}
-use Rattle.arrow_meta_reader.specs.declared.codes.HeaderKind.{HeaderKind}
-use Rattle.arrow_meta_reader.specs.declared.codes.HeaderKind.TheVariants as headers
-use Rattle.arrow_meta_reader.specs.declared.fault.BatchKind.TheVariants as batches
-use Rattle.arrow_meta_reader.specs.declared.fault.MetaFault.{MetaFault}
-use Rattle.arrow_meta_reader.specs.declared.fault.MetaFault.TheVariants.{Metadata, Version, Header, BodyLength, Compressed}
-use Rattle.arrow_meta_reader.specs.declared.kinds.FieldForm.{FieldForm}
-use Rattle.arrow_meta_reader.specs.declared.kinds.FieldForm.TheVariants as forms
-use Rattle.arrow_meta_reader.specs.declared.kinds.TableKind.{TableKind}
-use Rattle.arrow_meta_reader.specs.declared.kinds.TableKind.TheVariants as kinds
-use Rattle.arrow_meta_reader.specs.Conditions.{any, any_in, lacks_table}
-use Rattle.arrow_meta_reader.specs.Codes.{header_kind, metadata_version}
+use Rattle.arrow_meta_tree.specs.declared.codes.HeaderKind.{HeaderKind}
+use Rattle.arrow_meta_tree.specs.declared.codes.HeaderKind.TheVariants as headers
+use Rattle.arrow_meta_tree.specs.declared.fault.BatchKind.TheVariants as batches
+use Rattle.arrow_meta_tree.specs.declared.fault.MetaFault.{MetaFault}
+use Rattle.arrow_meta_tree.specs.declared.fault.MetaFault.TheVariants.{Metadata, Version, Header, BodyLength, Compressed}
+use Rattle.arrow_meta_tree.specs.declared.kinds.FieldForm.{FieldForm}
+use Rattle.arrow_meta_tree.specs.declared.kinds.FieldForm.TheVariants as forms
+use Rattle.arrow_meta_tree.specs.declared.kinds.TableKind.{TableKind}
+use Rattle.arrow_meta_tree.specs.declared.kinds.TableKind.TheVariants as kinds
+use Rattle.arrow_meta_schema.specs.Conditions.{any, any_in, lacks_table}
+use Rattle.arrow_meta_tree.specs.Codes.{header_kind}
+use Rattle.arrow_meta_reader.specs.Versions.{metadata_version}
 use Rattle.arrow_meta_reader.specs.declared.message.MetadataVersion.{MetadataVersion}
 use Rattle.arrow_meta_reader.specs.Faults.{body_of, fault_of, header_conditions, header_in, header_of, is_bad_length, is_compressed, least, version_in}
-use Rattle.arrow_meta_reader.specs.Grows.{root}
-use Rattle.arrow_meta_reader.specs.Kinds.{Spot, code_at, header_table, opened, spots_of, snapshot, table_of_header}
-use Rattle.arrow_meta_reader.specs.Lies.{AllPlaced, Placed, layer, layer_at, leaf_layer, number_layer, pairs_from, table_layer}
+use Rattle.arrow_meta_tree.specs.Grows.{root}
+use Rattle.arrow_meta_tree.specs.Kinds.{Spot, code_at, header_table, opened, spots_of, snapshot, table_of_header}
+use Rattle.arrow_meta_tree.specs.Lies.{AllPlaced, Placed, layer, layer_at, leaf_layer, number_layer, pairs_from, table_layer}
 use Rattle.arrow_meta_reader.specs.Means.{PlainBatch, PlainHeader, batch, batch_of, buffer_of, dictionary, node_of}
-use Rattle.arrow_meta_reader.specs.Parts.{leaf_number_or, pairs_in}
+use Rattle.arrow_meta_tree.specs.Parts.{leaf_number_or, pairs_in}
 use Rattle.arrow_meta_reader.specs.Straight.{IsBare, HasNumber, HasPairs, IsHeader, MeansBare}
-use Rattle.arrow_meta_reader.specs.Trees.{Leaf, absent, number, pairs, leaf, table, Trees, none, more}
-use Rattle.arrow_meta_reader.specs.Within.{text_length}
+use Rattle.arrow_meta_tree.specs.Trees.{Leaf, absent, number, pairs, leaf, table, Trees, none, more}
+use Rattle.arrow_meta_tree.specs.Within.{text_length}
 use Rattle.arrow_types.specs.declared.type_set.TypeSet.TheVariants.{Core}
 use Rattle.arrow_types.specs.Limits.{LimitNumbers}
-use Rattle.arrow_meta_reader.proofs.Layers.{element_layer, layer_there}
-use Rattle.arrow_meta_reader.proofs.Roots.{root_lies}
+use Rattle.arrow_meta_tree.proofs.Layers.{element_layer, layer_there}
+use Rattle.arrow_meta_tree.proofs.Roots.{root_lies}
 
 -- a leaf at a spot that holds a number, 0 if the field is absent
 abbrev IsNumberAt : List ℕ → Spot → ℕ → Type 0

@@ -2,18 +2,19 @@
 use Rattle.std.specs.Prelude.{ℕ, Bool, ◌||◌, not, List, [], ◌∷◌, length, ◌+◌, ◌<◌, Option, Some, None, is_some, nat_lt, if◌then◌else◌}
 use Rattle.arrow_types.specs.Field.{width}
 use Rattle.arrow_types.specs.Schema.{is_nested, types_differ, dictionary_fields}
-use Rattle.arrow_meta_reader.specs.declared.codes.HeaderKind.{HeaderKind}
-use Rattle.arrow_meta_reader.specs.declared.codes.HeaderKind.TheVariants as headers
-use Rattle.arrow_meta_reader.specs.declared.fault.BatchKind.TheVariants as batches
-use Rattle.arrow_meta_reader.specs.declared.fault.MetaFault.{MetaFault}
-use Rattle.arrow_meta_reader.specs.declared.fault.MetaFault.TheVariants.{Metadata, Version, Header, BodyLength, Unsupported, Schema, Compressed, Memory}
+use Rattle.arrow_meta_tree.specs.declared.codes.HeaderKind.{HeaderKind}
+use Rattle.arrow_meta_tree.specs.declared.codes.HeaderKind.TheVariants as headers
+use Rattle.arrow_meta_tree.specs.declared.fault.BatchKind.TheVariants as batches
+use Rattle.arrow_meta_tree.specs.declared.fault.MetaFault.{MetaFault}
+use Rattle.arrow_meta_tree.specs.declared.fault.MetaFault.TheVariants.{Metadata, Version, Header, BodyLength, Unsupported, Schema, Compressed}
 use Rattle.arrow_meta_reader.specs.declared.message.MetadataVersion.{MetadataVersion}
-use Rattle.arrow_meta_reader.specs.Codes.{metadata_version, header_kind}
-use Rattle.arrow_meta_reader.specs.Conditions.{any, any_in, lacks_table, is_unsupported, is_misfit}
-use Rattle.arrow_meta_reader.specs.Parts.{nth, parts, number_at, pairs_in, is_table, is_there}
-use Rattle.arrow_meta_reader.specs.SchemaMeaning.{schema_fields, schema_pairs}
-use Rattle.arrow_meta_reader.specs.Slots as slots
-use Rattle.arrow_meta_reader.specs.Trees.{Tree, Trees}
+use Rattle.arrow_meta_tree.specs.Codes.{header_kind}
+use Rattle.arrow_meta_reader.specs.Versions.{metadata_version}
+use Rattle.arrow_meta_schema.specs.Conditions.{any, any_in, lacks_table, is_unsupported, is_misfit}
+use Rattle.arrow_meta_tree.specs.Parts.{nth, parts, number_at, pairs_in, is_table, is_there}
+use Rattle.arrow_meta_schema.specs.SchemaMeaning.{schema_fields, schema_pairs}
+use Rattle.arrow_meta_tree.specs.Slots as slots
+use Rattle.arrow_meta_tree.specs.Trees.{Tree, Trees}
 
 -- the version of a Message table, if it is one of those that are read (Message.fbs, table "Message"; so the next
 -- three)
@@ -86,14 +87,3 @@ least (c ∷ cs) = if c.0 then Some c.1 else least cs
 -- The least fault of a message with these fields, none if there is no fault.
 abbrev pub fault_of : ℕ → Trees → Option MetaFault
 fault_of max_body xs = least (conditions max_body xs)
-
--- the numbers of the faults: those of the faults of a stream
-abbrev pub number_of : MetaFault → ℕ
-number_of Metadata = 3
-number_of Version = 4
-number_of Header = 5
-number_of BodyLength = 6
-number_of (Unsupported body_len) = 8
-number_of (Schema body_len) = 9
-number_of (Compressed batch body_len) = 10
-number_of Memory = 19

@@ -1,21 +1,19 @@
 -- The results for a tree, and for the bytes of a metadata.
-use Rattle.std.specs.Prelude.{◌≡◌, ◌≤◌, ◌⊎◌, ℕ, false, List, Option, Result, Ok, Err, Some, None}
+use Rattle.std.specs.Prelude.{◌≡◌, ◌≤◌, ◌⊎◌, ℕ, List, Option, Result, Ok, Err, Some, None}
 use Rattle.arrow_types.specs.Limits.{LimitNumbers}
-use Rattle.arrow_meta_reader.specs.declared.codes.HeaderKind.{HeaderKind}
-use Rattle.arrow_meta_reader.specs.declared.codes.HeaderKind.TheVariants as headers
-use Rattle.arrow_meta_reader.specs.declared.fault.MetaFault.{MetaFault}
-use Rattle.arrow_meta_reader.specs.declared.fault.MetaFault.TheVariants.{Metadata, Version, Header, BodyLength, Unsupported, Schema, Compressed, Memory}
+use Rattle.arrow_meta_tree.specs.declared.codes.HeaderKind.{HeaderKind}
+use Rattle.arrow_meta_tree.specs.declared.codes.HeaderKind.TheVariants as headers
+use Rattle.arrow_meta_tree.specs.declared.fault.MetaFault.{MetaFault}
+use Rattle.arrow_meta_tree.specs.declared.fault.MetaFault.TheVariants.{Metadata, Version, Header, BodyLength, Unsupported, Schema, Compressed, Memory}
 use Rattle.arrow_meta_reader.specs.declared.message.Message.{Message}
 use Rattle.arrow_meta_reader.specs.declared.message.MetadataVersion.{MetadataVersion}
 use Rattle.arrow_meta_reader.specs.Faults.{fault_of, version_in, header_in, header_of, data_of, HasFieldOrPair, HasNodeOrBuffer}
-use Rattle.arrow_meta_reader.specs.Grows.{GrowsAtRoot, root, whole}
-use Rattle.arrow_meta_reader.specs.Lies.{LiesAtRoot}
+use Rattle.arrow_meta_tree.specs.Costs.{IsTreeOf, Counts, EndsAtRoot}
+use Rattle.arrow_meta_tree.specs.Grows.{GrowsAtRoot}
 use Rattle.arrow_meta_reader.specs.Means.{PlainMessage, Means, message_view}
-use Rattle.arrow_meta_reader.specs.Parts.{parts}
-use Rattle.arrow_meta_reader.specs.Reads.{Ends}
-use Rattle.arrow_meta_reader.specs.Trees.{Tree, Trees}
-use Rattle.arrow_meta_reader.specs.Within.{IsWithin, visits, entries, text_bytes, Room, Spends}
-use Rattle.arrow_meta_reader.specs.declared.decode_cost.DecodeCost.{DecodeCost}
+use Rattle.arrow_meta_tree.specs.Parts.{parts}
+use Rattle.arrow_meta_tree.specs.Trees.{Tree, Trees}
+use Rattle.arrow_meta_tree.specs.declared.decode_cost.DecodeCost.{DecodeCost}
 
 -- Building the table with these fields of this header requests memory: for a schema if it has a field or a pair of
 -- metadata, for a batch if it has a field node or a buffer.
@@ -53,11 +51,6 @@ LengthFits (Err (Schema body_len)) max_body = body_len ≤ max_body
 LengthFits (Err (Compressed batch body_len)) max_body = body_len ≤ max_body
 LengthFits (Err Memory) max_body = Unit {0}
 
--- the tree of a metadata: it lies at the root, and keeps to the limits
-pub record IsTreeOf (bytes : List ℕ) (limits : LimitNumbers) (x : Tree) : Type 0 where
-  pub lies : LiesAtRoot limits.types x bytes
-  pub within : IsWithin limits.max_metadata x
-
 -- The bytes of a metadata mean this message.
 abbrev pub MetadataMeans : LimitNumbers → List ℕ → PlainMessage → Type 0
 MetadataMeans limits bytes m = (x : Tree) × IsTreeOf bytes limits x × Means limits.max_body x m
@@ -75,29 +68,9 @@ Decodes (Ok m) limits bytes = MetadataMeans limits bytes (message_view m)
 Decodes (Err Memory) limits bytes = GrowsAtRoot limits bytes
 Decodes (Err fault) limits bytes = MetadataFails limits bytes fault
 
--- The work that was done keeps to the limits, whatever the result is.
-pub record IsWorkWithin (limits : LimitNumbers) (work : DecodeCost) : Type 0 where
-  pub fields_within : work.fields ≤ 65536
-  pub pairs_within : work.pairs ≤ 65536
-  pub bytes_within : work.bytes ≤ limits.max_metadata
-
--- The work counts exactly what a tree has, each occurrence: its Field tables, its KeyValue tables, and the bytes of
--- its names, zones, keys and values.
-pub record Counts (work : DecodeCost) (x : Tree) : Type 0 where
-  pub fields : work.fields ≡ visits x
-  pub pairs : work.pairs ≡ entries x
-  pub bytes : work.bytes ≡ text_bytes x
-
 -- The work counts exactly what the tree of a metadata has.
 abbrev pub CountsTree : LimitNumbers → List ℕ → DecodeCost → Type 0
 CountsTree limits bytes work = (x : Tree) → IsTreeOf bytes limits x → Counts work x
-
--- Reading the message with these bytes as its metadata ends with this fault, and the work counts exactly what was
--- opened and copied up to there.
-abbrev pub EndsAtRoot : LimitNumbers → List ℕ → MetaFault → DecodeCost → Type 0
-EndsAtRoot limits bytes e work =
-    (left : Room) × Ends bytes false e (root limits.types) 32 (whole limits.max_metadata) left ×
-    Spends (whole limits.max_metadata) left work.fields work.pairs work.bytes
 
 -- The work after a fault: what was opened and copied up to where reading ended with it, or what the whole tree has,
 -- if the fault is the tree's.

@@ -6,17 +6,17 @@ use Rattle.arrow_types.specs.Notes.{SchemaShape}
 use Rattle.arrow_types.specs.declared.node.FieldNode.{FieldNode}
 use Rattle.arrow_types.specs.declared.node.Buffer.{Buffer}
 use Rattle.arrow_meta_reader.specs.declared.message.RecordBatch.{RecordBatch}
-use Rattle.arrow_meta_reader.specs.declared.codes.HeaderKind.{HeaderKind}
-use Rattle.arrow_meta_reader.specs.declared.codes.HeaderKind.TheVariants as headers
+use Rattle.arrow_meta_tree.specs.declared.codes.HeaderKind.{HeaderKind}
+use Rattle.arrow_meta_tree.specs.declared.codes.HeaderKind.TheVariants as headers
 use Rattle.arrow_meta_reader.specs.declared.message.Header.{Header}
 use Rattle.arrow_meta_reader.specs.declared.message.Header.TheVariants as built
 use Rattle.arrow_meta_reader.specs.declared.message.Message.{Message}
 use Rattle.arrow_meta_reader.specs.declared.message.MetadataVersion.{MetadataVersion}
 use Rattle.arrow_meta_reader.specs.Faults.{fault_of, version_in, header_in, header_of, body_of, data_of}
-use Rattle.arrow_meta_reader.specs.Parts.{nth, parts, number_at, flag_at, pairs_in}
-use Rattle.arrow_meta_reader.specs.SchemaMeaning.{schema_in}
-use Rattle.arrow_meta_reader.specs.Trees.{Tree, Trees}
-use Rattle.arrow_meta_reader.specs.Slots as slots
+use Rattle.arrow_meta_tree.specs.Parts.{nth, parts, number_at, flag_at, pairs_in}
+use Rattle.arrow_meta_schema.specs.SchemaMeaning.{schema_in}
+use Rattle.arrow_meta_tree.specs.Trees.{Tree, Trees}
+use Rattle.arrow_meta_tree.specs.Slots as slots
 
 -- a record batch (Message.fbs, table "RecordBatch")
 pub record PlainBatch : Type 0 where

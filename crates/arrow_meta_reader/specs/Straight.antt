@@ -4,18 +4,18 @@ use Rattle.std.specs.Prelude.{◌≡◌, ◌⊎◌, ℕ, false, List, [], Some, 
 use Rattle.arrow_flatbuf.specs.Place.{number_at, past}
 use Rattle.arrow_flatbuf.specs.Table.{TableAt, field_place}
 use Rattle.arrow_flatbuf.specs.Vector.{VectorAt, vector_at}
-use Rattle.arrow_meta_reader.specs.declared.codes.HeaderKind.{HeaderKind}
-use Rattle.arrow_meta_reader.specs.declared.kinds.TableKind.{TableKind}
-use Rattle.arrow_meta_reader.specs.Conditions.{any, lacks_table}
+use Rattle.arrow_meta_tree.specs.declared.codes.HeaderKind.{HeaderKind}
+use Rattle.arrow_meta_tree.specs.declared.kinds.TableKind.{TableKind}
+use Rattle.arrow_meta_schema.specs.Conditions.{any, lacks_table}
 use Rattle.arrow_meta_reader.specs.Faults.{header_conditions, least}
-use Rattle.arrow_meta_reader.specs.Kinds.{spots_of, table_of_header}
-use Rattle.arrow_meta_reader.specs.Lies.{AllPlaced, pairs_from}
-use Rattle.arrow_meta_reader.specs.Judges.{IsTreeOf}
+use Rattle.arrow_meta_tree.specs.Kinds.{spots_of, table_of_header}
+use Rattle.arrow_meta_tree.specs.Lies.{AllPlaced, pairs_from}
+use Rattle.arrow_meta_tree.specs.Costs.{IsTreeOf}
 use Rattle.arrow_meta_reader.specs.Means.{PlainHeader, PlainMessage, Means, header_by}
 use Rattle.arrow_types.specs.Limits.{LimitNumbers}
 use Rattle.arrow_types.specs.declared.type_set.TypeSet.{TypeSet}
-use Rattle.arrow_meta_reader.specs.Trees.{Tree, Trees, table}
-use Rattle.arrow_meta_reader.specs.Within.{levels, entries, text_bytes, visits}
+use Rattle.arrow_meta_tree.specs.Trees.{Tree, Trees, table}
+use Rattle.arrow_meta_tree.specs.Within.{levels, entries, text_bytes, visits}
 
 -- field i holds the number n of w bytes, or is absent, which means 0
 abbrev pub HasNumber : ℕ → TableAt → ℕ → ℕ → Type 0

@@ -3,20 +3,20 @@
 //! Nearly all messages of a stream are batches without a fault. These are made without a tree;
 //! everything else, a schema, a fault or a failed allocation, is left to the tree.
 ghost use Rattle.std.specs.Prelude.{◌≡◌, ◌≤◌, ℕ, List, IfOk, IfSome, Some, map};
-ghost use Rattle.arrow_meta_reader.specs.Codes.{header_kind};
-ghost use Rattle.arrow_meta_reader.specs.Lies.{pairs_from};
+ghost use Rattle.arrow_meta_tree.specs.Codes.{header_kind};
+ghost use Rattle.arrow_meta_tree.specs.Lies.{pairs_from};
 ghost use Rattle.arrow_meta_reader.specs.Means.{batch, batch_view, buffer_of, header_view, message_view};
 ghost use Rattle.arrow_meta_reader.specs.Means.{node_of};
-ghost use Rattle.arrow_meta_reader.specs.Slots as slots;
+ghost use Rattle.arrow_meta_tree.specs.Slots as slots;
 ghost use Rattle.arrow_meta_reader.specs.Straight.{HasNumber, HasPairs, IsHeader, MeansBare};
-ghost use Rattle.arrow_meta_reader.specs.declared.codes.HeaderKind.{HeaderKind as Kind};
-ghost use Rattle.arrow_meta_reader.specs.declared.codes.HeaderKind.TheVariants as headers;
+ghost use Rattle.arrow_meta_tree.specs.declared.codes.HeaderKind.{HeaderKind as Kind};
+ghost use Rattle.arrow_meta_tree.specs.declared.codes.HeaderKind.TheVariants as headers;
 
-use crate::codes::{HeaderKind, header_kind, metadata_version};
-use crate::kinds::PAIR;
 use crate::message::{Header, Message, RecordBatch};
-use crate::slots;
+use crate::versions::metadata_version;
 use arrow_flatbuf::{Root, Table, Vector};
+use arrow_meta_tree::codes::{HeaderKind, header_kind};
+use arrow_meta_tree::{PAIR, slots};
 use arrow_types::{Buffer, FieldNode, Limits};
 use std::alloc::{AllocError, Global};
 

@@ -1,37 +1,34 @@
 //! The meaning of a tree, or its least fault.
 ghost use Rattle.std.specs.Prelude.{◌≡◌, ◌∷◌, [], Some, IfErr, IfOk};
-ghost use Rattle.arrow_meta_reader.specs.declared.codes.HeaderKind.TheVariants as headers;
-ghost use Rattle.arrow_meta_reader.specs.declared.fault.MetaFault.TheVariants.{Compressed};
-ghost use Rattle.arrow_meta_reader.specs.Conditions.{any, is_misfit};
+ghost use Rattle.arrow_meta_tree.specs.declared.codes.HeaderKind.TheVariants as headers;
+ghost use Rattle.arrow_meta_tree.specs.declared.fault.MetaFault.TheVariants.{Compressed};
+ghost use Rattle.arrow_meta_schema.specs.Conditions.{any, is_misfit};
 ghost use Rattle.arrow_meta_reader.specs.Faults.{data_of, header_in, header_of, is_bad_length, version_in};
 ghost use Rattle.arrow_meta_reader.specs.Faults.{header_conditions, is_compressed};
 ghost use Rattle.arrow_meta_reader.specs.Faults.{is_unsupported_schema, least, shares_an_id};
 ghost use Rattle.arrow_meta_reader.specs.Judges.{Clears, CountsFailed, CountsTree, Decodes};
-ghost use Rattle.arrow_meta_reader.specs.Judges.{IsWorkWithin, Judges, LengthFits};
-ghost use Rattle.arrow_meta_reader.specs.Parts.{nth, parts as parts_of};
-ghost use Rattle.arrow_meta_reader.specs.SchemaMeaning.{fields_in, schema_fields};
-ghost use Rattle.arrow_meta_reader.specs.Views.{plain, plain_all};
+ghost use Rattle.arrow_meta_reader.specs.Judges.{Judges, LengthFits};
+ghost use Rattle.arrow_meta_tree.specs.Costs.{IsWorkWithin};
+ghost use Rattle.arrow_meta_tree.specs.Parts.{nth, parts as parts_of};
+ghost use Rattle.arrow_meta_schema.specs.SchemaMeaning.{fields_in, schema_fields};
+ghost use Rattle.arrow_meta_tree.specs.Views.{plain, plain_all};
 ghost use Rattle.arrow_types.specs.Schema.{dictionary_fields, is_nested, types_differ};
 
 use crate::batches::batch_message;
-use crate::codes::{HeaderKind, header_kind, metadata_version};
-use crate::conditions::{Test, any, any_in};
-use crate::decode_cost::DecodeCost;
-use crate::dictionary_types::types_differ;
-use crate::fault::{BatchKind, MetaFault};
 use crate::message::{Message, MetadataVersion};
-use crate::message_tree::{MessageTree, Tree};
-use crate::nesting::is_nested;
-use crate::parts::{has_table, into_parts, is_there_at, number_at, part};
-use crate::reader::tree_counted;
-use crate::slots;
 use crate::to_schema::message;
+use crate::versions::metadata_version;
+use arrow_meta_schema::conditions::{Test, any, any_in};
+use arrow_meta_schema::{is_nested, types_differ};
+use arrow_meta_tree::codes::{HeaderKind, header_kind};
+use arrow_meta_tree::parts::{has_table, into_parts, is_there_at, number_at, part};
+use arrow_meta_tree::{BatchKind, DecodeCost, MessageTree, MetaFault, Tree, slots, tree_counted};
 use arrow_types::Limits;
 use std::alloc::Global;
 
 /// The message with these bytes as its metadata, or the fault with the least number of those that
 /// hold (Columnar Format, "Encapsulated message format"): the result of [`judge`] for the tree that
-/// [`crate::tree`] reads. A batch that has no fault is made straight from its tables.
+/// [`arrow_meta_tree::tree`] reads. A batch that has no fault is made straight from its tables.
 ///
 /// The bytes are those between a message's size and its body. The message borrows none of them:
 /// names, zones, keys and values are copied, once. After `Memory`, a failed allocation, all that is
@@ -87,7 +84,7 @@ pub fn judge(alloc: Global, tree: MessageTree, limits: &Limits) -> Result<Messag
     ensures judged { Judges result limits.now.max_body tree }
     ensures length { LengthFits result limits.now.max_body }
 {
-    let parts = into_parts(alloc, tree.root);
+    let parts = into_parts(alloc, tree.into_root());
     let (version, kind) = cleared(alloc, &parts, limits.max_body())?;
     message(alloc, version, kind, parts)
 }

@@ -2,14 +2,14 @@
 //!
 //! Each is the contract of a function that does nothing. In a law a number is any number.
 ghost use Rattle.std.specs.Prelude.{◌≡◌, ℕ, List};
-ghost use Rattle.arrow_meta_reader.specs.declared.fault.MetaFault.{MetaFault};
-ghost use Rattle.arrow_meta_reader.specs.declared.fault.MetaFault.TheVariants.{Memory};
-ghost use Rattle.arrow_meta_reader.specs.declared.kinds.TableKind.{TableKind};
-ghost use Rattle.arrow_meta_reader.specs.declared.decode_cost.DecodeCost.{DecodeCost};
+ghost use Rattle.arrow_meta_tree.specs.declared.fault.MetaFault.{MetaFault};
+ghost use Rattle.arrow_meta_tree.specs.declared.fault.MetaFault.TheVariants.{Memory};
+ghost use Rattle.arrow_meta_tree.specs.declared.kinds.TableKind.{TableKind};
+ghost use Rattle.arrow_meta_tree.specs.declared.decode_cost.DecodeCost.{DecodeCost};
 ghost use Rattle.arrow_meta_reader.specs.Judges.{CountsFailed, MetadataMeans, MetadataFails};
-ghost use Rattle.arrow_meta_reader.specs.Lies.{Lies};
+ghost use Rattle.arrow_meta_tree.specs.Lies.{Lies};
 ghost use Rattle.arrow_meta_reader.specs.Means.{PlainMessage, Means};
-ghost use Rattle.arrow_meta_reader.specs.Trees.{Tree};
+ghost use Rattle.arrow_meta_tree.specs.Trees.{Tree};
 ghost use Rattle.arrow_types.specs.Limits.{LimitNumbers};
 
 /// Two trees of one kind at one offset of the same bytes are equal, and so are two messages that

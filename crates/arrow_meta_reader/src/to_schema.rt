@@ -1,22 +1,21 @@
 //! Messages, built from the fields of their tables.
 ghost use Rattle.std.specs.Prelude.{◌≡◌, ◌<◌, IfOk, IfErr, length, map};
 ghost use Rattle.std.specs.Int.{cast_signed, w64};
-ghost use Rattle.arrow_meta_reader.specs.Builds.{BuildsSchema, BuildsHeader, BuildsMessage, meta_fault};
+ghost use Rattle.arrow_meta_reader.specs.Built.{BuildsSchema, BuildsHeader, BuildsMessage, meta_fault};
 ghost use Rattle.arrow_meta_reader.specs.Faults.{HasNodeOrBuffer, data_of};
 ghost use Rattle.arrow_meta_reader.specs.Means.{batch_of, batch_view, dictionary, header_view, node_of};
 ghost use Rattle.arrow_meta_reader.specs.Means.{buffer_of};
-ghost use Rattle.arrow_meta_reader.specs.Parts.{nth, number_at, flag_at};
-ghost use Rattle.arrow_meta_reader.specs.Slots as slots;
-ghost use Rattle.arrow_meta_reader.specs.Views.{plain_all};
+ghost use Rattle.arrow_meta_tree.specs.Parts.{nth, number_at, flag_at};
+ghost use Rattle.arrow_meta_tree.specs.Slots as slots;
+ghost use Rattle.arrow_meta_tree.specs.Views.{plain_all};
 
-use crate::codes::HeaderKind;
-use crate::fault::MetaFault;
-use crate::fields::{FieldFault, fields};
 use crate::message::{Header, Message, MetadataVersion, RecordBatch};
-use crate::message_tree::Tree;
-use crate::metadata::metadata;
-use crate::parts::{flag_at, into_pairs, into_parts, number_at, take};
-use crate::slots;
+use arrow_meta_schema::FieldFault;
+use arrow_meta_schema::fields::fields;
+use arrow_meta_schema::metadata::metadata;
+use arrow_meta_tree::codes::HeaderKind;
+use arrow_meta_tree::parts::{flag_at, into_pairs, into_parts, number_at, take};
+use arrow_meta_tree::{MetaFault, Tree, slots};
 use arrow_types::{Buffer, FieldNode, Schema, SchemaFault};
 use std::alloc::{AllocError, Global};
 
@@ -57,7 +56,7 @@ fn header(
 }
 
 /// The schema that a Schema table with these fields describes.
-#[tactic(auto, using(crate::proofs::Misfits::any_nth, crate::proofs::FieldTables::encoded_width))]
+#[tactic(auto, using(arrow_meta_schema::proofs::Misfits::any_nth, arrow_meta_schema::proofs::FieldTables::encoded_width))]
 fn schema(alloc: Global, mut parts: Vec<Tree>, body_len: u64) -> Result<Schema, MetaFault>
     ensures built { BuildsSchema result body_len (plain_all parts.items) }
 {

@@ -15,17 +15,17 @@ use Rattle.arrow_types.specs.declared.type_set.TypeSet.{TypeSet}
 use Rattle.arrow_types.specs.declared.field.Encoding.{Encoding}
 use Rattle.arrow_types.specs.declared.node.FieldNode.{FieldNode}
 use Rattle.arrow_types.specs.declared.node.Buffer.{Buffer}
-use Rattle.arrow_meta_reader.specs.Codes.{number_of_version, metadata_version}
-use Rattle.arrow_meta_reader.specs.Types.{type_code}
+use Rattle.arrow_meta_reader.specs.Versions.{number_of_version, metadata_version}
+use Rattle.arrow_meta_tree.specs.Types.{type_code}
 use Rattle.arrow_meta_reader.specs.declared.message.MetadataVersion.{MetadataVersion}
 use Rattle.arrow_meta_reader.specs.declared.message.MetadataVersion.TheVariants as versions
 use Rattle.arrow_meta_writer.specs.Layouts.{tag_code, node_pair, buffer_pair, first_pairs, first_below, first_rest}
 use Rattle.arrow_meta_reader.specs.Means.{PlainBatch, PlainHeader, schema, dictionary, batch, node_of}
 use Rattle.arrow_meta_reader.specs.Means.{buffer_of, batch_of, meaning_of}
-use Rattle.arrow_meta_reader.specs.Parts.{parts}
-use Rattle.arrow_meta_reader.specs.SchemaMeaning.{encoding_in, tag_by, head_of, fields_from}
-use Rattle.arrow_meta_reader.specs.SchemaMeaning.{metadata_from, metadata_in, notes_from, schema_in}
-use Rattle.arrow_meta_reader.specs.Trees.{Trees}
+use Rattle.arrow_meta_tree.specs.Parts.{parts}
+use Rattle.arrow_meta_schema.specs.SchemaMeaning.{encoding_in, tag_by, head_of, fields_from}
+use Rattle.arrow_meta_schema.specs.SchemaMeaning.{metadata_from, metadata_in, notes_from, schema_in}
+use Rattle.arrow_meta_tree.specs.Trees.{Trees}
 use Rattle.arrow_meta_writer.specs.Writable.{IsLong, HasLongId, AreFields, AreNodes, AreBuffers}
 use Rattle.arrow_meta_writer.specs.Writable.{AreNotesOf, IsBatch, IsHeader, leaves_header_out}
 use Rattle.arrow_meta_writer.proofs.Flawless.{AreFlawless, IsFlawless, below_flawless, first_flawless, rest_flawless}

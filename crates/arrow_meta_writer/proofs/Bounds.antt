@@ -16,9 +16,9 @@ use Rattle.arrow_meta_writer.specs.Layouts.{pair_cells, pair_nodes, metadata_cel
 use Rattle.arrow_meta_writer.specs.Layouts.{first_pairs, first_below, first_rest}
 use Rattle.arrow_meta_reader.specs.Means.{PlainHeader, schema, dictionary, batch, PlainMessage}
 use Rattle.arrow_meta_writer.specs.Metadata.{metadata_size}
-use Rattle.arrow_meta_reader.specs.Within.{levels, levels_all, visits, visits_all, entries, entries_all}
-use Rattle.arrow_meta_reader.specs.Within.{text_bytes}
-use Rattle.arrow_meta_reader.specs.Within.{text_bytes_all, IsShallow}
+use Rattle.arrow_meta_tree.specs.Within.{levels, levels_all, visits, visits_all, entries, entries_all}
+use Rattle.arrow_meta_tree.specs.Within.{text_bytes}
+use Rattle.arrow_meta_tree.specs.Within.{text_bytes_all, IsShallow}
 use Rattle.arrow_meta_writer.specs.Writable.{IsHeader}
 use Rattle.arrow_meta_writer.specs.Written.{encoding_tree, field_trees, header_tree}
 use Rattle.arrow_meta_writer.specs.Written.{message_tree, pair_trees, metadata_tree}

@@ -8,8 +8,8 @@ use Rattle.arrow_types.specs.DataType as tags
 use Rattle.arrow_types.specs.DataType.{decimal_bits_of, digits_of, is_decimal, is_scale}
 use Rattle.arrow_types.specs.declared.data_type.DecimalWidth.{DecimalWidth}
 use Rattle.arrow_types.specs.declared.data_type.DecimalWidth.TheVariants as decimals
-use Rattle.arrow_meta_reader.specs.Codes.{decimal_scale, decimal_width}
-use Rattle.arrow_meta_reader.specs.Types.{decimal_by}
+use Rattle.arrow_meta_tree.specs.Codes.{decimal_scale, decimal_width}
+use Rattle.arrow_meta_tree.specs.Types.{decimal_by}
 
 -- the conditions on a precision and on a scale
 parts_of : (width : DecimalWidth) (precision : ℕ) (scale : ℤ) → is_decimal width precision scale ≡ true

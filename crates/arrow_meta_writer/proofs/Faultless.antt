@@ -9,25 +9,25 @@ use Rattle.arrow_types.specs.Field.{FieldHeader, FieldTree, width}
 use Rattle.arrow_types.specs.Notes.{KeyValue, Notes}
 use Rattle.arrow_types.specs.Schema.{is_nested, lacks_entries, types_differ, dictionary_fields}
 use Rattle.arrow_types.specs.TypeSet.{leaves_out, leaves_some_out}
-use Rattle.arrow_types.specs.declared.schema.SchemaFault.TheVariants.{MapEntries}
+use Rattle.arrow_types.specs.declared.fault.SchemaFault.TheVariants.{MapEntries}
 use Rattle.arrow_types.specs.declared.type_set.TypeSet.{TypeSet}
 use Rattle.arrow_types.specs.declared.field.Encoding.{Encoding}
-use Rattle.arrow_meta_reader.specs.declared.kinds.TableKind.{TableKind}
-use Rattle.arrow_meta_reader.specs.declared.kinds.TableKind.TheVariants as kinds
-use Rattle.arrow_meta_reader.specs.Codes.{number_of_version, metadata_version}
-use Rattle.arrow_meta_reader.specs.declared.fault.MetaFault.{MetaFault}
-use Rattle.arrow_meta_reader.specs.declared.fault.MetaFault.TheVariants.{Metadata, Version, Header, BodyLength, Unsupported}
+use Rattle.arrow_meta_tree.specs.declared.kinds.TableKind.{TableKind}
+use Rattle.arrow_meta_tree.specs.declared.kinds.TableKind.TheVariants as kinds
+use Rattle.arrow_meta_reader.specs.Versions.{number_of_version, metadata_version}
+use Rattle.arrow_meta_tree.specs.declared.fault.MetaFault.{MetaFault}
+use Rattle.arrow_meta_tree.specs.declared.fault.MetaFault.TheVariants.{Metadata, Version, Header, BodyLength, Unsupported}
 use Rattle.arrow_meta_reader.specs.declared.message.MetadataVersion.{MetadataVersion}
 use Rattle.arrow_meta_reader.specs.declared.message.MetadataVersion.TheVariants as versions
-use Rattle.arrow_meta_reader.specs.Conditions.{any, any_in, lacks_table, is_unsupported, is_misfit}
-use Rattle.arrow_meta_reader.specs.Conditions.{children_fit, entries_fit}
+use Rattle.arrow_meta_schema.specs.Conditions.{any, any_in, lacks_table, is_unsupported, is_misfit}
+use Rattle.arrow_meta_schema.specs.Conditions.{children_fit, entries_fit}
 use Rattle.arrow_meta_reader.specs.Faults.{body_of, fault_of, header_in, is_bad_length, is_unsupported_schema, version_in}
-use Rattle.arrow_meta_reader.specs.Types.{type_code}
+use Rattle.arrow_meta_tree.specs.Types.{type_code}
 use Rattle.arrow_meta_writer.specs.Layouts.{tag_code, first_pairs, first_below, first_rest}
 use Rattle.arrow_meta_reader.specs.Means.{PlainHeader, schema, dictionary, batch, PlainMessage}
-use Rattle.arrow_meta_reader.specs.Parts.{parts}
-use Rattle.arrow_meta_reader.specs.SchemaMeaning.{fields_from}
-use Rattle.arrow_meta_reader.specs.Trees.{table, Trees}
+use Rattle.arrow_meta_tree.specs.Parts.{parts}
+use Rattle.arrow_meta_schema.specs.SchemaMeaning.{fields_from}
+use Rattle.arrow_meta_tree.specs.Trees.{table, Trees}
 use Rattle.arrow_meta_writer.specs.Writable.{IsField, AreFields, IsHeader, leaves_header_out}
 use Rattle.arrow_meta_writer.specs.Written.{type_tree, encoding_tree, field_parts, field_trees}
 use Rattle.arrow_meta_writer.specs.Written.{header_tree, message_parts, pair_tree, pair_trees, metadata_tree}

@@ -4,7 +4,7 @@ use Rattle.std.proofs.lemmas.Bool.{or_parts}
 use Rattle.arrow_types.specs.DataType.{TypeId}
 use Rattle.arrow_types.specs.Field.{FieldTree, FieldHeader, more}
 use Rattle.arrow_types.specs.Schema.{is_flawed, some_flawed}
-use Rattle.arrow_types.specs.declared.schema.SchemaFault.{SchemaFault}
+use Rattle.arrow_types.specs.declared.fault.SchemaFault.{SchemaFault}
 
 -- a type with these child fields has no fault
 abbrev pub IsFlawless : TypeId → FieldTree → Type 0

@@ -13,17 +13,17 @@ use Rattle.arrow_flatbuf.specs.Placed.{SlotPlaced}
 use Rattle.arrow_flatbuf.specs.Table.{TableAt, table_at, field_place}
 use Rattle.arrow_flatbuf.specs.Text.{bytes_at, text_at}
 use Rattle.arrow_flatbuf.specs.Vector.{VectorAt, vector_at}
-use Rattle.arrow_meta_reader.specs.declared.kinds.TableKind.{TableKind}
-use Rattle.arrow_meta_reader.specs.declared.kinds.FieldForm.{FieldForm}
-use Rattle.arrow_meta_reader.specs.declared.kinds.FieldForm.TheVariants as forms
+use Rattle.arrow_meta_tree.specs.declared.kinds.TableKind.{TableKind}
+use Rattle.arrow_meta_tree.specs.declared.kinds.FieldForm.{FieldForm}
+use Rattle.arrow_meta_tree.specs.declared.kinds.FieldForm.TheVariants as forms
 use Rattle.arrow_meta_writer.specs.Aligned.{Leads, PlacedAligned, AllAligned}
-use Rattle.arrow_meta_reader.specs.Kinds.{Spot, spot, spots_of, opened, code_at}
-use Rattle.arrow_meta_reader.specs.Lies.{leaf_layer, table_layer, tables_layer, layer, elements}
-use Rattle.arrow_meta_reader.specs.Lies.{pairs_from, Placed, AllPlaced}
-use Rattle.arrow_meta_reader.specs.Trees as tree
-use Rattle.arrow_meta_reader.specs.Trees.{number, text, byte_string, pairs, Tree, leaf, table, tables, Trees, none}
-use Rattle.arrow_meta_reader.specs.Trees.{more}
-use Rattle.arrow_meta_reader.proofs.Layers.{layer_there}
+use Rattle.arrow_meta_tree.specs.Kinds.{Spot, spot, spots_of, opened, code_at}
+use Rattle.arrow_meta_tree.specs.Lies.{leaf_layer, table_layer, tables_layer, layer, elements}
+use Rattle.arrow_meta_tree.specs.Lies.{pairs_from, Placed, AllPlaced}
+use Rattle.arrow_meta_tree.specs.Trees as tree
+use Rattle.arrow_meta_tree.specs.Trees.{number, text, byte_string, pairs, Tree, leaf, table, tables, Trees, none}
+use Rattle.arrow_meta_tree.specs.Trees.{more}
+use Rattle.arrow_meta_tree.proofs.Layers.{layer_there}
 
 -- the table at position p
 abbrev pub at : List ℕ → ℕ → TableAt

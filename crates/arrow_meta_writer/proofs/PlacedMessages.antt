@@ -15,20 +15,20 @@ use Rattle.arrow_types.specs.Notes.{KeyValue, Notes, SchemaShape}
 use Rattle.arrow_types.specs.declared.data_type.BitWidth.{BitWidth}
 use Rattle.arrow_types.specs.declared.type_set.TypeSet.{TypeSet}
 use Rattle.arrow_types.specs.declared.field.Encoding.{Encoding}
-use Rattle.arrow_meta_reader.specs.declared.codes.TypeCode.TheVariants as codes
-use Rattle.arrow_meta_reader.specs.declared.kinds.TableKind.TheVariants as kinds
-use Rattle.arrow_meta_reader.specs.declared.kinds.FieldForm.TheVariants as forms
+use Rattle.arrow_meta_tree.specs.declared.codes.TypeCode.TheVariants as codes
+use Rattle.arrow_meta_tree.specs.declared.kinds.TableKind.TheVariants as kinds
+use Rattle.arrow_meta_tree.specs.declared.kinds.FieldForm.TheVariants as forms
 use Rattle.arrow_meta_writer.specs.Aligned.{PlacedAligned, AllAligned, LiesAligned}
-use Rattle.arrow_meta_reader.specs.Kinds.{spot, spots_of, code_at, header_table}
+use Rattle.arrow_meta_tree.specs.Kinds.{spot, spots_of, code_at, header_table}
 use Rattle.arrow_meta_writer.specs.Layouts.{tag_code, int_cells}
 use Rattle.arrow_meta_writer.specs.Layouts.{encoding_cells, with_encoding, field_cells, field_nodes}
 use Rattle.arrow_meta_writer.specs.Layouts.{schema_cells, node_pair, buffer_pair, batch_cells}
 use Rattle.arrow_meta_writer.specs.Layouts.{dictionary_cells, header_code, header_cells}
 use Rattle.arrow_meta_writer.specs.Layouts.{message_cells, message_node, pair_cells, pair_nodes, metadata_cells}
 use Rattle.arrow_meta_writer.specs.Layouts.{first_pairs, first_below, first_rest}
-use Rattle.arrow_meta_reader.specs.Lies.{elements}
+use Rattle.arrow_meta_tree.specs.Lies.{elements}
 use Rattle.arrow_meta_reader.specs.Means.{PlainBatch, PlainHeader, schema, dictionary, batch, PlainMessage}
-use Rattle.arrow_meta_reader.specs.Parts.{parts}
+use Rattle.arrow_meta_tree.specs.Parts.{parts}
 use Rattle.arrow_meta_writer.specs.Written.{int_parts, encoding_tree}
 use Rattle.arrow_meta_writer.specs.Written.{field_parts, field_trees, schema_parts, batch_parts}
 use Rattle.arrow_meta_writer.specs.Written.{dictionary_parts, header_tree, message_parts}

@@ -19,13 +19,13 @@ use Rattle.arrow_types.specs.declared.data_type.Precision.{Precision}
 use Rattle.arrow_types.specs.declared.data_type.Precision.TheVariants as precisions
 use Rattle.arrow_types.specs.declared.data_type.TimeUnit.{TimeUnit}
 use Rattle.arrow_types.specs.declared.data_type.TimeUnit.TheVariants as times
-use Rattle.arrow_types.specs.declared.schema.SchemaFault.TheVariants.{ByteWidth, DecimalRange}
+use Rattle.arrow_types.specs.declared.fault.SchemaFault.TheVariants.{ByteWidth, DecimalRange}
 use Rattle.arrow_types.specs.declared.type_set.TypeSet.TheVariants.{All}
-use Rattle.arrow_meta_reader.specs.Codes.{bit_width, date_unit, interval_unit, precision, time_unit}
-use Rattle.arrow_meta_reader.specs.Conditions.{any, is_misfit}
-use Rattle.arrow_meta_reader.specs.Parts.{parts}
-use Rattle.arrow_meta_reader.specs.SchemaMeaning.{tag_by}
-use Rattle.arrow_meta_reader.specs.Types.{is_time, type_code}
+use Rattle.arrow_meta_tree.specs.Codes.{bit_width, date_unit, interval_unit, precision, time_unit}
+use Rattle.arrow_meta_schema.specs.Conditions.{any, is_misfit}
+use Rattle.arrow_meta_tree.specs.Parts.{parts}
+use Rattle.arrow_meta_schema.specs.SchemaMeaning.{tag_by}
+use Rattle.arrow_meta_tree.specs.Types.{is_time, type_code}
 use Rattle.arrow_meta_writer.specs.Layouts.{flag, tag_code, int_cells, type_cells, date_number, interval_number, precision_number, time_number}
 use Rattle.arrow_meta_writer.specs.Writable.{HasTextZone}
 use Rattle.arrow_meta_writer.specs.Written.{type_tree}

@@ -16,17 +16,17 @@ use Rattle.arrow_types.specs.DataType.{TypeId}
 use Rattle.arrow_types.specs.TypeSet.{is_core, is_late, leaves_out}
 use Rattle.arrow_types.specs.declared.type_set.TypeSet.{TypeSet}
 use Rattle.arrow_types.specs.declared.type_set.TypeSet.TheVariants.{All}
-use Rattle.arrow_meta_reader.specs.declared.codes.TypeCode.{TypeCode}
-use Rattle.arrow_meta_reader.specs.declared.kinds.FieldForm.{FieldForm}
-use Rattle.arrow_meta_reader.specs.declared.kinds.FieldForm.TheVariants as forms
-use Rattle.arrow_meta_reader.specs.declared.kinds.TableKind.{TableKind}
-use Rattle.arrow_meta_reader.specs.declared.kinds.TableKind.TheVariants as kinds
-use Rattle.arrow_meta_reader.specs.Conditions.{any, any_in, lacks_table, is_unsupported}
-use Rattle.arrow_meta_reader.specs.Kinds.{forms_of, header_table, opened, opened_of, table_of, type_table, spot, spots_from, code_at}
-use Rattle.arrow_meta_reader.specs.Parts.{is_table}
-use Rattle.arrow_meta_reader.specs.Trees.{absent, number, Tree, leaf, Trees, none}
-use Rattle.arrow_meta_reader.specs.Types.{code_of, type_row, type_code, taken}
-use Rattle.arrow_meta_reader.specs.Within.{levels, levels_all, visits, visits_all, entries, entries_all, text_bytes, text_bytes_all, text_length}
+use Rattle.arrow_meta_tree.specs.declared.codes.TypeCode.{TypeCode}
+use Rattle.arrow_meta_tree.specs.declared.kinds.FieldForm.{FieldForm}
+use Rattle.arrow_meta_tree.specs.declared.kinds.FieldForm.TheVariants as forms
+use Rattle.arrow_meta_tree.specs.declared.kinds.TableKind.{TableKind}
+use Rattle.arrow_meta_tree.specs.declared.kinds.TableKind.TheVariants as kinds
+use Rattle.arrow_meta_schema.specs.Conditions.{any, any_in, lacks_table, is_unsupported}
+use Rattle.arrow_meta_tree.specs.Kinds.{forms_of, header_table, opened, opened_of, table_of, type_table, spot, spots_from, code_at}
+use Rattle.arrow_meta_tree.specs.Parts.{is_table}
+use Rattle.arrow_meta_tree.specs.Trees.{absent, number, Tree, leaf, Trees, none}
+use Rattle.arrow_meta_tree.specs.Types.{code_of, type_row, type_code, taken}
+use Rattle.arrow_meta_tree.specs.Within.{levels, levels_all, visits, visits_all, entries, entries_all, text_bytes, text_bytes_all, text_length}
 use Rattle.arrow_meta_writer.specs.Aligned.{PlacedAligned, AllAligned}
 use Rattle.arrow_meta_writer.specs.Layouts.{tag_code, type_cells}
 use Rattle.arrow_meta_writer.specs.Written.{cell_trees, node_leaf, laid_tree, type_tree}

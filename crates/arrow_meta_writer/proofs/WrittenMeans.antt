@@ -9,21 +9,21 @@ use Rattle.arrow_types.specs.Limits.{LimitNumbers}
 use Rattle.arrow_types.specs.declared.type_set.TypeSet.{TypeSet}
 use Rattle.arrow_meta_reader.specs.Faults.{fault_of}
 use Rattle.arrow_meta_writer.specs.Aligned.{LiesAligned}
-use Rattle.arrow_meta_reader.specs.Grows.{root}
+use Rattle.arrow_meta_tree.specs.Grows.{root}
 use Rattle.arrow_meta_reader.specs.Judges.{MetadataMeans, Decodes}
-use Rattle.arrow_meta_reader.specs.Parts.{parts}
-use Rattle.arrow_meta_reader.specs.declared.fault.MetaFault.{MetaFault}
-use Rattle.arrow_meta_reader.specs.declared.fault.MetaFault.TheVariants.{Metadata, Version, Header}
-use Rattle.arrow_meta_reader.specs.declared.fault.MetaFault.TheVariants.{BodyLength, Unsupported, Schema}
-use Rattle.arrow_meta_reader.specs.declared.fault.MetaFault.TheVariants.{Compressed, Memory}
+use Rattle.arrow_meta_tree.specs.Parts.{parts}
+use Rattle.arrow_meta_tree.specs.declared.fault.MetaFault.{MetaFault}
+use Rattle.arrow_meta_tree.specs.declared.fault.MetaFault.TheVariants.{Metadata, Version, Header}
+use Rattle.arrow_meta_tree.specs.declared.fault.MetaFault.TheVariants.{BodyLength, Unsupported, Schema}
+use Rattle.arrow_meta_tree.specs.declared.fault.MetaFault.TheVariants.{Compressed, Memory}
 use Rattle.arrow_meta_reader.specs.declared.message.Message.{Message}
 use Rattle.arrow_meta_reader.specs.declared.message.MetadataVersion.TheVariants as versions
 use Rattle.arrow_meta_writer.specs.Again.{IsAgain}
 use Rattle.arrow_meta_writer.specs.Layouts.{message_node}
-use Rattle.arrow_meta_reader.specs.Lies.{LiesAtRoot}
+use Rattle.arrow_meta_tree.specs.Lies.{LiesAtRoot}
 use Rattle.arrow_meta_reader.specs.Means.{PlainMessage, meaning_of, message_view}
 use Rattle.arrow_meta_writer.specs.Metadata.{metadata, metadata_size, is_sendable, is_written, size_of}
-use Rattle.arrow_meta_reader.specs.Within.{IsWithin}
+use Rattle.arrow_meta_tree.specs.Within.{IsWithin}
 use Rattle.arrow_meta_writer.specs.Writable.{IsHeader, Allows, leaves_header_out}
 use Rattle.arrow_meta_writer.specs.Written.{message_parts, message_tree}
 use Rattle.arrow_meta_writer.proofs.Again.{message_again}
@@ -33,7 +33,7 @@ use Rattle.arrow_meta_writer.proofs.Fitting.{message_fits}
 use Rattle.arrow_meta_writer.proofs.Sizing.{written_version}
 use Rattle.arrow_meta_reader.proofs.Least.{meaning_length}
 use Rattle.arrow_meta_reader.proofs.OneAnswer.{one_root, one_message, never_both}
-use Rattle.arrow_meta_reader.proofs.Roots.{root_lies}
+use Rattle.arrow_meta_tree.proofs.Roots.{root_lies}
 use Rattle.arrow_meta_writer.proofs.Placed.{placed}
 use Rattle.arrow_meta_writer.proofs.PlacedMessages.{message_placed}
 

@@ -3,13 +3,13 @@
 use Rattle.std.specs.Prelude.{◌≡◌, ℕ, ◌+◌, ◌%◌, List, [], ◌∷◌, length, Some}
 use Rattle.arrow_flatbuf.specs.Place.{number_at, target_at}
 use Rattle.arrow_types.specs.declared.type_set.TypeSet.{TypeSet}
-use Rattle.arrow_meta_reader.specs.declared.kinds.FieldForm.{FieldForm}
-use Rattle.arrow_meta_reader.specs.declared.kinds.FieldForm.TheVariants as forms
-use Rattle.arrow_meta_reader.specs.Grows.{root}
-use Rattle.arrow_meta_reader.specs.Kinds.{Spot}
-use Rattle.arrow_meta_reader.specs.Lies.{leaf_layer, table_layer, tables_layer, layer}
-use Rattle.arrow_meta_reader.specs.Trees.{Leaf, absent, number, text, byte_string, pairs, present, Tree, leaf, table}
-use Rattle.arrow_meta_reader.specs.Trees.{tables, Trees, none, more}
+use Rattle.arrow_meta_tree.specs.declared.kinds.FieldForm.{FieldForm}
+use Rattle.arrow_meta_tree.specs.declared.kinds.FieldForm.TheVariants as forms
+use Rattle.arrow_meta_tree.specs.Grows.{root}
+use Rattle.arrow_meta_tree.specs.Kinds.{Spot}
+use Rattle.arrow_meta_tree.specs.Lies.{leaf_layer, table_layer, tables_layer, layer}
+use Rattle.arrow_meta_tree.specs.Trees.{Leaf, absent, number, text, byte_string, pairs, present, Tree, leaf, table}
+use Rattle.arrow_meta_tree.specs.Trees.{tables, Trees, none, more}
 
 -- the number of bytes in a field of this form: those of a number, or of an offset
 abbrev pub form_size : FieldForm → ℕ

@@ -22,8 +22,9 @@ use Rattle.arrow_types.specs.declared.data_type.TimeUnit.TheVariants as times
 use Rattle.arrow_types.specs.declared.field.Encoding.{Encoding}
 use Rattle.arrow_types.specs.declared.node.FieldNode.{FieldNode}
 use Rattle.arrow_types.specs.declared.node.Buffer.{Buffer}
-use Rattle.arrow_meta_reader.specs.Codes.{number_of_version, schema_code, dictionary_code, batch_code}
-use Rattle.arrow_meta_reader.specs.Types.{code_of, type_row}
+use Rattle.arrow_meta_tree.specs.Codes.{schema_code, dictionary_code, batch_code}
+use Rattle.arrow_meta_reader.specs.Versions.{number_of_version}
+use Rattle.arrow_meta_tree.specs.Types.{code_of, type_row}
 use Rattle.arrow_meta_reader.specs.Means.{PlainBatch, PlainHeader, schema, dictionary, batch, PlainMessage}
 
 -- a truth value as a byte

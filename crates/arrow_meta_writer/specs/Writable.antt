@@ -14,11 +14,11 @@ use Rattle.arrow_types.specs.declared.type_set.TypeSet.{TypeSet}
 use Rattle.arrow_types.specs.declared.field.Encoding.{Encoding}
 use Rattle.arrow_types.specs.declared.node.FieldNode.{FieldNode}
 use Rattle.arrow_types.specs.declared.node.Buffer.{Buffer}
-use Rattle.arrow_meta_reader.specs.Types.{type_code}
-use Rattle.arrow_meta_reader.specs.Conditions.{children_fit}
+use Rattle.arrow_meta_tree.specs.Types.{type_code}
+use Rattle.arrow_meta_schema.specs.Conditions.{children_fit}
 use Rattle.arrow_meta_writer.specs.Layouts.{tag_code}
 use Rattle.arrow_meta_reader.specs.Means.{PlainBatch, PlainHeader, schema, dictionary, batch, PlainMessage}
-use Rattle.arrow_meta_reader.specs.Within.{text_bytes}
+use Rattle.arrow_meta_tree.specs.Within.{text_bytes}
 use Rattle.arrow_meta_writer.specs.Written.{message_tree}
 
 -- a number that fits into 64 bits with a sign

@@ -10,17 +10,17 @@ use Rattle.arrow_types.specs.Notes.{KeyValue, Notes, SchemaShape}
 use Rattle.arrow_types.specs.declared.type_set.TypeSet.{TypeSet}
 use Rattle.arrow_types.specs.declared.data_type.BitWidth.{BitWidth}
 use Rattle.arrow_types.specs.declared.field.Encoding.{Encoding}
-use Rattle.arrow_meta_reader.specs.Codes.{number_of_version}
-use Rattle.arrow_meta_reader.specs.declared.codes.TypeCode.TheVariants as codes
-use Rattle.arrow_meta_reader.specs.declared.kinds.FieldForm.{FieldForm}
-use Rattle.arrow_meta_reader.specs.declared.kinds.TableKind.{TableKind}
-use Rattle.arrow_meta_reader.specs.declared.kinds.TableKind.TheVariants as kinds
-use Rattle.arrow_meta_reader.specs.Kinds.{forms_of, type_table}
+use Rattle.arrow_meta_reader.specs.Versions.{number_of_version}
+use Rattle.arrow_meta_tree.specs.declared.codes.TypeCode.TheVariants as codes
+use Rattle.arrow_meta_tree.specs.declared.kinds.FieldForm.{FieldForm}
+use Rattle.arrow_meta_tree.specs.declared.kinds.TableKind.{TableKind}
+use Rattle.arrow_meta_tree.specs.declared.kinds.TableKind.TheVariants as kinds
+use Rattle.arrow_meta_tree.specs.Kinds.{forms_of, type_table}
 use Rattle.arrow_meta_writer.specs.Layouts.{flag, tag_code, type_cells, node_pair}
 use Rattle.arrow_meta_writer.specs.Layouts.{buffer_pair, header_code, first_pairs, first_below, first_rest}
 use Rattle.arrow_meta_reader.specs.Means.{PlainBatch, PlainHeader, schema, dictionary, batch, PlainMessage}
-use Rattle.arrow_meta_reader.specs.Trees.{absent, number, text, byte_string, pairs, Leaf, Tree, leaf, table, tables, Trees}
-use Rattle.arrow_meta_reader.specs.Trees.{none, more}
+use Rattle.arrow_meta_tree.specs.Trees.{absent, number, text, byte_string, pairs, Leaf, Tree, leaf, table, tables, Trees}
+use Rattle.arrow_meta_tree.specs.Trees.{none, more}
 
 -- a field that holds a number
 abbrev pub of_number : ℕ → Tree

@@ -12,8 +12,8 @@ ghost use Rattle.arrow_meta_writer.specs.Layouts.{buffer_pair};
 ghost use Rattle.arrow_meta_writer.specs.Writable.{IsLong, AreNodes, AreBuffers, IsBatch};
 
 use crate::sizes::pairs_end;
-use crate::table_slots::{batch_table, dictionary_table};
-use crate::tables::{RECORD_BATCH_FIELDS, batch_table_end, dictionary_table_end};
+use crate::table_slots::{RECORD_BATCH_FIELDS, batch_table, dictionary_table};
+use crate::tables::{batch_table_end, dictionary_table_end};
 use crate::types::bit;
 use arrow_flatbuf::{FieldValue, TableWriter, Width, aligned, table_place};
 use arrow_meta_reader::RecordBatch;

@@ -7,8 +7,8 @@ ghost use Rattle.arrow_meta_writer.specs.Appends.{laid_encoding};
 ghost use Rattle.arrow_meta_writer.specs.Layouts.{encoding_cells};
 ghost use Rattle.arrow_meta_writer.specs.Writable.{IsLong, HasLongId};
 
-use crate::table_slots::encoding_table;
-use crate::tables::{DICTIONARY_ENCODING_FIELDS, INT_FIELDS, encoding_table_end};
+use crate::table_slots::{DICTIONARY_ENCODING_FIELDS, INT_FIELDS, encoding_table};
+use crate::tables::encoding_table_end;
 use crate::types::{bit, write_int};
 use arrow_flatbuf::{FieldValue, TableWriter, table_place};
 use arrow_types::Encoding;

@@ -15,9 +15,9 @@ ghost use Rattle.arrow_types.specs.View.{field_notes, field_view, fields_view, n
 
 use crate::encodings::{encoding_slot, write_encoding};
 use crate::metadata::{metadata_end, metadata_fields, write_metadata};
-use crate::sizes::{encoding_end, field_head_end, fields_end, offsets_end};
-use crate::table_slots::schema_table;
-use crate::tables::{FIELD_FIELDS, SCHEMA_FIELDS, field_table_end, schema_table_end, text_after};
+use crate::sizes::{encoding_end, field_head_end, fields_end};
+use crate::table_slots::{FIELD_FIELDS, SCHEMA_FIELDS, schema_table};
+use crate::tables::{field_table_end, offsets_end, schema_table_end, text_after};
 use crate::types::{bit, type_code, type_end, type_fields, write_type};
 use arrow_flatbuf::{FieldValue, TableWriter, Width, aligned, table_place};
 use arrow_types::{Field, Schema};

@@ -3,14 +3,14 @@
 //! Each is the contract of a function that does nothing. In a law a number is any number.
 ghost use Rattle.std.specs.Prelude.{◌≡◌, ◌≤◌, ◌↔◌, ◌++◌, ℕ, List, length, Some, Result};
 ghost use Rattle.arrow_flatbuf.specs.Nodes.{NodePlaced, start};
-ghost use Rattle.arrow_meta_reader.specs.declared.fault.MetaFault.{MetaFault};
+ghost use Rattle.arrow_meta_tree.specs.declared.fault.MetaFault.{MetaFault};
 ghost use Rattle.arrow_meta_reader.specs.declared.message.Message.{Message};
 ghost use Rattle.arrow_meta_reader.specs.Judges.{MetadataMeans, Decodes};
-ghost use Rattle.arrow_meta_reader.specs.Kinds.{Spot};
-ghost use Rattle.arrow_meta_reader.specs.Lies.{LiesAtRoot, Placed};
+ghost use Rattle.arrow_meta_tree.specs.Kinds.{Spot};
+ghost use Rattle.arrow_meta_tree.specs.Lies.{LiesAtRoot, Placed};
 ghost use Rattle.arrow_meta_reader.specs.Means.{PlainMessage};
-ghost use Rattle.arrow_meta_reader.specs.Trees.{Tree};
-ghost use Rattle.arrow_meta_reader.specs.Within.{text_bytes};
+ghost use Rattle.arrow_meta_tree.specs.Trees.{Tree};
+ghost use Rattle.arrow_meta_tree.specs.Within.{text_bytes};
 ghost use Rattle.arrow_meta_writer.specs.Again.{IsAgain};
 ghost use Rattle.arrow_meta_writer.specs.Aligned.{PlacedAligned, LiesAligned};
 ghost use Rattle.arrow_meta_writer.specs.Layouts.{message_node};

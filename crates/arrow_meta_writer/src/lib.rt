@@ -19,7 +19,7 @@
 //! | the result of a reader of the bytes | `specs/Again.antt`: `IsAgain` |
 //!
 //! The first two are separate functions of the message: one is what is written, in the terms of
-//! `arrow_flatbuf`, the other is what a reader finds, in the terms of `arrow_meta_reader`. That the
+//! `arrow_flatbuf`, the other is what a reader finds, in the terms of `arrow_meta_tree`. That the
 //! two match is a theorem, so neither is trusted to fit. The laws of [`laws`] state it for the
 //! bytes alone, with any bytes after them: so more zero bytes may be appended for a larger
 //! alignment.

@@ -11,9 +11,8 @@ ghost use Rattle.arrow_meta_writer.specs.Capped.{capped};
 ghost use Rattle.arrow_meta_writer.specs.Layouts.{metadata_cells, pair_cells, pair_nodes};
 ghost use Rattle.arrow_types.specs.Notes.{pair_view, pairs_view};
 
-use crate::sizes::offsets_end;
-use crate::table_slots::pair_table;
-use crate::tables::{KEY_VALUE_FIELDS, bytes_after, pair_table_end};
+use crate::table_slots::{KEY_VALUE_FIELDS, pair_table};
+use crate::tables::{bytes_after, offsets_end, pair_table_end};
 use arrow_flatbuf::{FieldValue, TableWriter, Width, aligned, table_place};
 use std::alloc::AllocError;
 

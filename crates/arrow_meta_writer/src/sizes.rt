@@ -5,7 +5,7 @@
 //! (`specs/Layouts.antt`). Positions over the greatest size of metadata are all counted as that
 //! size plus one, so no sum wraps, however long names are, and no function returns an error.
 ghost use Rattle.std.specs.Prelude.{◌≡◌, ◌≤◌, ◌+◌, ◌*◌};
-ghost use Rattle.arrow_flatbuf.specs.Layout.{gap, up};
+ghost use Rattle.arrow_flatbuf.specs.Layout.{gap};
 ghost use Rattle.arrow_flatbuf.specs.Nodes.{Nodes, after, after_cells, offset, table, tables, count};
 ghost use Rattle.arrow_meta_reader.specs.Means.{batch_view, header_view, message_view};
 ghost use Rattle.arrow_meta_writer.specs.Appends.{after_encoding};
@@ -18,7 +18,7 @@ ghost use Rattle.arrow_types.specs.View.{field_notes, field_view, fields_view, n
 use crate::metadata::{metadata_end, metadata_fields};
 use crate::tables::{
     START, TOP, batch_table_end, capped, dictionary_table_end, encoding_table_end, field_table_end,
-    message_table_end, schema_table_end, text_after,
+    message_table_end, offsets_end, schema_table_end, text_after,
 };
 use crate::types::{int_end, type_end};
 use arrow_flatbuf::{Width, aligned};
@@ -111,15 +111,6 @@ pub(crate) fn fields_end(place: usize, fields: &[Field]) -> usize
         end = metadata_end(below, &field.metadata);
     }
     end
-}
-
-/// The first position after the offsets of a vector of `count` tables.
-pub(crate) fn offsets_end(place: usize, count: usize) -> usize
-    requires { place ≤ 1073741825 }
-    ensures end { result ≡ capped (up 4 place + 4 + 4 * count) }
-    ensures near { result ≤ 1073741825 }
-{
-    capped(aligned(place, Width::Four) + 4 + 4 * count.min(TOP))
 }
 
 /// The first position after a field's table, its name, its type and its encoding: its children are

@@ -3,11 +3,31 @@
 //! fields.
 ghost use Rattle.std.specs.Prelude.{◌≡◌, ◌∷◌, []};
 
-use crate::tables::{
-    DICTIONARY_BATCH_FIELDS, DICTIONARY_ENCODING_FIELDS, KEY_VALUE_FIELDS, MESSAGE_FIELDS,
-    RECORD_BATCH_FIELDS,
-};
 use arrow_flatbuf::{FieldValue, Width};
+
+/// The number of fields of a Message table.
+pub(crate) const MESSAGE_FIELDS: usize = 4;
+
+/// The number of fields of a Schema table before its metadata.
+pub(crate) const SCHEMA_FIELDS: usize = 2;
+
+/// The number of fields of a Field table before its metadata.
+pub(crate) const FIELD_FIELDS: usize = 6;
+
+/// The number of fields of a KeyValue table.
+pub(crate) const KEY_VALUE_FIELDS: usize = 2;
+
+/// The number of fields of a DictionaryEncoding table.
+pub(crate) const DICTIONARY_ENCODING_FIELDS: usize = 4;
+
+/// The number of fields of an Int table.
+pub(crate) const INT_FIELDS: usize = 2;
+
+/// The number of fields of a RecordBatch table: it is not compressed.
+pub(crate) const RECORD_BATCH_FIELDS: usize = 3;
+
+/// The number of fields of a DictionaryBatch table.
+pub(crate) const DICTIONARY_BATCH_FIELDS: usize = 3;
 
 /// The endianness that is written (`Schema.fbs`, enum `Endianness`).
 const LITTLE: u64 = 0;

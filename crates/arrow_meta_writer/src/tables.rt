@@ -4,8 +4,8 @@
 //! Positions are those of `sizes`: in bytes, with all above the greatest size counted as the same.
 //! Each list here has the widths of a table's fields by number; the numbers and the positions in
 //! them do not matter.
-ghost use Rattle.std.specs.Prelude.{◌≡◌, ◌≤◌, ℤ, Bool, List, length, is_some};
-ghost use Rattle.arrow_flatbuf.specs.Layout.{table_end};
+ghost use Rattle.std.specs.Prelude.{◌≡◌, ◌≤◌, ◌+◌, ◌*◌, ℤ, Bool, List, length, is_some};
+ghost use Rattle.arrow_flatbuf.specs.Layout.{table_end, up};
 ghost use Rattle.arrow_flatbuf.specs.Nodes.{Nodes, after, cells_place, text as text_node, byte_string};
 ghost use Rattle.arrow_meta_reader.specs.Means.{PlainBatch, PlainMessage};
 ghost use Rattle.arrow_meta_writer.specs.Capped.{capped};
@@ -18,39 +18,16 @@ ghost use Rattle.arrow_types.specs.Notes.{KeyValue, SchemaShape};
 ghost use Rattle.arrow_types.specs.declared.field.Encoding.{Encoding};
 
 use crate::table_slots::{
-    batch_table, dictionary_table, encoding_table, message_table, pair_table, schema_table,
+    FIELD_FIELDS, SCHEMA_FIELDS, batch_table, dictionary_table, encoding_table, message_table,
+    pair_table, schema_table,
 };
-use arrow_flatbuf::{FieldValue, Width, bytes_end, table_end, text_end};
+use arrow_flatbuf::{FieldValue, Width, aligned, bytes_end, table_end, text_end};
 
 /// One more than the greatest number of bytes that metadata have.
 pub(crate) const TOP: usize = 1_073_741_825;
 
 /// The first position after the offset to the root's table, from which a message is laid out.
 pub(crate) const START: usize = 4;
-
-/// The number of fields of a Message table.
-pub(crate) const MESSAGE_FIELDS: usize = 4;
-
-/// The number of fields of a Schema table before its metadata.
-pub(crate) const SCHEMA_FIELDS: usize = 2;
-
-/// The number of fields of a Field table before its metadata.
-pub(crate) const FIELD_FIELDS: usize = 6;
-
-/// The number of fields of a KeyValue table.
-pub(crate) const KEY_VALUE_FIELDS: usize = 2;
-
-/// The number of fields of a DictionaryEncoding table.
-pub(crate) const DICTIONARY_ENCODING_FIELDS: usize = 4;
-
-/// The number of fields of an Int table.
-pub(crate) const INT_FIELDS: usize = 2;
-
-/// The number of fields of a RecordBatch table: it is not compressed.
-pub(crate) const RECORD_BATCH_FIELDS: usize = 3;
-
-/// The number of fields of a DictionaryBatch table.
-pub(crate) const DICTIONARY_BATCH_FIELDS: usize = 3;
 
 /// The first position after a message's table.
 pub(crate) fn message_table_end(place: usize) -> usize
@@ -140,6 +117,15 @@ pub(crate) fn table_after(place: usize, slots: &[FieldValue]) -> usize
     ensures near { result ≤ 1073741825 }
 {
     capped(table_end(place, slots))
+}
+
+/// The first position after the offsets of a vector of `count` tables.
+pub(crate) fn offsets_end(place: usize, count: usize) -> usize
+    requires { place ≤ 1073741825 }
+    ensures end { result ≡ capped (up 4 place + 4 + 4 * count) }
+    ensures near { result ≤ 1073741825 }
+{
+    capped(aligned(place, Width::Four) + 4 + 4 * count.min(TOP))
 }
 
 /// The first position after a text.

@@ -7,7 +7,7 @@
 //! belongs to it. The only error is `AllocError`, if an allocation failed.
 ghost use Rattle.std.specs.Prelude.{◌≡◌, ◌≤◌, ◌<◌, ◌↔◌, length, Some, IsSome, OnOk, IfOk};
 ghost use Rattle.arrow_flatbuf.specs.Nodes.{after, cells_place, slots, count, table as table_node};
-ghost use Rattle.arrow_meta_reader.specs.Codes.{number_of_version};
+ghost use Rattle.arrow_meta_reader.specs.Versions.{number_of_version};
 ghost use Rattle.arrow_meta_reader.specs.Judges.{MetadataMeans};
 ghost use Rattle.arrow_meta_reader.specs.Means.{header_view, message_view};
 ghost use Rattle.arrow_meta_writer.specs.Aligned.{LiesAligned};
@@ -23,11 +23,10 @@ use crate::batches::{write_batch, write_dictionary};
 use crate::fields::write_schema;
 use crate::metadata::metadata_fields;
 use crate::sizes::encoded_size;
-use crate::table_slots::message_table;
-use crate::tables::{
-    DICTIONARY_BATCH_FIELDS, MESSAGE_FIELDS, RECORD_BATCH_FIELDS, SCHEMA_FIELDS, START,
-    message_table_end,
+use crate::table_slots::{
+    DICTIONARY_BATCH_FIELDS, MESSAGE_FIELDS, RECORD_BATCH_FIELDS, SCHEMA_FIELDS, message_table,
 };
+use crate::tables::{START, message_table_end};
 use arrow_flatbuf::{FieldValue, TableWriter, Width, table_place};
 use arrow_meta_reader::{Header, Message, MetadataVersion};
 use std::alloc::{AllocError, Global};

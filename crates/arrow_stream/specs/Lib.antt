@@ -1,40 +1,4 @@
-pub use Rattle.arrow_sink.specs.Sinks
-pub use Rattle.arrow_sink.specs.Answers
-pub use Rattle.arrow_sink.specs.Refusals
-pub use Rattle.arrow_stream_reader.specs.Kind
-pub use Rattle.arrow_stream_reader.specs.State
-pub use Rattle.arrow_stream_reader.specs.Message
-pub use Rattle.arrow_stream_reader.specs.Meaning
-pub use Rattle.arrow_stream_reader.specs.Batch
-pub use Rattle.arrow_stream_reader.specs.Frame
-pub use Rattle.arrow_stream_reader.specs.Front
-pub use Rattle.arrow_stream_reader.specs.Laws
-pub use Rattle.arrow_stream_reader.specs.Held
-pub use Rattle.arrow_stream_reader.specs.Views
-pub use Rattle.arrow_stream_reader.specs.Decoder
-pub use Rattle.arrow_stream_reader.specs.Stream
-pub use Rattle.arrow_stream_reader.specs.Stored
-pub use Rattle.arrow_stream_reader.specs.Inside
-pub use Rattle.arrow_stream_reader.specs.Tables
-pub use Rattle.arrow_stream_laws.specs.Sizes
-pub use Rattle.arrow_stream_laws.specs.Rows
-pub use Rattle.arrow_stream_laws.specs.Built
-pub use Rattle.arrow_stream_laws.specs.Plan
-pub use Rattle.arrow_stream_laws.specs.Frames
-pub use Rattle.arrow_stream_laws.specs.Admission
-pub use Rattle.arrow_stream_laws.specs.Text
-pub use Rattle.arrow_stream_laws.specs.Sent
-pub use Rattle.arrow_stream_laws.specs.Laws as SentLaws
-pub use Rattle.arrow_stream_laws.specs.Writer
-pub use Rattle.arrow_stream_laws.specs.Snapshot
-pub use Rattle.arrow_stream_writer.specs.Frame as FrameWriting
-pub use Rattle.arrow_stream_writer.specs.Sizes as FrameSizes
-pub use Rattle.arrow_stream_writer.specs.Lists
-pub use Rattle.arrow_stream_writer.specs.Terms
-pub use Rattle.arrow_stream_writer.specs.Framing
-pub use Rattle.arrow_stream_writer.specs.Updating
-pub use Rattle.arrow_stream_writer.specs.Parts
-pub use Rattle.arrow_stream_writer.specs.Marker
-pub use Rattle.arrow_stream_writer.specs.Taking
-pub use Rattle.arrow_stream_writer.specs.Shown
-pub use Rattle.arrow_stream_writer.specs.Delivery
+pub use Rattle.arrow_sink.specs as Sink
+pub use Rattle.arrow_stream_reader.specs as Reader
+pub use Rattle.arrow_stream_laws.specs as Laws
+pub use Rattle.arrow_stream_writer.specs as Writer

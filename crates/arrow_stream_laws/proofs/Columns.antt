@@ -7,11 +7,11 @@ use Rattle.arrow_types.specs.declared.field.Encoding.{Encoding}
 use Rattle.arrow_types.specs.declared.node.FieldNode.{FieldNode}
 use Rattle.arrow_types.specs.declared.node.Buffer.{Buffer}
 use Rattle.arrow_data.specs.Column.{Column, ValueList, AreOf, Agree, IsColumn, listed_of}
-use Rattle.arrow_data.specs.Form.{form_of}
+use Rattle.arrow_layout.specs.Form.{form_of}
 use Rattle.arrow_data.specs.Parts.{node_column, value_slot, values_in}
-use Rattle.arrow_data.specs.PlainValue.{PlainValue, PlainValues, null_value, bool_value, int_value, binary_value, utf8_value, list_value, struct_value, no_values, more_values}
-use Rattle.arrow_data.specs.Resolve.{resolve, resolve_items, resolve_parts, entry_of, before}
-use Rattle.arrow_data.specs.Slots.{slots}
+use Rattle.arrow_layout.specs.PlainValue.{PlainValue, PlainValues, null_value, bool_value, int_value, binary_value, utf8_value, list_value, struct_value, no_values, more_values}
+use Rattle.arrow_layout.specs.Resolve.{resolve, resolve_items, resolve_parts, entry_of, before}
+use Rattle.arrow_layout.specs.Slots.{slots}
 use Rattle.arrow_data.specs.Listed.{ResolvesBy, dictionary_for, values_by}
 use Rattle.arrow_body_reader.specs.Sound.{columns_of, if_flattened, own_bytes, slots_at}
 use Rattle.arrow_body_reader.specs.Taken.{flattened, own_buffers, taken_buffers, taken_nodes}

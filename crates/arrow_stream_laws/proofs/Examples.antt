@@ -16,8 +16,8 @@ use Rattle.arrow_types.specs.declared.data_type.BitWidth.TheVariants.{ThirtyTwo}
 use Rattle.arrow_types.specs.declared.field.Encoding.{Encoding}
 use Rattle.arrow_data.specs.Batch.{Table}
 use Rattle.arrow_data.specs.Column.{Column, ValueList}
-use Rattle.arrow_data.specs.PlainValue.{PlainValue, int_value, utf8_value}
-use Rattle.arrow_data.specs.Stored.{value_code}
+use Rattle.arrow_layout.specs.PlainValue.{PlainValue, int_value, utf8_value}
+use Rattle.arrow_layout.specs.Stored.{value_code}
 use Rattle.arrow_dict.specs.Choice.{choice, growth, same_list}
 use Rattle.arrow_dict.specs.declared.update.Update.TheVariants as updates
 use Rattle.arrow_dict.specs.declared.update.Updates.{Updates}

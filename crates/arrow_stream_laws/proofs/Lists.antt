@@ -16,8 +16,8 @@ use Rattle.arrow_data.specs.Batch.{Table}
 use Rattle.arrow_data.specs.Column.{ValueList}
 use Rattle.arrow_data.specs.Listed.{listed, values_by}
 use Rattle.arrow_data.specs.Parts.{values_in}
-use Rattle.arrow_data.specs.PlainValue.{PlainValue}
-use Rattle.arrow_data.specs.Stored.{value_code}
+use Rattle.arrow_layout.specs.PlainValue.{PlainValue}
+use Rattle.arrow_layout.specs.Stored.{value_code}
 use Rattle.arrow_dict.specs.ValueTypes.{value_type_of}
 use Rattle.arrow_dict.proofs.Placing.{listed_here, listed_elsewhere}
 use Rattle.arrow_stream_reader.specs.Batch.{base_of}

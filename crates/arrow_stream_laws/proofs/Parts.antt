@@ -18,10 +18,10 @@ use Rattle.arrow_types.specs.declared.node.FieldNode.{FieldNode}
 use Rattle.arrow_types.specs.declared.node.Buffer.{Buffer}
 use Rattle.arrow_data.specs.Batch.{Table}
 use Rattle.arrow_data.specs.Column.{ValueList, Agree, listed_of}
-use Rattle.arrow_data.specs.Layout.{IsIndexed}
+use Rattle.arrow_layout.specs.Layout.{IsIndexed}
 use Rattle.arrow_data.specs.Listed.{listed, dictionary_for}
-use Rattle.arrow_data.specs.PlainValue.{PlainValue}
-use Rattle.arrow_data.specs.Stored.{value_code}
+use Rattle.arrow_layout.specs.PlainValue.{PlainValue}
+use Rattle.arrow_layout.specs.Stored.{value_code}
 use Rattle.arrow_body_reader.specs.Held.{count_of}
 use Rattle.arrow_body_reader.specs.Sound.{AreIndexed, columns_of, own_bytes, slots_at}
 use Rattle.arrow_body_reader.specs.Taken.{IfFlattened, flattened, own_buffers, taken_buffers, taken_nodes}

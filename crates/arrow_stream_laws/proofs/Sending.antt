@@ -7,7 +7,7 @@ use Rattle.arrow_types.specs.Limits.{LimitNumbers}
 use Rattle.arrow_types.specs.Notes.{SchemaShape}
 use Rattle.arrow_data.specs.Batch.{Table}
 use Rattle.arrow_data.specs.Column.{ValueList}
-use Rattle.arrow_data.specs.PlainValue.{PlainValue}
+use Rattle.arrow_layout.specs.PlainValue.{PlainValue}
 use Rattle.arrow_body_laws.specs.Stored.{stored}
 use Rattle.arrow_meta_reader.specs.Means.{PlainBatch, dictionary, batch}
 use Rattle.arrow_stream_reader.specs.State.{nothing_yet}

@@ -10,7 +10,7 @@ use Rattle.arrow_types.specs.Stored.{schema_code}
 use Rattle.arrow_types.specs.TypeSet.{leaves_some_out}
 use Rattle.arrow_data.specs.Batch.{Table}
 use Rattle.arrow_data.specs.Column.{ValueList}
-use Rattle.arrow_data.specs.PlainValue.{PlainValue}
+use Rattle.arrow_layout.specs.PlainValue.{PlainValue}
 use Rattle.arrow_dict.specs.ValueTypes.{value_type_of}
 use Rattle.arrow_stream_reader.specs.Batch.{field_of_type}
 use Rattle.arrow_sink.specs.declared.write_fault.WriteFault.{WriteFault}

@@ -2,7 +2,7 @@
 use Rattle.std.specs.Prelude.{◌≡◌, ℕ, pos, List, map}
 use Rattle.arrow_types.specs.Field.{FieldTree}
 use Rattle.arrow_types.specs.declared.node.FieldNode.{FieldNode}
-use Rattle.arrow_data.specs.PlainValue.{PlainValue}
+use Rattle.arrow_layout.specs.PlainValue.{PlainValue}
 use Rattle.arrow_body_laws.specs.Laws.{IsBodyOf}
 use Rattle.arrow_body_laws.specs.Stored.{PlainBody, stored}
 use Rattle.arrow_body_laws.specs.Canonical.{IsCanonical}

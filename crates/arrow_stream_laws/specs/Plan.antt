@@ -8,7 +8,7 @@ use Rattle.arrow_types.specs.Schema.{dictionary_fields, dictionary_ids}
 use Rattle.arrow_data.specs.Batch.{Table}
 use Rattle.arrow_data.specs.Column.{ValueList}
 use Rattle.arrow_data.specs.Listed.{listed}
-use Rattle.arrow_data.specs.PlainValue.{PlainValue}
+use Rattle.arrow_layout.specs.PlainValue.{PlainValue}
 use Rattle.arrow_dict.specs.Choice.{choice}
 use Rattle.arrow_dict.specs.Dictionaries.{placed}
 use Rattle.arrow_dict.specs.ValueTypes.{value_type_of}

@@ -5,7 +5,7 @@ use Rattle.arrow_types.specs.Notes.{SchemaShape}
 use Rattle.arrow_data.specs.Batch.{Table, IsTable}
 use Rattle.arrow_data.specs.Column.{Column, ValueList, IsColumn, listed_of}
 use Rattle.arrow_data.specs.Listed.{values_by}
-use Rattle.arrow_data.specs.PlainValue.{PlainValue}
+use Rattle.arrow_layout.specs.PlainValue.{PlainValue}
 use Rattle.arrow_body_laws.specs.Laws.{raws_of}
 use Rattle.arrow_dict.specs.Choice.{same_list}
 

@@ -8,14 +8,14 @@ use Rattle.arrow_types.specs.Limits.{LimitNumbers}
 use Rattle.arrow_types.specs.Field.{FieldTree}
 use Rattle.arrow_data.specs.Column.{Column, ValueList}
 use Rattle.arrow_body_reader.specs.Sound.{AreIndexed, AreText}
-use Rattle.arrow_meta_reader.specs.Conditions.{any_in, lacks_table}
+use Rattle.arrow_meta_schema.specs.Conditions.{any_in, lacks_table}
 use Rattle.arrow_meta_reader.specs.Faults.{least, header_conditions, fault_of, version_in, header_in, header_of, body_of, is_bad_length}
-use Rattle.arrow_meta_reader.specs.Judges.{IsTreeOf}
+use Rattle.arrow_meta_tree.specs.Costs.{IsTreeOf}
 use Rattle.arrow_meta_reader.specs.Means.{PlainBatch, PlainHeader, schema, dictionary, batch, PlainMessage, meaning_of, message_by}
-use Rattle.arrow_meta_reader.specs.Parts.{parts}
-use Rattle.arrow_meta_reader.specs.Trees.{Tree, Trees}
-use Rattle.arrow_meta_reader.specs.declared.fault.MetaFault.{MetaFault}
-use Rattle.arrow_meta_reader.specs.declared.fault.MetaFault.TheVariants as faults
+use Rattle.arrow_meta_tree.specs.Parts.{parts}
+use Rattle.arrow_meta_tree.specs.Trees.{Tree, Trees}
+use Rattle.arrow_meta_tree.specs.declared.fault.MetaFault.{MetaFault}
+use Rattle.arrow_meta_tree.specs.declared.fault.MetaFault.TheVariants as faults
 use Rattle.arrow_stream_reader.specs.declared.kind.Rejection.{Rejection}
 use Rattle.arrow_stream_reader.specs.declared.prefix.Prefix.{Prefix}
 use Rattle.arrow_stream_reader.specs.declared.prefix.Prefix.TheVariants as prefixes

@@ -4,7 +4,7 @@ use Rattle.std.specs.Prelude.{is_some, not}
 use Rattle.std.proofs.lemmas.Bool.{ltb-false}
 use Rattle.std.proofs.lemmas.List.{append_assoc, take_all}
 use Rattle.arrow_types.specs.Limits.{LimitNumbers}
-use Rattle.arrow_meta_reader.specs.declared.fault.MetaFault.{MetaFault}
+use Rattle.arrow_meta_tree.specs.declared.fault.MetaFault.{MetaFault}
 use Rattle.arrow_stream_reader.specs.declared.kind.Rejection.{Rejection}
 use Rattle.arrow_stream_reader.specs.declared.kind.Rejection.TheVariants.{Continuation, MetadataSize, BodyLength, Order, NoSchema}
 use Rattle.arrow_stream_reader.specs.declared.prefix.Prefix.{Prefix}

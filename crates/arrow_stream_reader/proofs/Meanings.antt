@@ -2,8 +2,8 @@
 use Rattle.std.proofs.Common.{◌≡◌, ℕ, ◌≤◌, List, ◌+◌, length, refl, sym, ap, ◌∙◌, subst, arith, inl, inr, Result, MatchResult, Ok, Err}
 use Rattle.std.specs.Prelude.{is_some}
 use Rattle.arrow_types.specs.Limits.{LimitNumbers}
-use Rattle.arrow_meta_reader.specs.declared.fault.MetaFault.{MetaFault}
-use Rattle.arrow_meta_reader.specs.declared.fault.MetaFault.TheVariants as faults
+use Rattle.arrow_meta_tree.specs.declared.fault.MetaFault.{MetaFault}
+use Rattle.arrow_meta_tree.specs.declared.fault.MetaFault.TheVariants as faults
 use Rattle.arrow_meta_reader.specs.Judges.{Decodes, MetadataMeans}
 use Rattle.arrow_meta_reader.specs.declared.message.Message.{Message as Judged}
 use Rattle.arrow_meta_reader.specs.Means.{PlainMessage, message_view}

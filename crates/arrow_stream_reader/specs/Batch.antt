@@ -8,7 +8,7 @@ use Rattle.arrow_types.specs.Schema.{dictionary_fields}
 use Rattle.arrow_types.specs.declared.node.FieldNode.{FieldNode}
 use Rattle.arrow_data.specs.Column.{Column, ValueList}
 use Rattle.arrow_data.specs.Listed.{listed}
-use Rattle.arrow_data.specs.PlainValue.{PlainValue}
+use Rattle.arrow_layout.specs.PlainValue.{PlainValue}
 use Rattle.arrow_body_reader.specs.Held.{count_of}
 use Rattle.arrow_body_reader.specs.Sound.{AreIndexed, AreLaid, AreText, columns_of, lengths_of}
 use Rattle.arrow_body_reader.specs.Taken.{AreThere, taken_nodes}

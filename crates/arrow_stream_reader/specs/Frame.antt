@@ -3,8 +3,8 @@
 use Rattle.std.specs.Prelude.{◌≡◌, ℕ, ℤ, ◌+◌, ◌*◌, ◌^◌, ◌<◌, ◌≤◌, ◌==◌, ◌&&◌, not, nat_lt, if◌then◌else◌, Bool, List, [], length, slice_index, take, drop, Option, Some, None, is_some, Result, Ok, Err}
 use Rattle.arrow_types.specs.Notes.{SchemaShape}
 use Rattle.arrow_types.specs.Limits.{LimitNumbers}
-use Rattle.arrow_meta_reader.specs.declared.fault.MetaFault.{MetaFault}
-use Rattle.arrow_meta_reader.specs.declared.fault.MetaFault.TheVariants as faults
+use Rattle.arrow_meta_tree.specs.declared.fault.MetaFault.{MetaFault}
+use Rattle.arrow_meta_tree.specs.declared.fault.MetaFault.TheVariants as faults
 use Rattle.arrow_stream_reader.specs.declared.kind.Rejection.{Rejection}
 use Rattle.arrow_stream_reader.specs.declared.kind.Rejection.TheVariants.{Continuation, MetadataSize, Metadata, Version, Header, BodyLength, Order, Unsupported, Schema, Compressed, UnknownId, NoBase, Rows, NoSchema}
 use Rattle.arrow_stream_reader.specs.declared.prefix.Prefix.{Prefix}

@@ -1,7 +1,7 @@
 -- The meaning of metadata by themselves.
 use Rattle.std.specs.Prelude.{◌≡◌, ℕ, List, Result, Ok, Err}
 use Rattle.arrow_types.specs.Limits.{LimitNumbers}
-use Rattle.arrow_meta_reader.specs.declared.fault.MetaFault.{MetaFault}
+use Rattle.arrow_meta_tree.specs.declared.fault.MetaFault.{MetaFault}
 use Rattle.arrow_meta_reader.specs.Judges.{MetadataFails, MetadataMeans}
 use Rattle.arrow_meta_reader.specs.Means.{PlainMessage}
 use Rattle.arrow_stream_reader.specs.Message.{Message}

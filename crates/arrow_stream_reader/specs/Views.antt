@@ -11,9 +11,9 @@ use Rattle.arrow_body_reader.specs.declared.body.BodyFault.TheVariants as bodies
 use Rattle.arrow_dict.specs.ValueTypes.{value_type_of}
 use Rattle.arrow_dict.specs.declared.store.StoreFault.{StoreFault}
 use Rattle.arrow_dict.specs.declared.store.StoreFault.TheVariants as stores
-use Rattle.arrow_meta_reader.specs.declared.fault.MetaFault.{MetaFault}
-use Rattle.arrow_meta_reader.specs.declared.fault.MetaFault.TheVariants as faults
-use Rattle.arrow_meta_reader.specs.Grows.{GrowsAtRoot}
+use Rattle.arrow_meta_tree.specs.declared.fault.MetaFault.{MetaFault}
+use Rattle.arrow_meta_tree.specs.declared.fault.MetaFault.TheVariants as faults
+use Rattle.arrow_meta_tree.specs.Grows.{GrowsAtRoot}
 use Rattle.arrow_meta_reader.specs.Means.{PlainBatch, PlainHeader, PlainMessage, schema, dictionary, batch, batch_view}
 use Rattle.arrow_stream_reader.specs.declared.kind.Rejection.TheVariants as refusals
 use Rattle.arrow_stream_reader.specs.declared.item.Item.{Item}

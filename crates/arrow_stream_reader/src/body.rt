@@ -1,7 +1,7 @@
 //! The body of a message, and the columns that it holds.
 
 ghost use Rattle.std.specs.Prelude.{◌≡◌, ◌≤◌, ◌≤ℤ◌, pos, length, drop, IfOk, MatchResult, Ok};
-ghost use Rattle.arrow_data.specs.Shared.{node_types};
+ghost use Rattle.arrow_layout.specs.Shared.{node_types};
 ghost use Rattle.arrow_types.specs.View.{fields_view};
 ghost use Rattle.arrow_body_reader.specs.Held.{count_of};
 ghost use Rattle.arrow_body_reader.specs.Sound.{AreFit, Explains, IsSound, columns_of};
@@ -12,7 +12,8 @@ ghost use Rattle.arrow_stream_reader.specs.Views.{HasNoColumns};
 use crate::decode_error::DecodeError;
 use crate::kind::Rejection;
 use arrow_body_reader::{BodyFault, check, check_row_count, load_typed};
-use arrow_data::{Array, Dictionary, SharedBody, SharedType};
+use arrow_data::{Array, Dictionary};
+use arrow_layout::{SharedBody, SharedType};
 use arrow_meta_reader::RecordBatch;
 use arrow_types::Field;
 use bytes::Bytes;

@@ -11,7 +11,8 @@ use crate::message::{Message, MessageBody};
 use crate::refusals::{check_order, is_out_of_order, state_refusal};
 use crate::state::State;
 use crate::stream_schema::StreamSchema;
-use arrow_meta_reader::{Header, Message as Judged, MetaFault, decode};
+use arrow_meta_reader::{Header, Message as Judged, decode};
+use arrow_meta_tree::MetaFault;
 use arrow_types::Limits;
 use std::alloc::{AllocError, Global};
 

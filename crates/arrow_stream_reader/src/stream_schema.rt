@@ -2,12 +2,12 @@
 //! share.
 
 ghost use Rattle.std.specs.Prelude.{◌≡◌, IfOk, option_map};
-ghost use Rattle.arrow_data.specs.Shared.{node_types};
+ghost use Rattle.arrow_layout.specs.Shared.{node_types};
 ghost use Rattle.arrow_types.specs.Schema.{IsSchema, dictionary_fields};
 ghost use Rattle.arrow_dict.specs.ValueTypes.{value_field, value_type_of};
 
-use arrow_data::{SharedType, shared_types};
 use arrow_dict::{ValueField, ValueFields};
+use arrow_layout::{SharedType, shared_types};
 use arrow_types::Schema;
 use std::alloc::{AllocError, Global};
 use std::marker::Model;
@@ -24,7 +24,7 @@ pub(crate) struct StreamSchema {
 
 impl Model for StreamSchema {
     ghost use Rattle.std.specs.Prelude.{◌≡◌};
-    ghost use Rattle.arrow_data.specs.Shared.{node_types};
+    ghost use Rattle.arrow_layout.specs.Shared.{node_types};
     ghost use Rattle.arrow_types.specs.Notes.{SchemaShape};
     ghost use Rattle.arrow_types.specs.Stored.{schema_code};
     ghost use Rattle.arrow_dict.specs.ValueTypes.{NameSame};

@@ -1,5 +1,5 @@
 //! What no stream of `vectors/` shows: the results of consecutive calls, custom limits, the byte
-//! that decides, long bodies, and that calls succeed.
+//! that decides, each byte set to each value, long bodies, and that calls succeed.
 //!
 //! A row names parts of streams, each from one offset to another, and changes bytes of these at
 //! offsets counted from the first byte of all.
@@ -10,4 +10,5 @@ mod deciding;
 mod declared;
 mod kinds;
 mod limits;
+mod single_bytes;
 mod sizes;

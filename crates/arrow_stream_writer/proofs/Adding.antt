@@ -12,8 +12,8 @@ use Rattle.arrow_types.specs.Notes.{SchemaShape}
 use Rattle.arrow_types.specs.Schema.{dictionary_fields, dictionary_ids}
 use Rattle.arrow_data.specs.Batch.{Table}
 use Rattle.arrow_data.specs.Column.{ValueList}
-use Rattle.arrow_data.specs.PlainValue.{PlainValue}
-use Rattle.arrow_data.specs.Stored.{value_code}
+use Rattle.arrow_layout.specs.PlainValue.{PlainValue}
+use Rattle.arrow_layout.specs.Stored.{value_code}
 use Rattle.arrow_dict.specs.Choice.{choice, same_list}
 use Rattle.arrow_dict.specs.declared.update.Update.TheVariants as updates
 use Rattle.arrow_dict.specs.declared.update.Updates.{Updates}

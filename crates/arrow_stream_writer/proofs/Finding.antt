@@ -8,7 +8,7 @@ use Rattle.std.proofs.lemmas.Bool.{cases_Bool, cond-true, cond-false}
 use Rattle.std.proofs.lemmas.Bool.Decides.{Decides-int_eq}
 use Rattle.arrow_types.specs.Schema.{DictionaryField}
 use Rattle.arrow_data.specs.Column.{ValueList}
-use Rattle.arrow_data.specs.PlainValue.{PlainValue}
+use Rattle.arrow_layout.specs.PlainValue.{PlainValue}
 use Rattle.arrow_dict.specs.ValueTypes.{value_type_of}
 use Rattle.arrow_stream_laws.proofs.Lists.{all_left, all_right}
 use Rattle.arrow_stream_writer.specs.Lists.{AreFirst, AreFound, first_values}

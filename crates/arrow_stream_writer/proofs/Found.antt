@@ -11,8 +11,8 @@ use Rattle.arrow_types.specs.Equality.{is_equal_decides}
 use Rattle.arrow_types.specs.Schema.{DictionaryField, dictionary_fields, dictionary_ids}
 use Rattle.arrow_data.specs.Batch.{IsTable, Table}
 use Rattle.arrow_data.specs.Column.{IsColumn, ValueList, listed_of}
-use Rattle.arrow_data.specs.PlainValue.{PlainValue}
-use Rattle.arrow_data.specs.Stored.{value_code}
+use Rattle.arrow_layout.specs.PlainValue.{PlainValue}
+use Rattle.arrow_layout.specs.Stored.{value_code}
 use Rattle.arrow_data.specs.Column.{field_of_listed}
 use Rattle.arrow_data.specs.Listed.{listed}
 use Rattle.arrow_data.specs.Parts.{values_in}

@@ -6,7 +6,7 @@ use Rattle.std.proofs.lemmas.Bool.{le-ltb, leb-false, leb-true, lt-ltb}
 use Rattle.arrow_types.specs.declared.node.FieldNode.{FieldNode}
 use Rattle.arrow_data.specs.Batch.{HaveRows, IsTable, Table}
 use Rattle.arrow_data.specs.Column.{AreOf, Column}
-use Rattle.arrow_data.specs.PlainValue.{PlainValue}
+use Rattle.arrow_layout.specs.PlainValue.{PlainValue}
 use Rattle.arrow_body_reader.specs.Sound.{lengths_of}
 use Rattle.arrow_body_reader.specs.Taken.{taken_buffers, taken_nodes}
 use Rattle.arrow_body_laws.specs.Laws.{IsBodyOf, raws_of}
@@ -180,7 +180,7 @@ module _ (terms : Terms) (load : Load) (b : PlainBody) (s : IsStored terms.align
   answers_load header (Err Broken) old new kind body_fits rows_fit slots_fit x = x
   answers_load header (Err Finished) old new kind body_fits rows_fit slots_fit x = x
 
--- what was appended by put_frame is the frame of a message within the limits
+-- what was appended by put_head and a body is the frame of a message within the limits
 pub appended_frame : (terms : Terms) (align : ℕ) (m : PlainMessage) (body old mid new : List ℕ) → align ≡ terms.align → header_size terms.align m.header ≤ terms.limits.max_metadata → length body ≤ terms.limits.max_body → leaves_header_out terms.limits.types m.header ≡ false → mid ≡ old
     → AppendsFrame align m body mid new → PutsFrameOf terms m.header body old new
 appended_frame terms align m body old mid new is fits short within same x =

@@ -1,5 +1,5 @@
 -- Why the appended bytes are a frame.
-use Rattle.std.proofs.Common.{◌≡◌, ℕ, zero, suc, ◌+◌, ◌-◌, ◌*◌, ◌/◌, ◌%◌, ◌≤◌, ◌<◌, ◌^◌, false, min, List, ◌++◌, length, replicate, Some, refl, sym, ap, ◌∙◌, subst, arith, append_assoc, length-append}
+use Rattle.std.proofs.Common.{◌≡◌, ℕ, ◌+◌, ◌-◌, ◌≤◌, ◌<◌, ◌^◌, false, List, ◌++◌, length, replicate, Some, refl, sym, ap, ◌∙◌, subst, arith, append_assoc, length-append}
 use Rattle.arrow_types.specs.Limits.{LimitNumbers}
 use Rattle.arrow_meta_reader.specs.declared.message.MetadataVersion.TheVariants as versions
 use Rattle.arrow_meta_reader.specs.Judges.{MetadataMeans}
@@ -7,43 +7,21 @@ use Rattle.arrow_meta_reader.specs.Means.{PlainMessage}
 use Rattle.byteorder.specs.Endian.{little_bytes}
 use Rattle.arrow_flatbuf.specs.Layout.{gap, zeros}
 use Rattle.arrow_flatbuf.specs.Nodes.{after, laid, start}
-use Rattle.std.proofs.Math.Nat.{add-mul, mod-eq_of_lt, mod-lt, mod_self}
 use Rattle.std.proofs.lemmas.Grind.{div_ceil_times}
 use Rattle.std.proofs.lemmas.List.{length-replicate}
-use Rattle.std.proofs.lemmas.Nat.{div-add-mod'}
-use Rattle.std.specs.Int.{next_multiple_of}
 use Rattle.arrow_meta_writer.specs.Layouts.{message_node}
 use Rattle.arrow_meta_writer.specs.Metadata.{metadata, metadata_size, size_of}
 use Rattle.arrow_meta_writer.specs.Writable.{IsHeader, Allows, leaves_header_out}
 use Rattle.arrow_meta_writer.specs.Written.{message_tree}
 use Rattle.arrow_meta_writer.proofs.WrittenMeans.{sized, written_length, written_means}
 use Rattle.arrow_meta_writer.proofs.Bounds.{text_short}
-use Rattle.arrow_meta_reader.specs.Within.{text_bytes}
+use Rattle.arrow_meta_tree.specs.Within.{text_bytes}
 use Rattle.arrow_body_laws.specs.Stored.{rounded}
 use Rattle.arrow_body_laws.proofs.Placed.{rounded-le}
 use Rattle.arrow_stream_reader.specs.Frame.{number_at}
-use Rattle.arrow_stream_laws.specs.Frames.{IsFrameOf, framed, message_of, padded, prefix_bytes}
+use Rattle.arrow_stream_laws.specs.Frames.{IsFrameOf, framed, padded, prefix_bytes}
 use Rattle.arrow_stream_laws.specs.Sizes.{header_size}
 use Rattle.arrow_stream_writer.specs.Frame.{AppendsFrame}
-
--- the least multiple of the alignment that is not smaller
-pub next_multiple : (align n : ℕ) → 0 < align → next_multiple_of n align ≡ rounded align n
-next_multiple align n some = by_rest (n % align) refl
-  where
-    by_rest : (r : ℕ) → n % align ≡ r → next_multiple_of n align ≡ rounded align n
-    by_rest zero rest =
-        let whole : n / align * align ≡ n = omega (arith, div-add-mod' n align, rest) in
-        let all : align - n % align ≡ align = omega (arith, rest) in
-        let high : next_multiple_of n align ≡ n + 0 = ap (λ k. n + k % align) all ∙ ap (λ k. n + k) (mod_self align) in
-        let none : min 1 (n % align) ≡ 0 = omega (arith, rest) in
-        let low : rounded align n ≡ n / align * align + 0 * align = ap (λ k. (n / align + k) * align) none ∙ add-mul (n / align) 0 align in
-        omega (arith, whole, high, low)
-    by_rest (suc r) rest =
-        let below : n % align < align = mod-lt n some in
-        let left : (align - n % align) % align ≡ align - n % align = mod-eq_of_lt (omega (arith, rest, below)) in
-        let one : min 1 (n % align) ≡ 1 = omega (arith, rest) in
-        let low : rounded align n ≡ n / align * align + 1 * align = ap (λ k. (n / align + k) * align) one ∙ add-mul (n / align) 1 align in
-        omega (arith, left, low, below, div-add-mod' n align)
 
 -- the size that a prefix gives
 pub prefix_number : (n : ℕ) → n < 2 ^ 32 → number_at (prefix_bytes n) 4 ≡ n

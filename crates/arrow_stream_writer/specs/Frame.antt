@@ -1,10 +1,9 @@
--- What appending a frame, or the end marker, means (Columnar Format, "Encapsulated message format", "IPC Streaming
--- Format").
+-- What appending a frame means (Columnar Format, "Encapsulated message format").
 use Rattle.std.specs.Prelude.{◌≡◌, ◌≤◌, ℕ, false, List, ◌++◌, length}
 use Rattle.arrow_types.specs.Limits.{LimitNumbers}
 use Rattle.arrow_meta_reader.specs.Means.{PlainMessage}
 use Rattle.arrow_meta_writer.specs.Writable.{leaves_header_out}
-use Rattle.arrow_stream_laws.specs.Frames.{framed, IsFrameOf, IsMarker}
+use Rattle.arrow_stream_laws.specs.Frames.{framed, IsFrameOf}
 use Rattle.arrow_stream_laws.specs.Sizes.{header_size}
 
 -- Just the frame of the message with this body was appended, its metadata padded with zero bytes so that with the
@@ -18,9 +17,3 @@ pub record AppendsFrame (align : ℕ) (m : PlainMessage) (body old new : List �
 -- the message gives, it is the frame of the message with this body.
 abbrev pub AppendsHead : ℕ → PlainMessage → List ℕ → List ℕ → Type 0
 AppendsHead align m old new = (body : List ℕ) → m.body_len ≡ length body → AppendsFrame align m body old (new ++ body)
-
--- the end marker was appended
-pub record AppendsMarker (old new : List ℕ) : Type 0 where
-  pub marker : List ℕ
-  pub appended : new ≡ old ++ marker
-  pub is_marker : IsMarker marker

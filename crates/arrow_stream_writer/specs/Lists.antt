@@ -8,7 +8,7 @@ use Rattle.arrow_types.specs.Schema.{DictionaryField, dictionary_fields, diction
 use Rattle.arrow_types.specs.declared.field.Encoding.{Encoding}
 use Rattle.arrow_data.specs.Batch.{Table}
 use Rattle.arrow_data.specs.Column.{AreOf, Column, ValueList, listed_of}
-use Rattle.arrow_data.specs.PlainValue.{PlainValue}
+use Rattle.arrow_layout.specs.PlainValue.{PlainValue}
 use Rattle.arrow_dict.specs.ValueTypes.{value_type_of}
 use Rattle.arrow_stream_laws.specs.Plan.{value_type}
 use Rattle.arrow_stream_laws.specs.Rows.{IsKnown, has_one_list, list_of}

@@ -1,13 +1,15 @@
-//! Frames and the end marker, appended to bytes.
+//! The head of a frame, appended to bytes.
 
-ghost use Rattle.std.specs.Prelude.{◌≡◌, ◌≤◌, ◌<◌, ◌+◌, ◌-◌, ◌++◌, IsSome, OnOk, OnErr, Ok, IfOk};
+ghost use Rattle.std.specs.Prelude.{◌≡◌, ◌≤◌, ◌-◌, ◌++◌, IsSome, OnOk, OnErr};
 ghost use Rattle.std.specs.Prelude.{length, replicate, take};
-ghost use Rattle.arrow_body_laws.specs.Stored.{rounded};
+ghost use Rattle.arrow_body_writer.specs.Align.{alignment_of};
 ghost use Rattle.arrow_stream_laws.specs.Frames.{prefix_bytes};
-ghost use Rattle.arrow_stream_writer.specs.Frame.{AppendsFrame, AppendsHead, AppendsMarker};
+ghost use Rattle.arrow_stream_writer.specs.Frame.{AppendsHead};
 ghost use Rattle.arrow_meta_reader.specs.Means.{message_view};
 ghost use Rattle.arrow_meta_writer.specs.Metadata.{size_of};
 
+use arrow_bits::put_zeros;
+use arrow_body_writer::Align;
 use arrow_meta_reader::Message;
 use arrow_meta_writer::encode_in;
 use arrow_stream_reader::CONTINUATION;
@@ -26,69 +28,26 @@ pub(crate) fn prefix_of(size: u32) -> [u8; 8]
     ]
 }
 
-/// Appends the end marker.
-///
-/// The only error is `AllocError`; then the bytes are as they were before.
-pub fn put_end_marker(out: &mut Vec<u8>) -> Result<(), AllocError>
-    ensures ok { OnOk result (AppendsMarker out.old.items out.new.items) }
-    ensures err { OnErr result (out.new.items ≡ out.old.items) }
-{
-    out.extend_from_slice(&prefix_of(0))
-}
-
-/// Appends the frame of a message with this body, the metadata padded with zero bytes so that they
-/// end at a multiple of the alignment if the frame begins at one.
-///
-/// Conditions: the alignment is from 1 to 64, `encoded_size` returns a number for the message, and
-/// the message gives the body's length. The only error is `AllocError`; then the bytes are as they
-/// were before.
-pub fn put_frame(
-    out: &mut Vec<u8>,
-    align: usize,
-    message: &Message,
-    body: &[u8],
-) -> Result<(), AllocError>
-    requires some { 1 ≤ align }
-    requires few { align ≤ 64 }
-    requires sendable { IsSome (size_of (message_view message.now)) }
-    requires reported { message.now.body_len ≡ length body.now }
-    ensures ok { OnOk result (AppendsFrame align (message_view message.now) body.now
-        out.old.items out.new.items) }
-    ensures err { OnErr result (out.new.items ≡ out.old.items) }
-{
-    let before = out.len();
-    let mut room = Vec::new(*out.allocator());
-    put_head(out, &mut room, align, message)?;
-    match out.extend_from_slice(body) {
-        Ok(()) => Ok(()),
-        Err(fault) => {
-            out.truncate(before);
-            Err(fault)
-        }
-    }
-}
-
 /// Appends the head of a message's frame, all of it but the body: followed by any body of the
 /// length that the message gives, it is the frame of the message with this body. The metadata are
 /// laid out in a scratch buffer, whose capacity is kept.
 pub(crate) fn put_head(
     out: &mut Vec<u8>,
     room: &mut Vec<u8>,
-    align: usize,
+    align: Align,
     message: &Message,
 ) -> Result<(), AllocError>
-    requires some { 1 ≤ align }
-    requires few { align ≤ 64 }
     requires sendable { IsSome (size_of (message_view message.now)) }
-    ensures ok { OnOk result (AppendsHead align (message_view message.now) out.old.items out.new.items) }
+    ensures ok { OnOk result (AppendsHead (alignment_of align) (message_view message.now)
+        out.old.items out.new.items) }
     ensures err { OnErr result (out.new.items ≡ out.old.items) }
     ensures kept { take (length out.old.items) out.new.items ≡ out.old.items }
 {
     let empty = Vec::new(*out.allocator());
     let metadata = encode_in(mem::replace(room, empty), message)?;
-    let size = (8 + metadata.len()).next_multiple_of(align) - 8;
+    let size = align.round_up(8 + metadata.len() as u64) - 8;
     let before = out.len();
-    let answer = put_metadata(out, size, &metadata);
+    let answer = put_metadata(out, size as usize, &metadata);
     *room = metadata;
     match answer {
         Ok(()) => Ok(()),
@@ -110,6 +69,5 @@ fn put_metadata(out: &mut Vec<u8>, size: usize, metadata: &[u8]) -> Result<(), A
 {
     out.extend_from_slice(&prefix_of(size as u32))?;
     out.extend_from_slice(metadata)?;
-    let end = out.len() + size.saturating_sub(metadata.len());
-    out.resize(end, 0)
+    put_zeros(out, size.saturating_sub(metadata.len()))
 }

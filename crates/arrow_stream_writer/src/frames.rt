@@ -189,7 +189,7 @@ impl Settings {
         }
         // One allocation makes room for all of it.
         out.reserve(8 + len as usize)?;
-        put_head(out, room, self.align.bytes(), message)?;
+        put_head(out, room, self.align, message)?;
         Ok(())
     }
 

@@ -22,7 +22,7 @@
 //! |---|---|
 //! | the view of a writer over a sink | `specs/Shown.antt`: `shown` |
 //! | the messages of a batch, built | `specs/Parts.antt`: `IsPartBuilt`, `BuildsPart` |
-//! | a frame, its head, the end marker, appended | `specs/Frame.antt`: `AppendsFrame`, `AppendsHead`, `AppendsMarker` |
+//! | a frame, its head, appended | `specs/Frame.antt`: `AppendsFrame`, `AppendsHead` |
 //! | sizes that depend only on fields | `specs/Sizes.antt`: `BatchesSized`, `DictionariesSized` |
 //! | the frame of columns, within the limits | `specs/Framing.antt`: `Puts`, `part_bytes`; `specs/Terms.antt`: `Terms` |
 //! | the dictionaries of a batch | `specs/Lists.antt`: `AreListsOf`, `FindsLists` |
@@ -50,6 +50,5 @@ pub(crate) mod updating;
 pub use arrow_body_writer::Align;
 pub use arrow_dict::Updates;
 pub use arrow_sink::WriteFault;
-pub use frame::{put_end_marker, put_frame};
 pub use options::Options;
 pub use stream_writer::StreamWriter;

@@ -3,10 +3,11 @@
 ghost use Rattle.std.specs.Prelude.{◌≡◌, ◌∷◌, [], ℤ, option_map, None, OnOk, MatchOption};
 ghost use Rattle.std.specs.List.{AllByRecursion};
 ghost use Rattle.arrow_data.specs.Column.{IsColumn};
-ghost use Rattle.arrow_stream_writer.specs.Lists.{AddsList, FindsLists, Gathers, HaveBelow, dictionary_in};
+ghost use Rattle.arrow_stream_writer.specs.Lists.{AddsList, FindsLists, Gathers, HaveBelow};
+ghost use Rattle.arrow_stream_writer.specs.Lists.{dictionary_in};
 
-use arrow_data::form::{Form, form_of};
 use arrow_data::{Array, Batch, Dictionary};
+use arrow_layout::form::{Form, form_of};
 use std::alloc::{AllocFailed, Global};
 use std::collections::BTreeMap;
 

@@ -6,8 +6,8 @@ use Rattle.arrow_types.specs.Notes.{SchemaShape, pair_count}
 use Rattle.arrow_types.specs.DataType.{TypeId}
 use Rattle.arrow_types.specs.Field.{FieldTree, none, more}
 use Rattle.arrow_types.specs.Schema.{dictionary_fields, AreIdsOfOneType, IsBounded, IsKept, is_flawed, some_flawed}
-use Rattle.arrow_types.specs.declared.schema.SchemaFault.{SchemaFault}
-use Rattle.arrow_types.specs.declared.schema.SchemaFault.TheVariants.{ByteWidth, MapEntries, DecimalRange}
+use Rattle.arrow_types.specs.declared.fault.SchemaFault.{SchemaFault}
+use Rattle.arrow_types.specs.declared.fault.SchemaFault.TheVariants.{ByteWidth, MapEntries, DecimalRange}
 
 -- a fault that applies to no single type applies to no fields
 unflawed : (fault : SchemaFault) → ((tag : TypeId) (children : FieldTree) → is_flawed fault tag children ≡ false) → (s : FieldTree) → some_flawed fault s ≡ false

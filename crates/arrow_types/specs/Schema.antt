@@ -9,8 +9,8 @@ use Rattle.arrow_types.specs.Equality.{is_equal}
 use Rattle.arrow_types.specs.Field.{FieldHeader, FieldTree, none, more, TypeShape, FieldShape, levels, count, width}
 use Rattle.arrow_types.specs.Notes.{SchemaShape, pair_count}
 use Rattle.arrow_types.specs.Stored.{type_code}
-use Rattle.arrow_types.specs.declared.schema.SchemaFault.{SchemaFault}
-use Rattle.arrow_types.specs.declared.schema.SchemaFault.TheVariants.{TooDeep, TooManyFields, NestedDictionary, SharedIdTypesDiffer, Memory, ByteWidth, TooManyPairs, MapEntries, DecimalRange}
+use Rattle.arrow_types.specs.declared.fault.SchemaFault.{SchemaFault}
+use Rattle.arrow_types.specs.declared.fault.SchemaFault.TheVariants.{TooDeep, TooManyFields, NestedDictionary, SharedIdTypesDiffer, Memory, ByteWidth, TooManyPairs, MapEntries, DecimalRange}
 
 -- whether a field of these, on any level, is dictionary-encoded
 abbrev pub has_encoding : FieldTree → Bool

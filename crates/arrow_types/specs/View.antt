@@ -4,8 +4,8 @@ use Rattle.arrow_types.specs.DataType.{TypeId}
 use Rattle.arrow_types.specs.DataType as tags
 use Rattle.arrow_types.specs.Field.{FieldTree, none, TypeShape, FieldShape, fields_of}
 use Rattle.arrow_types.specs.Notes.{Notes, unnoted, FieldNotes, SchemaShape, KeyValue, notes_of, pairs_view}
-use Rattle.arrow_types.specs.declared.data_type.DataType.{DataType, fold-DataType}
-use Rattle.arrow_types.specs.declared.data_type.DataType.TheOpen.{DataType-F, Field-F}
+use Rattle.arrow_types.specs.declared.field.DataType.{DataType, fold-DataType}
+use Rattle.arrow_types.specs.declared.field.DataType.TheOpen.{DataType-F, Field-F}
 use Rattle.arrow_types.specs.declared.field.Field.{Field, fold-Field}
 
 -- a type that has no children

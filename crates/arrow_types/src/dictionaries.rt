@@ -5,8 +5,7 @@ ghost use Rattle.arrow_types.specs.Dictionaries.{encoded_views, GivesIds};
 ghost use Rattle.arrow_types.specs.Schema.{has_encoding, dictionary_fields, field_dictionaries};
 ghost use Rattle.arrow_types.specs.View.{field_view, fields_view};
 
-use crate::data_type::DataType;
-use crate::field::Field;
+use crate::field::{DataType, Field};
 use crate::nesting::have_encoding;
 use std::alloc::{AllocError, Global};
 use std::collections::BTreeMap;

@@ -7,8 +7,7 @@ ghost use Rattle.arrow_types.specs.Dictionaries.{some_differ, field_differs};
 ghost use Rattle.arrow_types.specs.Schema.{types_differ as two_differ, dictionary_fields};
 ghost use Rattle.arrow_types.specs.View.{field_view, fields_view, type_view};
 
-use crate::data_type::DataType;
-use crate::field::Field;
+use crate::field::{DataType, Field};
 
 /// Whether two of the fields share a dictionary and have unequal value types. The time grows with
 /// the square of the number of dictionary-encoded fields, so this is for the case that the memory

@@ -4,8 +4,7 @@ ghost use Rattle.std.specs.Prelude.{◌+◌, ◌≤◌};
 ghost use Rattle.arrow_types.specs.Field.{count, field_count};
 ghost use Rattle.arrow_types.specs.View.{field_view, fields_view};
 
-use crate::data_type::DataType;
-use crate::field::Field;
+use crate::field::{DataType, Field};
 
 /// Drops the fields, one after another, without recursing into their levels. Only fields for which
 /// the list of pending fields cannot be extended are dropped level by level.

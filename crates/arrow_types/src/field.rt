@@ -1,16 +1,91 @@
-//! Fields: named columns and children, and how a column refers to a dictionary.
+//! Types and fields, each of which may hold the other, and how a column refers to a dictionary.
 
-ghost use Rattle.std.specs.Prelude.{◌≡◌, ◌↔◌, IsTrue, IfOk};
-ghost use Rattle.arrow_types.specs.Equality.{is_equal, is_equal_equivalence};
-ghost use Rattle.arrow_types.specs.Stored.{whole_field_code};
+ghost use Rattle.std.specs.Prelude.{◌≡◌};
 ghost use Rattle.arrow_types.specs.View.{field_notes, field_view, fields_view, notes_view};
-ghost use Rattle.arrow_types.specs.View.{whole_field};
-ghost use Rattle.std.specs.Cmp.{on_per, on_equiv, partial_equiv_from_equiv};
-ghost use Rattle.std.specs.Ordering.{on};
+ghost use Rattle.arrow_types.specs.View.{type_notes, type_view};
 
-use crate::data_type::{BitWidth, DataType, same_type};
-use crate::notes::{copy_pairs, have_same_notes};
-use std::alloc::{AllocError, Global};
+use crate::data_type::{BitWidth, DateUnit, DecimalWidth, IntervalUnit, Precision, TimeUnit};
+use std::alloc::Global;
+
+/// The type of a column's values, without a dictionary (`Schema.fbs`, union `Type`).
+///
+/// Any tree of types can be built; whether it keeps to the limits is checked when a `Schema` is
+/// made of it.
+#[cycle(types)]
+#[derive(Debug, Drop)]
+pub enum DataType {
+    /// Every slot is null.
+    Null,
+    /// Truth values, a bit each.
+    Bool,
+    /// Whole numbers of this width, with a sign or without one.
+    Int {
+        bits: BitWidth,
+        signed: bool,
+    },
+    /// Floating-point numbers, each given by its bits.
+    FloatingPoint(Precision),
+    /// Decimal numbers of at most `precision` digits, each given by a whole number, which is the
+    /// decimal number times 10 to the power of the scale: 1.25 with the scale 2 is 125. In a
+    /// `Schema` the width allows the precision and the scale; nothing checks that a number has no
+    /// more digits than the precision.
+    Decimal {
+        width: DecimalWidth,
+        precision: u8,
+        scale: i8,
+    },
+    /// Byte strings of any length, between offsets of 32 bits.
+    Binary,
+    /// The same between offsets of 64 bits.
+    LargeBinary,
+    /// Byte strings of exactly this many bytes each.
+    FixedSizeBinary(u32),
+    /// Texts in UTF-8, between offsets of 32 bits.
+    Utf8,
+    /// The same between offsets of 64 bits.
+    LargeUtf8,
+    /// Days or milliseconds since 1970-01-01.
+    Date(DateUnit),
+    /// A time of day since midnight. Its width depends on its unit.
+    Time(TimeUnit),
+    /// Signed 64-bit numbers since 1970-01-01 00:00, and the name of a time zone if there is one.
+    Timestamp(TimeUnit, Option<String>),
+    /// Lengths of time, in signed 64-bit numbers.
+    Duration(TimeUnit),
+    /// Intervals of the calendar, whose months and days have no fixed length in time.
+    Interval(IntervalUnit),
+    /// Lists of values of the one child field, between offsets of 32 bits.
+    List(Box<Field>),
+    /// The same between offsets of 64 bits.
+    LargeList(Box<Field>),
+    /// Lists of exactly this many values each, of the one child field. In a `Schema` the number is
+    /// at most the greatest signed 32-bit number (`Schema.fbs`, table `FixedSizeList`).
+    FixedSizeList(Box<Field>, u32),
+    /// A value of each child field.
+    Struct(Vec<Field>),
+    /// Lists of entries of the one child field, between offsets of 32 bits, and whether the keys of
+    /// each list are sorted, which is stored and nowhere enforced (`Schema.fbs`, table `Map`). In a
+    /// `Schema` the child is a struct of two fields, the key and the value.
+    Map(Box<Field>, bool),
+}
+
+impl DataType {
+    /// The child fields: those of a struct, the one of a list or a map, none for any other type.
+    /// Allocates nothing.
+    pub fn children(&self) -> &[Field]
+        ensures fields { fields_view result.now ≡ (type_view self.now).children }
+        ensures notes { notes_view result.now ≡ type_notes self.now }
+    {
+        match self {
+            DataType::List(item) => std::slice::from_ref(item),
+            DataType::LargeList(item) => std::slice::from_ref(item),
+            DataType::FixedSizeList(item, _) => std::slice::from_ref(item),
+            DataType::Struct(fields) => fields,
+            DataType::Map(entries, _) => std::slice::from_ref(entries),
+            _ => &[],
+        }
+    }
+}
 
 /// The type of a dictionary's indices (`Schema.fbs`, table `DictionaryEncoding`, field
 /// `indexType`).
@@ -56,7 +131,6 @@ impl Field {
     ghost use Rattle.std.specs.Prelude.{Some, None, [], string_bytes};
     ghost use Rattle.arrow_types.specs.Field.{encoded_by, field_by};
     ghost use Rattle.arrow_types.specs.Notes.{pairs_view};
-    ghost use Rattle.arrow_types.specs.View.{type_notes, type_view};
 
     /// A field that holds its values itself, without metadata. Allocates nothing.
     pub fn new(alloc: Global, name: String, data_type: DataType, nullable: bool) -> Field
@@ -100,88 +174,4 @@ impl Field {
     {
         self.data_type.children()
     }
-
-    /// An equal field in memory of its own, or `AllocError` if an allocation failed.
-    #[cycle(copy)]
-    pub fn copy(&self, alloc: Global) -> Result<Field, AllocError>
-        ensures same { IfOk result (λ f. field_view f ≡ field_view self.now) }
-        ensures notes { IfOk result (λ f. field_notes f ≡ field_notes self.now) }
-    {
-        Ok(Field {
-            name: self.name.clone()?,
-            nullable: self.nullable,
-            data_type: self.data_type.copy(alloc)?,
-            dictionary: self.dictionary,
-            metadata: copy_pairs(alloc, &self.metadata)?,
-        })
-    }
-}
-
-/// Equal fields in memory of their own.
-#[cycle(copy)]
-pub(crate) fn copy_fields(alloc: Global, fields: &[Field]) -> Result<Vec<Field>, AllocError>
-    ensures same { IfOk result (λ v. fields_view v.items ≡ fields_view fields.now) }
-    ensures notes { IfOk result (λ v. notes_view v.items ≡ notes_view fields.now) }
-{
-    let mut copies = Vec::with_capacity(alloc, fields.len())?;
-    for field in fields {
-        copies.push(field.copy(alloc)?)?;
-    }
-    Ok(copies)
-}
-
-/// Whether the fields are equal in everything that they hold except their metadata.
-#[cycle(same)]
-pub(crate) fn same_field(one: &Field, other: &Field) -> bool
-    ensures { IsTrue result ↔ (field_view one.now ≡ field_view other.now) }
-{
-    one.name == other.name
-        && one.nullable == other.nullable
-        && one.dictionary == other.dictionary
-        && same_type(&one.data_type, &other.data_type)
-}
-
-/// Whether there are as many fields in both lists, and they are equal one by one except for their
-/// metadata.
-#[cycle(same)]
-pub(crate) fn same_fields(fields: &[Field], others: &[Field]) -> bool
-    ensures { IsTrue result ↔ (fields_view fields.now ≡ fields_view others.now) }
-{
-    if fields.len() != others.len() {
-        return false;
-    }
-    for i in 0..fields.len() {
-        if !same_field(&fields[i], &others[i]) {
-            return false;
-        }
-    }
-    true
-}
-
-/// Fields are equal if everything that they hold is, including their metadata and those of the
-/// fields below them. Nothing is allocated.
-impl PartialEq for Field {
-    ghost eq = { on whole_field (is_equal whole_field_code) };
-
-    ghost laws = { on_per whole_field
-        (partial_equiv_from_equiv (is_equal_equivalence whole_field_code)) };
-
-    fn eq(&self, other: &Field) -> bool
-        ensures gives { result
-            ≡ is_equal whole_field_code (whole_field self.now) (whole_field other.now) }
-        ensures same { IsTrue result ↔ (whole_field self.now ≡ whole_field other.now) }
-    {
-        same_with_notes(self, other)
-    }
-}
-
-/// Whether the fields are equal in everything that they hold.
-fn same_with_notes(one: &Field, other: &Field) -> bool
-    ensures { IsTrue result ↔ (whole_field one.now ≡ whole_field other.now) }
-{
-    same_field(one, other) && have_same_notes(one, other)
-}
-
-impl Eq for Field {
-    ghost laws = { on_equiv whole_field (is_equal_equivalence whole_field_code) };
 }

@@ -6,9 +6,11 @@ ghost use Rattle.arrow_types.specs.Schema.{are_entries, field_is_flawed, is_bad_
 ghost use Rattle.arrow_types.specs.Schema.{is_wide, lacks_entries, some_flawed};
 ghost use Rattle.arrow_types.specs.View.{field_view, fields_view, type_view};
 
-use crate::data_type::DataType;
-use crate::field::Field;
-use crate::schema::{Schema, SchemaFault};
+use crate::fault::SchemaFault;
+use crate::field::{DataType, Field};
+
+/// The greatest width of fixed-size byte strings, and the greatest size of fixed-size lists.
+pub(crate) const MAX_WIDTH: u32 = 2_147_483_647;
 
 /// Whether one of the fields, on any level, has a type to which the fault applies. Faults that do
 /// not concern a single type apply to none.
@@ -50,8 +52,8 @@ fn is_wide(data_type: &DataType) -> bool
     ensures { result ≡ is_wide (type_view data_type.now).tag }
 {
     match data_type {
-        DataType::FixedSizeBinary(width) => *width > Schema::MAX_WIDTH,
-        DataType::FixedSizeList(_, size) => *size > Schema::MAX_WIDTH,
+        DataType::FixedSizeBinary(width) => *width > MAX_WIDTH,
+        DataType::FixedSizeList(_, size) => *size > MAX_WIDTH,
         _ => false,
     }
 }

@@ -22,10 +22,12 @@
 //! | which types are read and written | `specs/TypeSet.antt`: `leaves_some_out` |
 #![tactic(auto)]
 
+mod copies;
 mod data_type;
 mod dictionaries;
 mod differing;
 mod drop_iteratively;
+mod fault;
 mod field;
 mod flaws;
 pub mod laws;
@@ -33,15 +35,15 @@ mod limits;
 mod nesting;
 mod node;
 mod notes;
+mod same;
 mod schema;
 mod size;
 mod type_set;
 
-pub use data_type::{
-    BitWidth, DataType, DateUnit, DecimalWidth, IntervalUnit, Precision, TimeUnit,
-};
-pub use field::{Encoding, Field, IndexType};
+pub use data_type::{BitWidth, DateUnit, DecimalWidth, IntervalUnit, Precision, TimeUnit};
+pub use fault::SchemaFault;
+pub use field::{DataType, Encoding, Field, IndexType};
 pub use limits::Limits;
 pub use node::{Buffer, FieldNode};
-pub use schema::{Schema, SchemaFault};
+pub use schema::Schema;
 pub use type_set::TypeSet;

@@ -4,8 +4,7 @@ ghost use Rattle.std.specs.Prelude.{◌≡◌, ◌||◌, is_some};
 ghost use Rattle.arrow_types.specs.Schema.{has_encoding, is_nested, field_is_nested};
 ghost use Rattle.arrow_types.specs.View.{field_view, fields_view, type_view};
 
-use crate::data_type::DataType;
-use crate::field::Field;
+use crate::field::{DataType, Field};
 
 /// Whether a dictionary-encoded field is below a dictionary-encoded field.
 #[cycle(nesting)]

@@ -5,8 +5,7 @@ ghost use Rattle.arrow_types.specs.Notes.{field_noted_count, noted_count, pair_v
 ghost use Rattle.arrow_types.specs.Room.{left_of};
 ghost use Rattle.arrow_types.specs.View.{field_notes, notes_view, type_notes};
 
-use crate::data_type::DataType;
-use crate::field::Field;
+use crate::field::{DataType, Field};
 use std::alloc::{AllocError, Global};
 
 /// Equal pairs in memory of their own.

@@ -5,94 +5,19 @@ ghost use Rattle.arrow_types.specs.Notes.{pair_count, pairs_view};
 ghost use Rattle.arrow_types.specs.Schema.{late_fault};
 ghost use Rattle.arrow_types.specs.View.{fields_view, notes_view, schema_view};
 
+use crate::copies::copy_fields;
 use crate::dictionaries::ids_of;
 use crate::differing::types_differ;
 use crate::drop_iteratively::drop_iteratively;
-use crate::field::{Field, copy_fields, same_fields};
-use crate::flaws::some_flawed;
+use crate::fault::SchemaFault;
+use crate::field::Field;
+use crate::flaws::{MAX_WIDTH, some_flawed};
 use crate::nesting::are_nested;
 use crate::notes::{after_notes, after_pairs, are_noted_alike, copy_pairs, same_pairs};
+use crate::same::same_fields;
 use crate::size::{after_fields, have_levels};
 use std::alloc::{AllocError, Global};
-use std::error::Error;
-use std::fmt;
 use std::marker::Model;
-
-/// Why fields make no schema, in the order of the faults' numbers.
-#[derive(Clone, Copy, Debug, PartialEq, Eq)]
-pub enum SchemaFault {
-    /// There are more than 32 levels of fields, where a column is level 1.
-    TooDeep,
-    /// There are more than 65,536 fields on all levels together.
-    TooManyFields,
-    /// A dictionary-encoded field is below a dictionary-encoded field.
-    NestedDictionary,
-    /// Two fields have the same dictionary id and unequal value types.
-    SharedIdTypesDiffer,
-    /// An allocation failed. None of the faults before it applies, and a field, on some level, is
-    /// dictionary-encoded.
-    Memory,
-    /// Fixed-size byte strings would have more than 2,147,483,647 bytes each, or fixed-size lists
-    /// more than that many values.
-    ByteWidth,
-    /// There are more than 65,536 pairs of custom metadata in the whole schema.
-    TooManyPairs,
-    /// The child of a map is not a struct of two fields, or it is dictionary-encoded.
-    MapEntries,
-    /// The precision of a decimal is 0 or more than the number of digits that its width has, or its
-    /// scale is not from -76 to 76.
-    DecimalRange,
-}
-
-impl SchemaFault {
-    ghost use Rattle.arrow_types.specs.Schema.{number_of};
-
-    /// The fault's number, from 1.
-    pub fn number(self) -> u8
-        ensures { result ≡ number_of self }
-    {
-        match self {
-            SchemaFault::TooDeep => 1,
-            SchemaFault::TooManyFields => 2,
-            SchemaFault::NestedDictionary => 3,
-            SchemaFault::SharedIdTypesDiffer => 4,
-            SchemaFault::Memory => 5,
-            SchemaFault::ByteWidth => 6,
-            SchemaFault::TooManyPairs => 7,
-            SchemaFault::MapEntries => 8,
-            SchemaFault::DecimalRange => 9,
-        }
-    }
-}
-
-impl fmt::Display for SchemaFault {
-    ghost use Rattle.std.specs.Prelude.{Some};
-    ghost use Rattle.arrow_types.specs.Schema.{words_of};
-
-    ghost output = { λ f. Some (words_of f) };
-
-    fn fmt<W: fmt::Write>(&self, f: &mut fmt::Formatter<W>) -> fmt::Result {
-        match self {
-            SchemaFault::TooDeep => f.write_str("more than 32 levels of fields"),
-            SchemaFault::TooManyFields => f.write_str("more than 65,536 fields"),
-            SchemaFault::NestedDictionary => f.write_str("a dictionary below a dictionary"),
-            SchemaFault::SharedIdTypesDiffer => f.write_str(
-                "two value types for one dictionary id",
-            ),
-            SchemaFault::Memory => f.write_str("out of memory"),
-            SchemaFault::ByteWidth => f.write_str("a fixed size of more than 2,147,483,647"),
-            SchemaFault::TooManyPairs => f.write_str("more than 65,536 pairs of metadata"),
-            SchemaFault::MapEntries => f.write_str(
-                "a map whose child is not a struct of two fields",
-            ),
-            SchemaFault::DecimalRange => f.write_str(
-                "a decimal of a precision or a scale out of range",
-            ),
-        }
-    }
-}
-
-impl Error for SchemaFault {}
 
 /// The columns of a stream's batches (`Schema.fbs`, table `Schema`).
 ///
@@ -137,7 +62,7 @@ impl Schema {
 
     /// The greatest width of fixed-size byte strings, in bytes, and the greatest size of fixed-size
     /// lists, in values.
-    pub const MAX_WIDTH: u32 = 2_147_483_647;
+    pub const MAX_WIDTH: u32 = MAX_WIDTH;
 
     /// The greatest number of pairs of metadata, those of the schema and those of its fields on all
     /// levels together.

@@ -5,8 +5,7 @@ ghost use Rattle.arrow_types.specs.TypeSet.{field_leaves_out, is_core, is_late, 
 ghost use Rattle.arrow_types.specs.TypeSet.{leaves_some_out};
 ghost use Rattle.arrow_types.specs.View.{field_view, fields_view, type_view};
 
-use crate::data_type::DataType;
-use crate::field::Field;
+use crate::field::{DataType, Field};
 
 /// A set of types. A reader rejects a schema that has a type outside its set, and reports it as not
 /// supported; a writer does not write it.

@@ -1,31 +1,48 @@
-//! Changes of a stream, and the results of a reader for each, in numbers.
+//! Changes of a stream, and the results of a reader for each, in numbers: for the changed stream in
+//! one piece, and in small ones.
 
 use crate::findings::Findings;
 use crate::pack::Vector;
 use arrow_stream_reader::{Item, StreamReader};
 use std::alloc::{AllocError, Global};
 
-/// Compares the results of a reader for each change of a stream that a file lists; if `are_few`,
-/// only for the first and the last of the values of one byte.
+/// A stream of up to this many bytes is also delivered byte by byte, a longer one in pieces of
+/// `PIECE` bytes.
+const SHORT: usize = 400;
+
+/// How many bytes the pieces of a longer stream have.
+const PIECE: usize = 7;
+
+/// A file of changes.
+#[derive(Clone, Copy)]
+pub(crate) struct Family<'a> {
+    /// The file.
+    pub(crate) vector: &'a Vector<'a>,
+    /// The stream that it changes.
+    pub(crate) base: &'a [u8],
+    /// Whether the streams are only read in one piece, and of the values of one byte only the first
+    /// and the last are set.
+    pub(crate) are_whole: bool,
+}
+
+/// Compares the results of a reader for each change of a stream that a file lists.
 pub(crate) fn walk(
     alloc: Global,
     found: &mut Findings,
-    vector: &Vector<'_>,
-    base: &[u8],
-    are_few: bool,
+    family: Family<'_>,
 ) -> Result<(), AllocError> {
-    let mut reader = StreamReader::new(alloc, vector.limits());
-    for (number, line) in vector.text.split('\n').enumerate().skip(2) {
+    let mut reader = StreamReader::new(alloc, family.vector.limits());
+    for (number, line) in family.vector.text.split('\n').enumerate().skip(2) {
         if let Some((change, wanted)) = line.split_once(" -> ") {
             let mut tried = Tried {
                 alloc,
                 reader: &mut reader,
                 found,
+                family,
                 line: number.saturating_add(1),
-                are_few,
                 wanted,
             };
-            tried.change(base, change)?;
+            tried.change(change)?;
         }
     }
     Ok(())
@@ -86,14 +103,15 @@ struct Tried<'a> {
     alloc: Global,
     reader: &'a mut StreamReader,
     found: &'a mut Findings,
+    family: Family<'a>,
     line: usize,
-    are_few: bool,
     wanted: &'a str,
 }
 
 impl Tried<'_> {
     /// Tries the streams that a change describes.
-    fn change(&mut self, base: &[u8], change: &str) -> Result<(), AllocError> {
+    fn change(&mut self, change: &str) -> Result<(), AllocError> {
+        let base = self.family.base;
         if let Some((first, last)) = length_of(change) {
             for length in first..last.saturating_add(1) {
                 self.stream(base.get(..length).unwrap_or(base))?;
@@ -103,7 +121,7 @@ impl Tried<'_> {
         let mut stream = base.to_vec(self.alloc)?;
         if let (Some((first, last)), Some(place)) = (bytes_of(change), place_of(change)) {
             for value in first..last.saturating_add(1) {
-                if !self.are_few || value == first || value == last {
+                if !self.family.are_whole || value == first || value == last {
                     set(&mut stream, place, u8::try_from(value).unwrap_or(u8::MAX));
                     self.stream(&stream)?;
                 }
@@ -116,17 +134,28 @@ impl Tried<'_> {
         self.stream(&stream)
     }
 
-    /// Compares the results of the reader, which is restarted, for one stream.
+    /// Compares the results for one stream, in one piece and in small ones.
     fn stream(&mut self, stream: &[u8]) -> Result<(), AllocError> {
+        self.delivered("change in line", stream, stream.len())?;
+        self.found.count_end(self.family.vector, self.reader.end());
+        if self.family.are_whole {
+            return Ok(());
+        }
+        let size = if stream.len() <= SHORT { 1 } else { PIECE };
+        self.delivered("change, in pieces, in line", stream, size)
+    }
+
+    /// Compares the results of the reader, which is restarted, for one stream in pieces of this
+    /// size. The words say which change it is, in front of its line.
+    fn delivered(&mut self, words: &str, stream: &[u8], size: usize) -> Result<(), AllocError> {
         self.reader.restart();
-        let (batches, rows) = read_all(self.reader, stream);
+        let Counts { batches, rows } = read_all(self.reader, stream, size);
         let mut text = format!(in self.alloc; "batches {batches} rows {rows} end ")?;
         match self.reader.end() {
             Ok(()) => text.push_str("clean")?,
             Err(fault) => write!(text, "{} at {}", fault.kind, fault.place)?,
         }
-        self.found
-            .compare(("change in line", self.line), &text, self.wanted)
+        self.found.compare((words, self.line), &text, self.wanted)
     }
 }
 
@@ -150,19 +179,51 @@ fn set_all(stream: &mut [u8], setting: &str) {
     }
 }
 
-/// How many batches and rows a reader returns from a stream.
-fn read_all(reader: &mut StreamReader, stream: &[u8]) -> (u64, u64) {
-    let (mut batches, mut rows) = (0u64, 0u64);
-    let mut rest = stream;
-    for _ in 0..stream.len().saturating_add(1) {
-        let Ok((count, Some(item))) = reader.read(rest) else {
-            break;
-        };
-        rest = &rest[count..];
+/// What a reader returned from a stream.
+#[derive(Clone, Copy)]
+struct Counts {
+    batches: u64,
+    rows: u64,
+}
+
+impl Counts {
+    /// Gives a reader a piece, and counts what it returns. Returns whether the reader accepted it.
+    fn give(&mut self, reader: &mut StreamReader, piece: &[u8]) -> bool {
+        let mut rest = piece;
+        for _ in 0..piece.len().saturating_add(1) {
+            match reader.read(rest) {
+                Ok((count, Some(item))) => {
+                    rest = &rest[count..];
+                    self.add(&item);
+                }
+                Ok((_, None)) => return true,
+                Err(_) => return false,
+            }
+        }
+        false
+    }
+
+    fn add(&mut self, item: &Item) {
         if let Item::Batch(batch) = item {
-            batches = batches.saturating_add(1);
-            rows = rows.saturating_add(batch.rows() as u64);
+            self.batches = self.batches.saturating_add(1);
+            self.rows = self.rows.saturating_add(batch.rows() as u64);
         }
     }
-    (batches, rows)
+}
+
+/// How many batches and rows a reader returns from a stream in pieces of this size.
+fn read_all(reader: &mut StreamReader, stream: &[u8], size: usize) -> Counts {
+    let mut counts = Counts {
+        batches: 0,
+        rows: 0,
+    };
+    let mut rest = stream;
+    for _ in 0..stream.len().saturating_add(1) {
+        let (piece, after) = rest.split_at(size.min(rest.len()));
+        if !counts.give(reader, piece) || after.is_empty() {
+            break;
+        }
+        rest = after;
+    }
+    counts
 }

@@ -10,7 +10,8 @@
 //! | `copying` | what a reader reads of a copy, and that a copy of the copy is the copy |
 //! | `drilling` | the report of `drill` on a connection that breaks, and on three |
 //! | `breaking` | all these calls if the input ends early or fails, or the output fails |
-//! | `changes` | how many batches and rows a reader returns from a changed stream, and how that ends |
+//! | `changes` | how many batches and rows a reader returns from a changed stream, and how that ends: for the whole in one piece, and in small ones |
+//! | `kinds` | that each kind of fault rejects a vector or a changed stream of the core |
 //!
 //! No expected result is written down here: each is made of the lines of the text (`reported`), which
 //! come from a model in another language. The program prints a line for each vector, and the first
@@ -27,6 +28,7 @@ mod copying;
 mod drilling;
 mod findings;
 mod given;
+mod kinds;
 mod pack;
 mod reading;
 mod receiving;
@@ -35,9 +37,10 @@ mod reported;
 mod reports;
 mod values;
 
-use crate::changes::base_of;
+use crate::changes::{Family, base_of};
 use crate::findings::Findings;
 use crate::given::Given;
+use crate::kinds::LAST;
 use crate::pack::{Vector, batches_in, stream_of, vectors_in};
 use crate::reported::Reported;
 use std::alloc::{AllocError, Global};
@@ -78,16 +81,32 @@ where
         other: stream_of(&vectors, OTHER).unwrap_or(&[]),
         are_whole,
     };
-    let mut wrong = walk.each(rt, Part::Whole)?;
-    if wrong == 0 || !are_whole {
-        wrong = wrong.saturating_add(walk.each(rt, Part::Changes)?);
+    let mut found = Findings::new(rt.alloc());
+    walk.each(rt, &mut found, Part::Whole)?;
+    if found.total() == 0 || !are_whole {
+        walk.each(rt, &mut found, Part::Changes)?;
     }
-    if wrong == 0 && !are_whole {
-        wrong = walk.each(rt, Part::Pieces)?;
+    if found.total() == 0 && !are_whole {
+        walk.each(rt, &mut found, Part::Pieces)?;
     }
+    let is_as_expected = found.total() == 0 && print_missing(rt, &found)? == 0;
     let count = vectors.len();
     println!(rt; "{count} entries")?;
-    Ok(wrong == 0 && count > 0)
+    Ok(is_as_expected && count > 0)
+}
+
+/// Prints a line for each kind of fault that rejects no stream of the core. Returns how many there
+/// are.
+fn print_missing<R: AllocGlobal + Print>(rt: &R, found: &Findings) -> io::Result<u64> {
+    let mut missing = 0u64;
+    for number in 1..LAST.saturating_add(1) {
+        let count = found.rejected(number);
+        if count == 0 {
+            missing = missing.saturating_add(1);
+            println!(rt; "kind {number}: {count}")?;
+        }
+    }
+    Ok(missing)
 }
 
 /// What is walked of the vectors.
@@ -111,50 +130,55 @@ struct Walk<'a> {
 }
 
 impl Walk<'_> {
-    /// Walks a part of the vectors. Returns how many results are not as expected. If streams are
-    /// only delivered whole, the first vector with such a result is the last one walked.
-    fn each<R: AllocGlobal + Print>(&self, rt: &R, part: Part) -> io::Result<u64> {
-        let mut wrong = 0u64;
+    /// Walks a part of the vectors. If streams are only delivered whole, the first vector with a
+    /// result that is not as expected is the last one walked.
+    fn each<R: AllocGlobal + Print>(
+        &self,
+        rt: &R,
+        found: &mut Findings,
+        part: Part,
+    ) -> io::Result<()> {
         for vector in self.vectors {
-            if self.are_whole && wrong > 0 {
+            if self.are_whole && found.total() > 0 {
                 break;
             }
             if !vector.is_a_copy() {
-                wrong = wrong.saturating_add(self.one(rt, part, vector)?);
+                self.one(rt, found, part, vector)?;
             }
         }
-        Ok(wrong)
+        Ok(())
     }
 
-    /// Walks one vector, and prints it. Returns how many results are not as expected.
+    /// Walks one vector, and prints it.
     fn one<R: AllocGlobal + Print>(
         &self,
         rt: &R,
+        found: &mut Findings,
         part: Part,
         vector: &Vector<'_>,
-    ) -> io::Result<u64> {
+    ) -> io::Result<()> {
         let (alloc, is_of_changes) = (rt.alloc(), vector.is_of_changes());
-        let mut found = Findings::new(alloc);
+        found.begin(alloc);
         match part {
             Part::Changes if is_of_changes => {
-                self.changes(alloc, &mut found, vector)?;
-                print_line(rt, vector, changes::count(vector.text), &found)?;
+                self.changes(alloc, found, vector)?;
+                print_line(rt, vector, changes::count(vector.text), found)?;
             }
             Part::Whole if !is_of_changes => {
                 let reported = Reported::of(alloc, vector.lines())?;
-                self.whole(alloc, &mut found, vector, &reported)?;
+                self.whole(alloc, found, vector, &reported)?;
                 if found.wrong() > 0 {
-                    print_line(rt, vector, reported.messages.len(), &found)?;
+                    print_line(rt, vector, reported.messages.len(), found)?;
                 }
             }
             Part::Pieces if !is_of_changes => {
                 let reported = Reported::of(alloc, vector.lines())?;
-                self.pieces(alloc, &mut found, vector, &reported)?;
-                print_line(rt, vector, reported.messages.len(), &found)?;
+                self.pieces(alloc, found, vector, &reported)?;
+                print_line(rt, vector, reported.messages.len(), found)?;
             }
             _ => {}
         }
-        Ok(found.wrong())
+        Ok(())
     }
 
     fn changes(
@@ -165,7 +189,12 @@ impl Walk<'_> {
     ) -> Result<(), AllocError> {
         let name = base_of(vector.text).unwrap_or("");
         let base = stream_of(self.vectors, name).unwrap_or(&[]);
-        changes::walk(alloc, found, vector, base, self.are_whole)
+        let family = Family {
+            vector,
+            base,
+            are_whole: self.are_whole,
+        };
+        changes::walk(alloc, found, family)
     }
 
     fn whole(

@@ -13,6 +13,9 @@ use std::alloc::{AllocError, Global};
 /// The prefix of the name of a vector that is read with all types.
 const OF_ALL: &str = "all/";
 
+/// The prefix of the name of a row of `vectors/scripts/ROWS`.
+const OF_ROWS: &str = "ROWS.";
+
 /// A vector.
 #[derive(Clone, Copy)]
 pub(crate) struct Vector<'a> {
@@ -33,6 +36,12 @@ impl<'a> Vector<'a> {
     /// Whether it is a file of changes.
     pub(crate) fn is_of_changes(&self) -> bool {
         self.name.ends_with(".changes")
+    }
+
+    /// Whether it is a vector or a family of the folders of the core: no row of `ROWS`, and none of
+    /// all types.
+    pub(crate) fn is_of_core(&self) -> bool {
+        self.name.split_once('/').is_none() && !self.name.starts_with(OF_ROWS)
     }
 
     /// The limits with which it is read.

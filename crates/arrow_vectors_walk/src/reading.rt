@@ -12,7 +12,18 @@ use arrow_types::TypeSet;
 use std::alloc::{AllocError, Global};
 
 /// A stream of up to this many bytes is cut at each offset.
-const SMALL: u64 = 200;
+const SMALL: usize = 200;
+
+/// A vector of the core of up to this many bytes is cut at each offset too.
+const LONGER: usize = 1424;
+
+/// The vectors of such sizes that are not, since a few of their bytes are read as many fields or
+/// pairs.
+static SLOW: [&str; 3] = [
+    "pairs_over_the_limit",
+    "shared_fields_17_deep",
+    "shared_fields_8_deep",
+];
 
 /// Compares the results of a reader for the stream in one piece.
 pub(crate) fn walk_whole(
@@ -20,7 +31,9 @@ pub(crate) fn walk_whole(
     found: &mut Findings,
     vector: &Vector<'_>,
 ) -> Result<(), AllocError> {
-    let answers = answers_to(alloc, vector.stream, vector.types())?;
+    let mut reader = StreamReader::new(alloc, vector.limits());
+    let answers = answers_of(alloc, &mut reader, vector.stream)?;
+    found.count_end(vector, reader.end());
     found.compare(("read in pieces:", 1), &answers, vector.lines())
 }
 
@@ -40,13 +53,21 @@ pub(crate) fn walk_in_pieces(
     }
     answers.finish(&reader)?;
     found.compare(("read in pieces:", stream.len()), &answers.text, wanted)?;
+    let is_cut_everywhere = is_cut_everywhere(vector);
     for cut in 0..stream.len().saturating_add(1) {
-        if stream.len() as u64 <= SMALL || reported.is_chosen(cut as u64, stream.len() as u64) {
+        if is_cut_everywhere || reported.is_chosen(cut as u64, stream.len() as u64) {
             let answers = answers_when_cut(alloc, &mut reader, stream, cut)?;
             found.compare(("read, cut at", cut), &answers, wanted)?;
         }
     }
     Ok(())
+}
+
+/// Whether the stream is cut in two at each of its offsets.
+fn is_cut_everywhere(vector: &Vector<'_>) -> bool {
+    let (size, name) = (vector.stream.len(), vector.name);
+    let is_longer = size <= LONGER && vector.is_of_core() && !SLOW.iter().any(|it| *it == name);
+    size <= SMALL || is_longer
 }
 
 /// The results of a reader of these types for a stream in one piece, in the form of a vector's
@@ -57,9 +78,18 @@ pub(crate) fn answers_to(
     types: TypeSet,
 ) -> Result<String, AllocError> {
     let mut reader = StreamReader::new(alloc, limits_of(types));
+    answers_of(alloc, &mut reader, stream)
+}
+
+/// The results of a reader, which has read nothing, for a stream in one piece.
+fn answers_of(
+    alloc: Global,
+    reader: &mut StreamReader,
+    stream: &[u8],
+) -> Result<String, AllocError> {
     let mut answers = Answers::new(alloc);
-    answers.give(&mut reader, stream)?;
-    answers.finish(&reader)?;
+    answers.give(reader, stream)?;
+    answers.finish(reader)?;
     Ok(answers.text)
 }
 

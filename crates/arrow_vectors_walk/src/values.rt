@@ -1,6 +1,7 @@
 //! Values in the text of a vector.
 
-use arrow_data::{Array, Batch, Decimal, Dictionary, Interval, SlotValue, floats, half};
+use arrow_data::{Array, Batch, Dictionary, SlotValue};
+use arrow_layout::{Decimal, Interval, floats, half};
 use arrow_types::{DataType, Field, Precision};
 use ryu::{Buffer, Float};
 use std::alloc::AllocError;

@@ -17,10 +17,9 @@ use Rattle.std_alloc.specs.Box.Ownership.{box_owns}
 use Rattle.std.specs.declared.option.Option.{Option}
 use Rattle.std.specs.declared.option.Option.TheVariants.{Some}
 use Rattle.std.specs.contracts.impls.GlobalAllocator.TheImpl.{ghosts}
-use Rattle.arrowflow_c.specs.Owned.{heap as the_heap}
-use Rattle.arrowflow_c.specs.OwnedCopier.{owned_copier}
-use Rattle.arrowflow_c.specs.declared.pieces.Copying.{Copying}
-use Rattle.arrowflow_c.specs.contracts.pieces.Copying as held
+use Rattle.arrowflow_c.specs.Owned.{owned_copier, heap as the_heap}
+use Rattle.arrowflow_calls.specs.declared.pieces.Copying.{Copying}
+use Rattle.arrowflow_calls.specs.contracts.pieces.Copying as held
 use Rattle.arrowflow_c.specs.contracts.copier_slot.CopierSlot as slot
 use Rattle.arrowflow_c.proofs.Addresses.{one_val}
 

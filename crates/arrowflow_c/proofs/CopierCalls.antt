@@ -2,12 +2,12 @@
 use Rattle.std.proofs.Common.{◌≡◌, ℕ, List, Option, Some, refl, sym, subst, inl}
 use Rattle.arrowflow_copy.specs.CopierShown.{copier_view}
 use Rattle.arrowflow_copy.specs.Pieces.{PutsEnd, PutsPiece, TakesWritten}
-use Rattle.arrowflow_c.specs.Copied.{EndsCopy, IsFresh, OpensCopier, PutsIf, TakesIf, copied_reported}
-use Rattle.arrowflow_c.specs.Terms.{AreLimits, numbers, options_by}
-use Rattle.arrowflow_c.specs.declared.pieces.CopiedC.{CopiedC}
-use Rattle.arrowflow_c.specs.declared.pieces.Copying.{Copying}
-use Rattle.arrowflow_c.specs.declared.terms.LimitsC.{LimitsC}
-use Rattle.arrowflow_c.specs.declared.terms.OptionsC.{OptionsC}
+use Rattle.arrowflow_calls.specs.Copied.{EndsCopy, IsFresh, OpensCopier, PutsIf, TakesIf, copied_reported}
+use Rattle.arrowflow_calls.specs.Terms.{AreLimits, numbers, options_by}
+use Rattle.arrowflow_calls.specs.declared.pieces.CopiedC.{CopiedC}
+use Rattle.arrowflow_calls.specs.declared.pieces.Copying.{Copying}
+use Rattle.arrowflow_calls.specs.declared.terms.LimitsC.{LimitsC}
+use Rattle.arrowflow_calls.specs.declared.terms.OptionsC.{OptionsC}
 
 -- one was made
 pub opens : (limits : LimitsC) (options : OptionsC) (c : Copying) (new : Option Copying) → AreLimits limits → IsFresh (numbers limits) (options_by options) (copier_view c.copier) → new ≡ Some c → OpensCopier limits options 0 new

@@ -3,14 +3,14 @@ use Rattle.std.specs.Float.{float_zero}
 use Rattle.std.specs.Prelude.{◌≡◌, ◌^◌, ◌<◌, ◌≤◌, ℕ, ℤ, pos, negsuc, nat_lt, if◌then◌else◌, false, List, length, Option, Some, None, MatchOption, slice_get}
 use Rattle.arrow_data.specs.Batch.{Table}
 use Rattle.arrow_data.specs.Column.{Column}
-use Rattle.arrow_data.specs.Floats.{bits_in, number_of}
-use Rattle.arrow_data.specs.PlainValue.{PlainValue, value_at, null_value, bool_value, int_value, binary_value, utf8_value, list_value, struct_value}
+use Rattle.arrow_layout.specs.Floats.{bits_in, number_of}
+use Rattle.arrow_layout.specs.PlainValue.{PlainValue, value_at, null_value, bool_value, int_value, binary_value, utf8_value, list_value, struct_value}
 use Rattle.arrow_data.specs.declared.array.SlotValue.{SlotValue}
 use Rattle.arrow_data.specs.declared.array.SlotValue.TheVariants as values
 use Rattle.arrow_types.specs.DataType.{TypeId, floating_point}
 use Rattle.arrowflow_c.specs.declared.cells.CellC.{CellC}
-use Rattle.arrowflow_c.specs.declared.reading.Reading.{Reading}
-use Rattle.arrowflow_c.specs.Texts.{filled}
+use Rattle.arrowflow_calls.specs.declared.reading.Reading.{Reading}
+use Rattle.arrowflow_calls.specs.Texts.{filled}
 
 -- a cell with only this kind
 abbrev pub bare_cell : ℕ → CellC

@@ -1,19 +1,18 @@
--- What is reported of a column of a batch: its buffers, and where they lie (Columnar Format, "Physical Memory
--- Layout").
+-- What is reported of a column: its buffers, and where they lie (Columnar Format, "Physical Memory Layout").
 use Rattle.std.specs.Prelude.{◌≡◌, ◌⊎◌, ◌≤◌, ℕ, Bool, true, false, if◌then◌else◌, List, [], ◌∷◌, length, Option, Some, None, MatchOption, slice_get}
 use Rattle.arrow_data.specs.Batch.{Table}
 use Rattle.arrow_data.specs.Column.{Column, HasChild, HasDictionary, HasField, HasValue, IsList, ValueList, struct_fields, type_of_field}
-use Rattle.arrow_data.specs.Form.{offset_bytes}
+use Rattle.arrow_layout.specs.Form.{offset_bytes}
 use Rattle.arrow_data.specs.View.{AreBuffersOf}
 use Rattle.arrow_types.specs.DataType.{TypeId, floating_point}
-use Rattle.arrow_data.specs.declared.form.ListForm.{ListForm}
-use Rattle.arrow_data.specs.declared.form.ListForm.TheVariants as lists
+use Rattle.arrow_layout.specs.declared.form.ListForm.{ListForm}
+use Rattle.arrow_layout.specs.declared.form.ListForm.TheVariants as lists
 use Rattle.arrow_data.specs.declared.view.Buffers.{Buffers}
 use Rattle.arrow_data.specs.declared.view.Buffers.TheVariants as buffers
-use Rattle.arrow_data.specs.declared.view.NumberBuffers.{NumberBuffers}
-use Rattle.arrow_data.specs.declared.view.StringBuffers.{StringBuffers}
+use Rattle.arrow_layout.specs.declared.slot_buffers.NumberBuffers.{NumberBuffers}
+use Rattle.arrow_layout.specs.declared.slot_buffers.StringBuffers.{StringBuffers}
 use Rattle.arrowflow_c.specs.declared.columns.ColumnC.{ColumnC}
-use Rattle.arrowflow_c.specs.declared.reading.Reading.{Reading}
+use Rattle.arrowflow_calls.specs.declared.reading.Reading.{Reading}
 
 -- a column as its buffers, each by its bytes
 pub record PlainColumn : Type 0 where

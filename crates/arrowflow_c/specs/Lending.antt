@@ -4,9 +4,9 @@ use Rattle.std.specs.Prelude.{◌≡◌, Some}
 use Rattle.std.specs.Borrow.{Lends, MutBor}
 use Rattle.std.specs.Io.BufRead.{Rests}
 use Rattle.arrowflow_c.specs.declared.handle.ReaderC.{ReaderC}
-use Rattle.arrowflow_c.specs.declared.reading.Reading.{Reading}
+use Rattle.arrowflow_calls.specs.declared.reading.Reading.{Reading}
 use Rattle.arrowflow_c.specs.declared.slot.Slot.{Slot}
-use Rattle.arrowflow_c.specs.contracts.reading.Reading.{the_row as held_row}
+use Rattle.arrowflow_calls.specs.contracts.reading.Reading.{the_row as held_row}
 use Rattle.arrowflow_c.specs.contracts.slot.Slot.{the_row}
 use Rattle.arrowflow_c.specs.contracts.handle.ReaderC.{the_row as handle_row}
 

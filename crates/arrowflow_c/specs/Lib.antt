@@ -1,16 +1,4 @@
-pub mod Terms
-pub mod Kinds
-pub mod Survey
-pub mod Texts
 pub mod Owned
-pub mod Steps
-pub mod Reading
 pub mod Cells
 pub mod Columns
 pub mod Lending
-pub mod Pens
-pub mod Fields
-pub mod Copied
-pub mod OwnedCopier
-pub mod Culprit
-pub mod Blame

@@ -5,10 +5,10 @@ ghost use Rattle.arrow_types.specs.View.{type_view};
 ghost use Rattle.arrowflow_c.specs.Cells.{CellAt, GivesShown, InColumn, bare_cell, int_cell};
 ghost use Rattle.arrowflow_c.specs.Cells.{no_cell, number_cell};
 
-use crate::texts::fill;
-use arrow_data::floats::number_of;
 use arrow_data::{Array, Batch, SlotValue};
+use arrow_layout::floats::number_of;
 use arrow_types::DataType;
+use arrowflow_calls::fill;
 
 /// A value of a batch.
 #[repr(C)]
@@ -25,11 +25,9 @@ pub struct CellC {
     pub number: i64,
     /// The number, if it is above 2^63 - 1.
     pub large: u64,
-    /// The floating-point number: one of 16 or 32 bits is widened; if it is not a number, this is
-    /// some NaN.
+    /// The floating-point number, widened if it has 16 or 32 bits; some NaN if it is not a number.
     pub real: f64,
-    /// How many bytes the byte string or the text has, whether they fit into the output buffer or
-    /// not.
+    /// How many bytes the byte string or the text has, also if the output buffer is shorter.
     pub size: u64,
 }
 
@@ -74,8 +72,7 @@ impl CellC {
         }
     }
 
-    /// The number that a value of this type is: for a floating-point type the one that its bits
-    /// encode.
+    /// The number that a value of this type is, for floating point the one that its bits encode.
     fn of_int(data_type: &DataType, number: i128) -> CellC
         ensures { result ≡ int_cell (type_view data_type.now).tag number }
     {
@@ -88,8 +85,7 @@ impl CellC {
         }
     }
 
-    /// A value of this type; as much of a byte string or a text as fits is put into the output
-    /// buffer.
+    /// A value of this type; of a byte string or a text, as much as fits is put into the output.
     fn of(data_type: &DataType, value: SlotValue<'_>, room: &mut [u8]) -> CellC
         ensures { GivesShown (type_view data_type.now).tag value.entry room.old result room.new }
     {

@@ -7,8 +7,9 @@ ghost use Rattle.arrow_types.specs.View.{type_view};
 ghost use Rattle.arrowflow_c.specs.Columns.{bare_column, is_float, no_column, plain_of, column_of};
 ghost use Rattle.arrowflow_c.specs.Columns.{with_lists, with_numbers, with_strings, with_values};
 
-use arrow_data::form::ListForm;
-use arrow_data::{Array, Batch, Buffers, Dictionary, NumberBuffers, StringBuffers};
+use arrow_data::{Array, Batch, Buffers, Dictionary};
+use arrow_layout::form::ListForm;
+use arrow_layout::{NumberBuffers, StringBuffers};
 use arrow_types::DataType;
 
 /// A column as its buffers.

@@ -1,18 +1,15 @@
 //! Streams that are written again as their pieces come.
 
 ghost use Rattle.std.specs.Prelude.{◌≡◌, None};
-ghost use Rattle.arrowflow_c.specs.Copied.{EndsCopy, OpensCopier, PutsIf, TakesIf};
+ghost use Rattle.arrowflow_calls.specs.Copied.{EndsCopy, OpensCopier, PutsIf, TakesIf};
 
 use crate::copier_handle::CopierC;
-use crate::kinds::{BAD_LIMITS, MEMORY};
-use crate::pieces::{CopiedC, Copying};
-use crate::terms::{LimitsC, OptionsC};
+use arrowflow_calls::{BAD_LIMITS, CopiedC, Copying, LimitsC, MEMORY, OptionsC};
 use std::alloc::Global;
 use std::mem::replace;
 
 /// Makes a copier of a new stream, in place of the one that the handle has. Returns 0; or 19 if an
-/// allocation failed and 20 if a limit is above its ceiling or there is no such set of types, and
-/// then the handle has none.
+/// allocation failed, 20 if a limit is above its ceiling or no such types exist; then it is empty.
 #[unsafe(no_mangle)]
 pub extern "C" fn arrowflow_copier_open(
     alloc: Global,

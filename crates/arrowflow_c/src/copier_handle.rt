@@ -3,8 +3,8 @@
 ghost use Rattle.std.specs.Prelude.{◌≡◌, None, Some, is_some, option_map};
 
 use crate::copier_slot::CopierSlot;
-use crate::pieces::Copying;
 use crate::raw_box::RawBox;
+use arrowflow_calls::Copying;
 use std::alloc::Global;
 
 /// A handle, with a copier or without one.

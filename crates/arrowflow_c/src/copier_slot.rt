@@ -2,11 +2,11 @@
 
 ghost use Rattle.std.specs.Prelude.{◌≡◌, IsTrue, None, Option, Some, is_some};
 ghost use Rattle.std.specs.Coded.{coded_option};
-ghost use Rattle.arrowflow_c.specs.contracts.pieces.Copying.{the_row as held_row};
-ghost use Rattle.arrowflow_c.specs.declared.pieces.Copying.{Copying as Held};
+ghost use Rattle.arrowflow_calls.specs.contracts.pieces.Copying.{the_row as held_row};
+ghost use Rattle.arrowflow_calls.specs.declared.pieces.Copying.{Copying as Held};
 
-use crate::pieces::Copying;
 use crate::raw_box::RawBox;
+use arrowflow_calls::Copying;
 use std::alloc::Global;
 use std::marker::Model;
 use std::ptr::null_mut;
@@ -20,7 +20,7 @@ pub struct CopierSlot {
 }
 
 impl Model for CopierSlot {
-    ghost use Rattle.arrowflow_c.specs.OwnedCopier.{owned_copier};
+    ghost use Rattle.arrowflow_c.specs.Owned.{owned_copier};
 
     ghost also_owns = { λ s. owned_copier s.at s.value };
 }

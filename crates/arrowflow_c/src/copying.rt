@@ -1,18 +1,15 @@
 //! Streams in memory, written again.
 
-ghost use Rattle.arrowflow_c.specs.Terms.{numbers, options_by};
-ghost use Rattle.arrowflow_c.specs.Texts.{Gives, IsCopied};
+ghost use Rattle.arrowflow_calls.specs.Terms.{numbers, options_by};
+ghost use Rattle.arrowflow_calls.specs.Texts.{Gives, IsCopied};
 
-use crate::kinds::BAD_LIMITS;
-use crate::terms::{LimitsC, OptionsC};
-use crate::texts::TextC;
 use arrow_sink::Counted;
+use arrowflow_calls::{BAD_LIMITS, LimitsC, OptionsC, TextC};
 use arrowflow_copy::copy;
 use std::alloc::Global;
 
 /// Writes a stream again: the stream of the batches that were read, as `arrowflow copy` writes it.
-/// As much of it as fits is put into the output buffer: with an empty buffer the call measures its
-/// size.
+/// As much of it as fits is put into the output buffer: an empty buffer only measures its size.
 #[unsafe(no_mangle)]
 pub extern "C" fn arrowflow_copy(
     alloc: Global,

@@ -4,24 +4,21 @@ ghost use Rattle.std.specs.Borrow.{sem};
 ghost use Rattle.std.specs.Prelude.{◌≡◌, None, option_map};
 ghost use Rattle.arrowflow_c.specs.Cells.{CellIf};
 ghost use Rattle.arrowflow_c.specs.Columns.{ColumnIf};
-ghost use Rattle.arrowflow_c.specs.Fields.{FieldIf};
+ghost use Rattle.arrowflow_calls.specs.Fields.{FieldIf};
 ghost use Rattle.arrowflow_c.specs.Lending.{KeepsReader};
-ghost use Rattle.arrowflow_c.specs.Reading.{Ends, Opens, ReadsIf};
+ghost use Rattle.arrowflow_calls.specs.Reading.{Ends, Opens, ReadsIf};
 
 use crate::cells::{CellC, cell_at};
 use crate::columns::{ColumnC, column_at};
-use crate::fields::{FieldC, report_field};
 use crate::handle::ReaderC;
-use crate::kinds::{BAD_LIMITS, MEMORY, NO_HANDLE};
-use crate::reading::Reading;
-use crate::steps::{FaultC, StepC};
-use crate::terms::LimitsC;
+use arrowflow_calls::{
+    BAD_LIMITS, FaultC, FieldC, LimitsC, MEMORY, NO_HANDLE, Reading, StepC, report_field,
+};
 use std::alloc::Global;
 use std::mem::replace;
 
 /// Makes a reader of a new stream, in place of the one that the handle has. Returns 0; or 19 if an
-/// allocation failed and 20 if a limit is above its ceiling or there is no such set of types, and
-/// then the handle has none.
+/// allocation failed, 20 if a limit is above its ceiling or no such types exist; then it is empty.
 #[unsafe(no_mangle)]
 pub extern "C" fn arrowflow_reader_open(alloc: Global, limits: LimitsC, reader: &mut ReaderC) -> u32
     ensures { Opens limits result reader.new.slot.value }

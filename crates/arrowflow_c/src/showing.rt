@@ -1,12 +1,10 @@
 //! Streams in memory, printed as text.
 
-ghost use Rattle.arrowflow_c.specs.Terms.{numbers};
-ghost use Rattle.arrowflow_c.specs.Texts.{Gives, IsSchemaReported, IsShown, IsReported};
+ghost use Rattle.arrowflow_calls.specs.Terms.{numbers};
+ghost use Rattle.arrowflow_calls.specs.Texts.{Gives, IsSchemaReported, IsShown, IsReported};
 
-use crate::kinds::BAD_LIMITS;
-use crate::terms::LimitsC;
-use crate::texts::TextC;
 use arrow_sink::Counted;
+use arrowflow_calls::{BAD_LIMITS, LimitsC, TextC};
 use arrowflow_text::{check, schema_text, show};
 use std::alloc::Global;
 

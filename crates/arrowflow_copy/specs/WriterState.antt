@@ -18,8 +18,3 @@ sink_in (Writing writer) = writer.sink
 -- the output passed on all that it accepted
 abbrev pub IsPassedOn : {S : Type 0} → (S → Type 0) → WriterState S → Type 0
 IsPassedOn passed target = passed (sink_in target)
-
--- no schema came yet
-abbrev pub IsWaiting : {S : Type 0} → WriterState S → Type 0
-IsWaiting (Waiting sink) = Unit {0}
-IsWaiting (Writing writer) = ⊥

@@ -13,8 +13,9 @@ use arrow_sink::{Sink, WriteFault};
 use arrow_stream_reader::{Item, StreamReader};
 use arrow_stream_writer::{Options, StreamWriter};
 use arrow_types::{Limits, Schema};
-use arrowflow_input::{Consumer, RefusedItem, ToolFault, Wants};
+use arrowflow_input::{Consumer, RefusedItem, ToolFault};
 use std::alloc::Global;
+use std::ops::ControlFlow;
 
 /// The output of the new stream: the sink as it was passed, or, once the schema was read, a writer
 /// over it.
@@ -64,10 +65,10 @@ impl<S: Sink> Consumer for Copier<S> {
         reader: &StreamReader,
         _place: u64,
         item: Item,
-    ) -> (Self, Result<Wants, ToolFault>) {
+    ) -> (Self, Result<ControlFlow<()>, ToolFault>) {
         let (copier, answer) = self.take(reader, &item);
         match answer {
-            Ok(()) => (copier, Ok(Wants::More)),
+            Ok(()) => (copier, Ok(ControlFlow::Continue(()))),
             Err(fault) => (copier, Err(fault)),
         }
     }

@@ -5,7 +5,8 @@ ghost use Rattle.std.specs.Prelude.{◌<◌, ◌-◌, ◌^◌};
 use crate::copier::Copier;
 use crate::outbox::Outbox;
 use arrow_stream_reader::{Item, StreamReader};
-use arrowflow_input::{Consumer, ToolFault, Wants};
+use arrowflow_input::{Consumer, ToolFault};
+use std::ops::ControlFlow;
 
 /// A copy whose output gave away the first bytes that it held. In the consumer's contract these
 /// bytes are still there: the record of how the copy began has them.
@@ -39,10 +40,10 @@ impl Consumer for PartCopier {
         reader: &StreamReader,
         _place: u64,
         item: Item,
-    ) -> (Self, Result<Wants, ToolFault>) {
+    ) -> (Self, Result<ControlFlow<()>, ToolFault>) {
         let (copier, answer) = self.copier.take(reader, &item);
         match answer {
-            Ok(()) => (PartCopier { copier }, Ok(Wants::More)),
+            Ok(()) => (PartCopier { copier }, Ok(ControlFlow::Continue(()))),
             Err(fault) => (PartCopier { copier }, Err(fault)),
         }
     }

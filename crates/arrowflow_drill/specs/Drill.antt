@@ -11,8 +11,7 @@ use Rattle.arrowflow_input.specs.declared.tool_fault.ToolFault.TheVariants.{Inpu
 use Rattle.arrowflow_drill.specs.Lines.{lines_from}
 use Rattle.arrowflow_drill.specs.Reading.{AreRead, Asks, EndsReading}
 
--- the requests for the connections are the same, one by one: nothing has changed except the pieces in which they are
--- delivered
+-- the requests for the connections are the same, one by one, except for the pieces in which they are delivered
 abbrev pub AskTheSame : List Connection → List Connection → Type 0
 AskTheSame old new = map asked_of new ≡ map asked_of old
 

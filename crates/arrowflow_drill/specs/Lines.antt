@@ -22,8 +22,7 @@ use Rattle.arrowflow_drill.specs.Counts.{rows_in}
 abbrev pub line_start : ℕ → List ℕ
 line_start number = codes "connection " ++ decimal number ++ codes ": "
 
--- how many bytes were written in these parts, and how many of them, at most `deliver`, were delivered in pieces of
--- this length
+-- the number of bytes in these parts, and how many of them, at most `deliver`, came in pieces of this length
 unfoldable pub written_line : ℕ → List (List ℕ) → ℕ → ℕ → List ℕ
 written_line number parts deliver piece =
     line_start number ++ codes "wrote " ++ decimal (length (joined parts)) ++ codes " bytes in " ++ decimal (length parts) ++ codes " parts, delivered "
@@ -66,8 +65,7 @@ ending_text (Fault fault) = name_of fault.kind ++ codes " at " ++ decimal fault.
 unfoldable pub ending_line : ℕ → Ending → List ℕ
 ending_line number ending = line_start number ++ codes "ending " ++ ending_text ending ++ codes "\n"
 
--- The lines of the connection of this number, for this request and this report: it was delivered in pieces of this
--- length.
+-- The lines of the connection of this number, for this request and report: it came in pieces of this length.
 abbrev pub connection_lines : ℕ → ℕ → Asked → Reported → List ℕ
 connection_lines piece number c r =
     written_line number r.parts c.deliver piece ++ flat_map (refusal_line number) r.refused ++ handed_line number r.handed (length c.batches)

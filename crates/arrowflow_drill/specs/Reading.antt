@@ -36,8 +36,7 @@ pub record IsRefusedStream (limits : LimitNumbers) (bytes : List ℕ) (left : Op
 
 -- ---- connections
 
--- how streams are read, and the further requests for their connections: how they are sent, and how many bytes are
--- delivered
+-- how streams are read, and how those of their connections are sent, and how many bytes are delivered
 pub record Asks : Type 0 where
   pub limits : LimitNumbers
   pub options : Options
@@ -50,8 +49,7 @@ pub record IsConnectionOf (asks : Asks) (bytes : List ℕ) (left : Option (List 
   pub finishes : c.finish ≡ true
   pub delivers : c.deliver ≡ asks.deliver
 
--- The result for the input of this number. The only fault that belongs to the input itself is a failed read, which
--- occurs only if the input has failed.
+-- The result for the input of this number. The only fault of the input itself is a failed read, if it has failed.
 abbrev pub Brings : Asks → ℕ → List ℕ → Option (List ℕ) → Type 0 → Result Asked ToolFault → Type 0
 Brings asks number bytes left failed (Ok c) = IsConnectionOf asks bytes left c
 Brings asks number bytes left failed (Err (Stream fault)) = IsRefusedStream asks.limits bytes left fault
@@ -78,8 +76,7 @@ abbrev pub asked_in : Result Connection ToolFault → Result Asked ToolFault
 asked_in (Ok c) = Ok (asked_of c)
 asked_in (Err fault) = Err fault
 
--- The inputs from this number on, each of which had bytes before and has bytes after it, were read one after another,
--- each as a connection.
+-- The inputs from this number on, with their bytes before and after, were read one by one, each as a connection.
 abbrev pub AreRead : {R : Type 0} → (R → Option (List ℕ)) → (R → Type 0) → Asks → ℕ → List R → List R → List Asked → Type 0
 AreRead remaining has_failed asks number [] [] [] = Unit {0}
 AreRead remaining has_failed asks number [] [] (c ∷ cs) = ⊥
@@ -89,8 +86,7 @@ AreRead remaining has_failed asks number (had ∷ hads) (left ∷ lefts) [] = �
 AreRead remaining has_failed asks number (had ∷ hads) (left ∷ lefts) (c ∷ cs) =
     IsRead asks number (remaining had) (remaining left) (has_failed left) (Ok c) × AreRead remaining has_failed asks (number + 1) hads lefts cs
 
--- One of them ended the reading with this fault: those before it were read as connections, those after it were not
--- read.
+-- One of them ended the reading with this fault: those before it were read as connections, no other was read.
 abbrev pub EndsReading : {R : Type 0} → (R → Option (List ℕ)) → (R → Type 0) → Asks → ℕ → List R → List R → ToolFault → Type 0
 EndsReading remaining has_failed asks number [] lefts fault = ⊥
 EndsReading remaining has_failed asks number (had ∷ hads) [] fault = ⊥

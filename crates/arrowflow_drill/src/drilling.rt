@@ -51,8 +51,7 @@ pub fn drill<R: Input>(
     Ok(text_of(alloc, &connections, &reports, piece)?)
 }
 
-/// Runs connections in pieces of this length. A first run, in one piece, determines how many pieces
-/// there are.
+/// Runs connections in pieces of this length; a first run, in one piece, shows how many.
 fn rehearse(
     alloc: Global,
     limits: &Limits,
@@ -67,8 +66,7 @@ fn rehearse(
     run(alloc, limits, connections)
 }
 
-/// Has each connection delivered in pieces of this length. The reports give the number of its
-/// bytes.
+/// Has each connection delivered in pieces of this length, by the numbers of its bytes.
 fn cut_up(
     alloc: Global,
     connections: &mut [Connection],

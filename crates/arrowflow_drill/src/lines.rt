@@ -24,8 +24,7 @@ pub(crate) struct Outcome<'a> {
     pub(crate) report: &'a Report,
 }
 
-/// Appends the lines of the connection of this number, which was delivered in pieces of this
-/// length.
+/// Appends the lines of the connection of this number, delivered in pieces of this length.
 pub(crate) fn push_connection(
     text: &mut String,
     number: usize,

@@ -22,8 +22,7 @@ pub(crate) struct DrillOptions {
     pub(crate) deliver: u64,
 }
 
-/// Reads the inputs one after the other, each as a connection. The first that cannot be read or is
-/// rejected ends the reading.
+/// Reads the inputs one by one, each as a connection, up to one that is rejected or not read.
 pub(crate) fn read_all<R: Input>(
     terms: &DrillOptions,
     inputs: &mut [R],

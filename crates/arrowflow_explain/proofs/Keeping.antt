@@ -18,9 +18,9 @@ use Rattle.arrowflow_input.specs.declared.driver.Progress.TheVariants.{GoesOn, M
 use Rattle.arrowflow_input.specs.declared.tool_fault.ToolFault.{ToolFault}
 use Rattle.arrowflow_input.proofs.Driving.{badly_at, snapshot_of, well_at}
 use Rattle.arrowflow_input.proofs.Schemas.{front_after}
-use Rattle.arrowflow_explain.specs.Bodies.{SpotHolds}
-use Rattle.arrowflow_explain.specs.Counting.{HasCounted, HasEndedWell}
-use Rattle.arrowflow_explain.specs.Holds.{Holds}
+use Rattle.arrowflow_contents.specs.Bodies.{SpotHolds}
+use Rattle.arrowflow_contents.specs.Counting.{HasCounted, HasEndedWell}
+use Rattle.arrowflow_diagnosis.specs.Holds.{Holds}
 use Rattle.arrowflow_explain.specs.Explains.{IsKept, IsMadeOf, IsRefusalOf, KeepsPiece}
 use Rattle.arrowflow_explain.specs.declared.explanation.RejectedMessage.{RejectedMessage}
 
@@ -76,6 +76,7 @@ refused_at limits bytes left r kept fault refusal same k bad made = record {
   leaves = leaves limits bytes r k.entries k.position same;
   badly = subst (EndsBadly left (snapshot_of r k.position.rest)) (sym made.same) (badly_at r bytes k.entries left fault k.position bad);
   message = made.message ∙ k.same;
+  within = made.within;
   kind = made.kind ∙ sym (ap (λ (f : Fault). f.kind) made.same);
   holds = subst (λ h. Holds refusal.diagnosis (record { limits = limits; state = r.at.state; place = r.at.place; bytes = h })) k.same made.holds;
   spot = subst (λ h. IfSome refusal.spot (λ spot. SpotHolds spot (record { limits = limits; state = r.at.state; place = r.at.place; bytes = h }))) k.same made.spot;

@@ -13,10 +13,10 @@ use Rattle.arrowflow_input.specs.declared.driver.Progress.{Progress}
 use Rattle.arrowflow_input.specs.declared.driver.Progress.TheVariants.{GoesOn, Marker, Stopped}
 use Rattle.arrowflow_input.specs.declared.tool_fault.ToolFault.{ToolFault}
 use Rattle.arrowflow_input.specs.declared.tool_fault.ToolFault.TheVariants.{Input, Output, Stream, Refused, Memory}
-use Rattle.arrowflow_explain.specs.Bodies.{SpotHolds}
-use Rattle.arrowflow_explain.specs.Counting.{HasEndedWell}
-use Rattle.arrowflow_explain.specs.Holds.{Holds, kind_of}
-use Rattle.arrowflow_explain.specs.Rejection.{Situation}
+use Rattle.arrowflow_contents.specs.Bodies.{SpotHolds}
+use Rattle.arrowflow_contents.specs.Counting.{HasEndedWell}
+use Rattle.arrowflow_diagnosis.specs.Holds.{Holds, kind_of}
+use Rattle.arrowflow_diagnosis.specs.Rejection.{Situation}
 use Rattle.arrowflow_explain.specs.declared.explanation.Explanation.{Explanation}
 use Rattle.arrowflow_explain.specs.declared.explanation.Explanation.TheVariants.{Sound, Rejected}
 use Rattle.arrowflow_explain.specs.declared.explanation.RejectedMessage.{RejectedMessage}
@@ -25,19 +25,19 @@ use Rattle.arrowflow_explain.specs.declared.explanation.RejectedMessage.{Rejecte
 abbrev pub situation_at : LimitNumbers → Snapshot → Situation
 situation_at limits e = record { limits = limits; state = e.state; place = e.place; bytes = e.rest }
 
--- The stream of these bytes ends badly, with this fault. The bytes that were kept are those of the current message.
--- The diagnosis has the fault's kind and holds for these bytes; so does the body spot, if there is one.
+-- The stream of these bytes, read within these limits, ends with this fault. The bytes that were kept are those of the
+-- current message. The diagnosis has the fault's kind and holds for these bytes; so does a body spot.
 pub record IsRefusalOf (refusal : RejectedMessage) (limits : LimitNumbers) (bytes : List ℕ) (left : Option (List ℕ)) : Type 0 where
   pub snapshot : Snapshot
   pub leaves : LeavesStream limits bytes snapshot
   pub badly : EndsBadly left snapshot refusal.fault
   pub message : refusal.message.items ≡ snapshot.rest
+  pub within : refusal.limits ≡ limits
   pub kind : kind_of refusal.diagnosis ≡ refusal.fault.kind
   pub holds : Holds refusal.diagnosis (situation_at limits snapshot)
   pub spot : IfSome refusal.spot (λ spot. SpotHolds spot (situation_at limits snapshot))
 
--- The result after these bytes were read of an input of which this is left: the same as a check's, and for a fault of
--- the stream the reason for it.
+-- The result after these bytes were read of an input with this left: that of a check, with the reason for a fault.
 abbrev pub Explains : LimitNumbers → List ℕ → Option (List ℕ) → Result Explanation ToolFault → Type 0
 Explains limits bytes left (Ok (Sound summary)) = Checks limits bytes left (Ok tt)
 Explains limits bytes left (Ok (Rejected refusal)) = IsRefusalOf refusal limits bytes left
@@ -55,6 +55,7 @@ ExplainsInput limits had left answer = (bytes : List ℕ) × Consumes had left b
 pub record IsMadeOf (fault : Fault) (limits : LimitNumbers) (at : Snapshot) (kept : List ℕ) (refusal : RejectedMessage) : Type 0 where
   pub same : refusal.fault ≡ fault
   pub message : refusal.message.items ≡ kept
+  pub within : refusal.limits ≡ limits
   pub kind : kind_of refusal.diagnosis ≡ fault.kind
   pub holds : Holds refusal.diagnosis (record { limits = limits; state = at.state; place = at.place; bytes = kept })
   pub spot : IfSome refusal.spot (λ spot. SpotHolds spot (record { limits = limits; state = at.state; place = at.place; bytes = kept }))

@@ -1,13 +1,13 @@
 -- The statements about a rejected stream.
-pub mod Prefix
-pub mod Cut
-pub mod Places
-pub mod Message
-pub mod Rows
-pub mod Fields
-pub mod Rejection
-pub mod Counting
-pub mod Holds
-pub mod Bodies
-pub mod Sizes
+pub use Rattle.arrowflow_diagnosis.specs.Prefix
+pub use Rattle.arrowflow_diagnosis.specs.Cut
+pub use Rattle.arrowflow_diagnosis.specs.Places
+pub use Rattle.arrowflow_diagnosis.specs.Message
+pub use Rattle.arrowflow_diagnosis.specs.Rows
+pub use Rattle.arrowflow_diagnosis.specs.Fields
+pub use Rattle.arrowflow_diagnosis.specs.Rejection
+pub use Rattle.arrowflow_diagnosis.specs.Holds
+pub use Rattle.arrowflow_contents.specs.Counting
+pub use Rattle.arrowflow_contents.specs.Bodies
+pub use Rattle.arrowflow_contents.specs.Sizes
 pub mod Explains

@@ -20,6 +20,12 @@ pub struct Mark {
 }
 
 impl Mark {
+    /// `count` bytes from this offset in the metadata on.
+    pub(crate) fn in_metadata(place: usize, count: usize) -> Mark {
+        let start = place.saturating_add(8);
+        Mark { start, count }
+    }
+
     /// Whether the byte with this index is marked.
     fn has(self, index: usize) -> bool {
         self.start <= index && index - self.start < self.count

@@ -6,19 +6,13 @@ ghost use Rattle.arrow_stream_reader.specs.declared.reader.Verdict.TheVariants.{
 ghost use Rattle.arrowflow_input.specs.Blame.{BlamesOnly};
 ghost use Rattle.arrowflow_explain.specs.Explains.{ExplainsInput, IsKept, IsMadeOf, KeepsOn};
 
-use crate::body_spot::body_spot;
-use crate::counter::{CountedMessages, MessageCounter};
-use crate::diagnosis::diagnose;
 use crate::explanation::{Explanation, RejectedMessage};
-use crate::rejected::Rejected;
-use crate::summary::Summary;
 use arrow_stream_reader::{Fault, StreamReader};
 use arrow_types::Limits;
-use arrowflow_input::{Input, Progress, ToolFault, take_piece};
+use arrowflow_contents::{CountedMessages, MessageCounter, Summary, spot_of};
+use arrowflow_diagnosis::{Rejected, diagnose};
+use arrowflow_input::{Input, Progress, ToolFault, room_for_a_piece, take_piece};
 use std::alloc::{AllocError, Global};
-
-/// The number of bytes that one read asks for.
-const PIECE: usize = 65_536;
 
 /// Reads a stream, and reports why it is rejected, or what it contains.
 ///
@@ -38,7 +32,7 @@ pub fn explain<R: Input>(
         result }
     ensures blameless { IfErr result (BlamesOnly (R.has_failed input.new)) }
 {
-    let Ok(mut room) = Vec::from_elem(alloc, 0u8, PIECE) else {
+    let Ok(mut room) = room_for_a_piece(alloc) else {
         return Err(ToolFault::Memory);
     };
     let work = Work {
@@ -50,8 +44,7 @@ pub fn explain<R: Input>(
     explain_pieces(input, work, MessageCounter::new(alloc, *limits), &mut room)
 }
 
-/// Reads the pieces of an input, one by one. No stream is longer than the last offset allows, so
-/// this terminates.
+/// Reads the pieces of an input one by one, which ends, since a stream has a last offset.
 fn explain_pieces<R: Input>(
     input: &mut R,
     mut work: Work,
@@ -151,7 +144,7 @@ impl Work {
             message: &kept,
         };
         let diagnosis = diagnose(alloc, fault.kind, &rejected);
-        let spot = body_spot(alloc, fault.kind, &rejected);
+        let spot = spot_of(alloc, fault.kind, &rejected);
         RejectedMessage {
             fault,
             diagnosis,

@@ -1,10 +1,9 @@
 //! The explanation of a stream.
 
-use crate::body_spot::BodySpot;
-use crate::diagnosis::Diagnosis;
-use crate::summary::Summary;
 use arrow_stream_reader::Fault;
 use arrow_types::Limits;
+use arrowflow_contents::{BodySpot, Summary};
+use arrowflow_diagnosis::Diagnosis;
 
 /// The explanation of a stream.
 #[derive(Debug, Drop)]
@@ -22,11 +21,9 @@ pub struct RejectedMessage {
     pub fault: Fault,
     /// The finding for the fault.
     pub diagnosis: Diagnosis,
-    /// Where the body is at fault, for the kinds of a body, if it was found. Which field it is, is
-    /// tested and not proved.
+    /// Where the body is at fault, if it was found. Which field it is, is tested and not proved.
     pub spot: Option<BodySpot>,
-    /// The bytes of the message at fault, from the first one, as far as they were read; other bytes
-    /// may follow.
+    /// The bytes of the message at fault, as far as they were read; other bytes may follow.
     pub message: Vec<u8>,
     /// The counts of the messages before it.
     pub before: Summary,

@@ -1,16 +1,12 @@
 //! What can be done about a fault.
 
-use crate::cut::CutPart;
-use crate::diagnosis::Diagnosis;
 use crate::explanation::RejectedMessage;
-use crate::field_fault::FieldCondition;
 use crate::format::Format;
-use crate::message_fault::MessageFault;
-use crate::prefix::PrefixFault;
-use crate::rows_fault::RowsFault;
-use crate::schema_fault::SchemaCondition;
 use arrow_stream_reader::Kind;
 use arrow_types::Limits;
+use arrowflow_diagnosis::{
+    CutPart, Diagnosis, FieldCondition, MessageFault, PrefixFault, RowsFault, SchemaCondition,
+};
 
 /// What can be done about a fault, in a sentence or two, each below 80 characters.
 pub(crate) fn hint_of(refusal: &RejectedMessage) -> &'static str {

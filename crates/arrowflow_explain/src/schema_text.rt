@@ -1,17 +1,15 @@
 //! The text about a schema that is rejected.
 
 use crate::dump::Mark;
-use crate::field_fault::{FieldCondition, signed};
-use crate::message_fault::header_table;
-use crate::names::push_quoted;
-use crate::places::Spot;
-use crate::schema_fault::{SchemaCondition, field_at};
-use crate::slots;
+use arrow_meta_tree::codes::decimal_scale;
+use arrow_meta_tree::slots;
+use arrowflow_contents::push_quoted;
+use arrowflow_diagnosis::{FieldCondition, SchemaCondition, Spot, field_at, header_table};
 use std::alloc::AllocError;
 use std::fmt::Write;
 use std::str;
 
-/// Appends the finding in a schema, with the path to the field.
+/// Appends the finding in a schema, with the path to the field, and no line feed.
 pub(crate) fn push_schema(
     text: &mut String,
     message: &[u8],
@@ -19,7 +17,7 @@ pub(crate) fn push_schema(
 ) -> Result<(), AllocError> {
     match fault {
         SchemaCondition::Endianness { number } => {
-            write!(text, "endianness {}: only Little (0) is read\n", *number)
+            write!(text, "endianness {number}: only Little (0) is read")
         }
         SchemaCondition::Field { path, fault } => {
             push_path(text, message, path)?;
@@ -39,8 +37,7 @@ fn push_nested(
 ) -> Result<(), AllocError> {
     push_path(text, message, path)?;
     text.push_str("\ndictionary-encoded below a dictionary-encoded field, ")?;
-    push_path(text, message, path.get(..above).unwrap_or(&[]))?;
-    text.push_str("\n")
+    push_path(text, message, path.get(..above).unwrap_or(&[]))
 }
 
 /// Appends the indices that lead to a field, with the names of the fields on the way.
@@ -72,47 +69,39 @@ fn push_field(text: &mut String, fault: FieldCondition) -> Result<(), AllocError
     match fault {
         FieldCondition::TypeNotRead { code } => {
             push_type(text, code)?;
-            text.push_str(" is not among the types that are read\n")
+            text.push_str(" is not among the types that are read")
         }
         FieldCondition::DictionaryKind { number } => {
-            write!(
-                text,
-                "dictionaryKind {number}: only DenseArray (0) is read\n"
-            )
+            write!(text, "dictionaryKind {number}: only DenseArray (0) is read")
         }
-        FieldCondition::Children { code, count } => push_children(text, code, count),
+        FieldCondition::Children { code, count } => {
+            push_type(text, code)?;
+            write!(text, " with {count} children: it must have ")?;
+            text.push_str(children_of(code))
+        }
         FieldCondition::BitWidth { bits } => {
-            write!(text, "Int of bitWidth {bits}: must be 8, 16, 32 or 64\n")
+            write!(text, "Int of bitWidth {bits}: must be 8, 16, 32 or 64")
         }
         FieldCondition::Precision { number } => {
-            write!(
-                text,
-                "FloatingPoint of precision {number}: must be 0 to 2\n"
-            )
+            write!(text, "FloatingPoint of precision {number}: must be 0 to 2")
         }
         FieldCondition::Unit { code, number } => push_unit(text, code, number),
         FieldCondition::Size { code, number } => {
             push_type(text, code)?;
-            write!(text, " of size {}: must be 0 or more\n", signed(number))
+            let size = decimal_scale(number);
+            write!(text, " of size {size}: must be 0 or more")
         }
         FieldCondition::TimeWidth { unit, bits } => push_time(text, unit, bits),
         FieldCondition::Decimal {
             bits,
             precision,
             scale,
-        } => push_decimal(text, bits, precision, signed(scale)),
+        } => push_decimal(text, bits, precision, decimal_scale(scale)),
         FieldCondition::TypeTable { code } => push_table(text, code),
         FieldCondition::Entries => {
-            text.push_str("Map: its child must be a struct of two fields without a dictionary\n")
+            text.push_str("Map: its child must be a struct of two fields without a dictionary")
         }
     }
-}
-
-/// Appends the number of children that a type has.
-fn push_children(text: &mut String, code: u64, count: usize) -> Result<(), AllocError> {
-    push_type(text, code)?;
-    write!(text, " with {count} children: it must have ")?;
-    text.push_str(children_of(code))
 }
 
 /// Appends the units that a type has.
@@ -126,13 +115,13 @@ fn push_unit(text: &mut String, code: u64, number: u64) -> Result<(), AllocError
 fn push_table(text: &mut String, code: u64) -> Result<(), AllocError> {
     push_type(text, code)?;
     text.push_str(": the type's table is required: it is absent, ")?;
-    text.push_str("or does not lie inside the metadata\n")
+    text.push_str("or does not lie inside the metadata")
 }
 
 /// Appends the widths in bits that a time in this unit has.
 fn push_time(text: &mut String, unit: u64, bits: u64) -> Result<(), AllocError> {
     write!(text, "Time of unit {unit}, {bits} bits: ")?;
-    text.push_str("must be 32 for units 0 and 1, 64 for 2 and 3\n")
+    text.push_str("must be 32 for units 0 and 1, 64 for 2 and 3")
 }
 
 /// Appends the decimal type that there is not, and which precisions and scales there are.
@@ -142,38 +131,34 @@ fn push_decimal(
     precision: u64,
     scale: i32,
 ) -> Result<(), AllocError> {
-    write!(
-        text,
-        "Decimal of bitWidth {}, precision {}, ",
-        bits, precision
-    )?;
-    write!(text, "scale {}\n", scale)?;
-    text.push_str("precision: 1 to 9, 18, 38, 76 for 32, 64, 128, 256 bits; scale: -76 to 76\n")
+    write!(text, "Decimal of bitWidth {bits}, ")?;
+    writeln!(text, "precision {precision}, scale {scale}")?;
+    text.push_str("precision: 1 to 9, 18, 38, 76 for 32, 64, 128, 256 bits; scale: -76 to 76")
 }
 
 /// The number of children of a type with this code.
 fn children_of(code: u64) -> &'static str {
     match code {
-        12 | 16 | 17 | 21 => "one\n",
-        13 => "any number\n",
+        12 | 16 | 17 | 21 => "one",
+        13 => "any number",
         // a type without children
-        _ => "none\n",
+        _ => "none",
     }
 }
 
 /// The number of the last unit of a type with this code.
 fn greatest_unit(code: u64) -> &'static str {
     match code {
-        8 => "1\n",
-        11 => "2\n",
+        8 => "1",
+        11 => "2",
         // a Time, a Timestamp or a Duration
-        _ => "3\n",
+        _ => "3",
     }
 }
 
 /// Appends the type with this code.
 fn push_type(text: &mut String, code: u64) -> Result<(), AllocError> {
-    write!(text, "{} (type {})", type_name(code), code)
+    write!(text, "{} (type {code})", type_name(code))
 }
 
 /// The name of the type with this code (`Schema.fbs`, union `Type`).
@@ -214,40 +199,42 @@ fn type_name(code: u64) -> &'static str {
 /// The bytes in which a fault of a schema lies, if they are there.
 pub(crate) fn schema_mark(message: &[u8], fault: &SchemaCondition) -> Option<Mark> {
     let schema = header_table(message)?;
-    let (place, count) = match fault {
-        SchemaCondition::Endianness { .. } => (schema.field(slots::schema::ENDIANNESS)?, 2),
-        SchemaCondition::Field { path, fault } => field_mark(&field_at(&schema, path)?, *fault)?,
-        SchemaCondition::Nested { path, .. } => {
-            (field_at(&schema, path)?.field(slots::field::DICTIONARY)?, 4)
+    match fault {
+        SchemaCondition::Endianness { .. } => {
+            Some(Mark::in_metadata(schema.field(slots::schema::ENDIANNESS)?, 2))
         }
-    };
-    Some(Mark {
-        start: place.saturating_add(8),
-        count,
-    })
+        SchemaCondition::Field { path, fault } => field_mark(&field_at(&schema, path)?, *fault),
+        SchemaCondition::Nested { path, .. } => {
+            let dictionary = field_at(&schema, path)?.field(slots::field::DICTIONARY)?;
+            Some(Mark::in_metadata(dictionary, 4))
+        }
+    }
 }
 
-/// The offset in the metadata, and the number, of the bytes in which a fault of a field lies.
-fn field_mark(field: &Spot, fault: FieldCondition) -> Option<(usize, usize)> {
-    match fault {
-        FieldCondition::TypeNotRead { .. } => Some((field.field(slots::field::TYPE_TYPE)?, 1)),
+/// The bytes in which a fault of a field lies, if they are there.
+fn field_mark(field: &Spot, fault: FieldCondition) -> Option<Mark> {
+    let (place, count) = match fault {
+        FieldCondition::TypeNotRead { .. } => (field.field(slots::field::TYPE_TYPE)?, 1),
         FieldCondition::DictionaryKind { .. } => {
             let dictionary = field.table(slots::field::DICTIONARY)?;
-            Some((
+            (
                 dictionary.field(slots::dictionary_encoding::DICTIONARY_KIND)?,
                 2,
-            ))
+            )
         }
-        FieldCondition::Children { .. } => Some((field.field(slots::field::CHILDREN)?, 4)),
+        FieldCondition::Children { .. } | FieldCondition::Entries => {
+            (field.field(slots::field::CHILDREN)?, 4)
+        }
         FieldCondition::BitWidth { .. } | FieldCondition::Size { .. } => {
-            Some((field.table(slots::field::TYPE)?.field(0)?, 4))
+            (field.table(slots::field::TYPE)?.field(0)?, 4)
         }
         FieldCondition::Precision { .. } | FieldCondition::Unit { .. } => {
-            Some((field.table(slots::field::TYPE)?.field(0)?, 2))
+            (field.table(slots::field::TYPE)?.field(0)?, 2)
         }
-        FieldCondition::TimeWidth { .. } => Some((field.table(slots::field::TYPE)?.field(1)?, 4)),
-        FieldCondition::Decimal { .. } => Some((field.field(slots::field::TYPE)?, 4)),
-        FieldCondition::Entries => Some((field.field(slots::field::CHILDREN)?, 4)),
-        FieldCondition::TypeTable { .. } => Some((field.field(slots::field::TYPE)?, 4)),
-    }
+        FieldCondition::TimeWidth { .. } => (field.table(slots::field::TYPE)?.field(1)?, 4),
+        FieldCondition::Decimal { .. } | FieldCondition::TypeTable { .. } => {
+            (field.field(slots::field::TYPE)?, 4)
+        }
+    };
+    Some(Mark::in_metadata(place, count))
 }

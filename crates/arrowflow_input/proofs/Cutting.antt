@@ -19,8 +19,8 @@ use Rattle.arrowflow_input.specs.Within.{DrivenWithin}
 use Rattle.arrowflow_input.specs.declared.bounds.Excess.{Excess}
 use Rattle.arrowflow_input.specs.declared.bounds.Measure.TheVariants.{Rows, Messages, Bytes}
 use Rattle.arrowflow_input.specs.declared.bounds.WholeLimits.{WholeLimits}
-use Rattle.arrowflow_input.specs.declared.consumer.Wants.{Wants}
-use Rattle.arrowflow_input.specs.declared.consumer.Wants.TheVariants.{More, Enough}
+use Rattle.std.specs.declared.ops.ControlFlow.{ControlFlow}
+use Rattle.std.specs.declared.ops.ControlFlow.TheVariants.{Continue, Break}
 use Rattle.arrowflow_input.specs.declared.counting.Counts.{Counts}
 use Rattle.arrowflow_input.specs.declared.tool_fault.ToolFault.{ToolFault}
 use Rattle.arrowflow_input.specs.declared.tool_fault.ToolFault.TheVariants.{Input, Stream, Memory}
@@ -122,7 +122,7 @@ module _ (keeps : OfMessages) (answers : OfInput) (whole : WholeLimits) (excess 
   ends_here = last_ends comes.gives.position.front es x refl
 
   -- a consumer that takes the message keeps the bounds, or has returned an answer
-  pub took_counted : (counts : Counts) → AreCounted whole counts (es ++ x ∷ []) → (answer : Result Wants ToolFault) → IfErr answer BlamesNone → Took keeps answers answer new (t ++ piece) (es ++ x ∷ [])
+  pub took_counted : (counts : Counts) → AreCounted whole counts (es ++ x ∷ []) → (answer : Result (ControlFlow (Unit {0}) (Unit {0})) ToolFault) → IfErr answer BlamesNone → Took keeps answers answer new (t ++ piece) (es ++ x ∷ [])
       → Took (IsCounting whole counts excess keeps) (HasCountedOn whole excess keeps answers) answer new (t ++ piece) (es ++ x ∷ [])
   took_counted counts counted answer blames took = by answer blames took
     where
@@ -136,10 +136,10 @@ module _ (keeps : OfMessages) (answers : OfInput) (whole : WholeLimits) (excess 
         within = within_by whole counts (es ++ x ∷ []) counted;
       }
 
-      by : (answer : Result Wants ToolFault) → IfErr answer BlamesNone → Took keeps answers answer new (t ++ piece) (es ++ x ∷ [])
+      by : (answer : Result (ControlFlow (Unit {0}) (Unit {0})) ToolFault) → IfErr answer BlamesNone → Took keeps answers answer new (t ++ piece) (es ++ x ∷ [])
           → Took (IsCounting whole counts excess keeps) (HasCountedOn whole excess keeps answers) answer new (t ++ piece) (es ++ x ∷ [])
-      by (Ok More) blames took = record { none = none; counted = counted; kept = took }
-      by (Ok Enough) blames took = λ left. subst (λ e. HasCountedOn whole e keeps answers (Ok tt) new (t ++ piece) left) (sym none) (took left, position, tt)
+      by (Ok (Continue tt)) blames took = record { none = none; counted = counted; kept = took }
+      by (Ok (Break tt)) blames took = λ left. subst (λ e. HasCountedOn whole e keeps answers (Ok tt) new (t ++ piece) left) (sym none) (took left, position, tt)
       by (Err fault) blames took = λ left. subst (λ e. HasCountedOn whole e keeps answers (Err fault) new (t ++ piece) left) (sym none) (took left, position, blames)
 
   -- the message passes a bound

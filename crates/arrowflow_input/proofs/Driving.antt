@@ -20,8 +20,8 @@ use Rattle.arrow_stream_reader.proofs.Fronts.{more_bytes}
 use Rattle.arrow_stream_reader.proofs.Streams.{ended_position}
 use Rattle.arrowflow_input.specs.Consumer.{HasEnded, OfInput, OfMessages, Takes, Took, entry_of}
 use Rattle.arrowflow_input.specs.Driver.{AreGiven, CallForMore, Driven, PieceTaken}
-use Rattle.arrowflow_input.specs.declared.consumer.Wants.{Wants}
-use Rattle.arrowflow_input.specs.declared.consumer.Wants.TheVariants.{More, Enough}
+use Rattle.std.specs.declared.ops.ControlFlow.{ControlFlow}
+use Rattle.std.specs.declared.ops.ControlFlow.TheVariants.{Continue, Break}
 use Rattle.arrowflow_input.specs.Faults.{reported}
 use Rattle.arrowflow_input.specs.Reads.{IsReadWhile}
 use Rattle.arrowflow_input.specs.Endings.{EndsBadly, EndsWell}
@@ -165,7 +165,7 @@ module _ {Start C : Type 0} (keeps : Start → C → OfMessages) (answers : Star
   all_of t = append_assoc t i.taken rest ∙ ap (λ z. t ++ z) i.whole
 
   module _ (n : ℕ) (item : Item) (is_open : now.at.verdict ≡ Open) (gives : (t : List ℕ) (es : List Entry) → IsReaderAt now t es → GivesNext rest n item new t es) (place : ℕ) (here : place ≡ now.at.place)
-      (answer : Result Wants ToolFault) (c'' : C) (takes : Takes keeps answers c' place item new answer c'') where
+      (answer : Result (ControlFlow (Unit {0}) (Unit {0})) ToolFault) (c'' : C) (takes : Takes keeps answers c' place item new answer c'') where
     -- what the consumer did with the message
     made : (start : Start) (t : List ℕ) (g : AreGiven (keeps start c) t old)
         → Took (keeps start c'') (answers start c'') answer new ((t ++ i.taken) ++ rest) ((i.given_so start t g).entries ++ entry_of item (t ++ i.taken) n ∷ [])
@@ -174,7 +174,7 @@ module _ {Start C : Type 0} (keeps : Start → C → OfMessages) (answers : Star
         takes start now (t ++ i.taken) y.entries rest n (record { before = y.position; is_open = is_open; begins = here; limits = limits; gives = gives (t ++ i.taken) y.entries y.position }) y.kept
 
     -- it asks for more
-    next_given : answer ≡ Ok More → (start : Start) (t : List ℕ) → AreGiven (keeps start c) t old → AreGiven (keeps start c'') ((t ++ i.taken) ++ take n rest) new
+    next_given : answer ≡ Ok (Continue tt) → (start : Start) (t : List ℕ) → AreGiven (keeps start c) t old → AreGiven (keeps start c'') ((t ++ i.taken) ++ take n rest) new
     next_given more start t g =
         let y = i.given_so start t g in
         let es = y.entries ++ entry_of item (t ++ i.taken) n ∷ [] in
@@ -184,7 +184,7 @@ module _ {Start C : Type 0} (keeps : Start → C → OfMessages) (answers : Star
           kept = subst (λ a. Took (keeps start c'') (answers start c'') a new ((t ++ i.taken) ++ rest) es) more (made start t g);
         }
 
-    pub taking_next : answer ≡ Ok More → IsTaking keeps c old piece new c'' (drop n rest)
+    pub taking_next : answer ≡ Ok (Continue tt) → IsTaking keeps c old piece new c'' (drop n rest)
     taking_next more = record {
       taken = i.taken ++ take n rest;
       whole = append_assoc i.taken (take n rest) (drop n rest) ∙ ap (λ y. i.taken ++ y) (take-append-drop n rest) ∙ i.whole;
@@ -196,7 +196,7 @@ module _ {Start C : Type 0} (keeps : Start → C → OfMessages) (answers : Star
     }
 
     -- the message is the end marker
-    pub piece_marked : answer ≡ Ok More → given item ≡ ended → (start : Start) (t : List ℕ) → AreGiven (keeps start c) t old → PieceTaken (keeps start c'') (answers start c'') (t ++ piece) new (Ok Marker)
+    pub piece_marked : answer ≡ Ok (Continue tt) → given item ≡ ended → (start : Start) (t : List ℕ) → AreGiven (keeps start c) t old → PieceTaken (keeps start c'') (answers start c'') (t ++ piece) new (Ok Marker)
     piece_marked more is start t g =
         let y = i.given_so start t g in
         let done = end_is_done (gives (t ++ i.taken) y.entries y.position).position.front y.entries (entry_of item (t ++ i.taken) n) refl is in
@@ -204,7 +204,7 @@ module _ {Start C : Type 0} (keeps : Start → C → OfMessages) (answers : Star
         (given_at whole (given_ended (keeps start c'') new ((t ++ i.taken) ++ take n rest) (drop n rest) done (next_given more start t g)), done)
 
     -- the consumer has enough
-    pub piece_stopped : answer ≡ Ok Enough → (start : Start) (t : List ℕ) → AreGiven (keeps start c) t old → PieceTaken (keeps start c'') (answers start c'') (t ++ piece) new (Ok Stopped)
+    pub piece_stopped : answer ≡ Ok (Break tt) → (start : Start) (t : List ℕ) → AreGiven (keeps start c) t old → PieceTaken (keeps start c'') (answers start c'') (t ++ piece) new (Ok Stopped)
     piece_stopped enough start t g left =
         subst (λ bytes. answers start c'' (Ok tt) new bytes left) (all_of t)
         (subst (λ a. Took (keeps start c'') (answers start c'') a new ((t ++ i.taken) ++ rest) ((i.given_so start t g).entries ++ entry_of item (t ++ i.taken) n ∷ [])) enough (made start t g) left)

@@ -9,8 +9,8 @@ use Rattle.arrow_stream_reader.specs.State.{StreamState}
 use Rattle.arrow_stream_reader.specs.Stream.{ReaderView, IsReaderAt, GivesNext}
 use Rattle.arrow_stream_reader.specs.Views.{given}
 use Rattle.arrowflow_input.specs.Endings.{EndsWell}
-use Rattle.arrowflow_input.specs.declared.consumer.Wants.{Wants}
-use Rattle.arrowflow_input.specs.declared.consumer.Wants.TheVariants.{More, Enough}
+use Rattle.std.specs.declared.ops.ControlFlow.{ControlFlow}
+use Rattle.std.specs.declared.ops.ControlFlow.TheVariants.{Continue, Break}
 use Rattle.arrowflow_input.specs.declared.tool_fault.ToolFault.{ToolFault}
 
 -- what holds of the messages so far, given the reader's limits and the state that they left
@@ -35,13 +35,13 @@ abbrev pub entry_of : Item → List ℕ → ℕ → Entry
 entry_of item t n = record { given = given item; end = length t + n }
 
 -- What a consumer did with a message: it asks for more, or it returned an answer, whatever is left of the input.
-abbrev pub Took : OfMessages → OfInput → Result Wants ToolFault → ReaderView → List ℕ → List Entry → Type 0
-Took keeps answers (Ok More) r bytes es = keeps r.limits r.at.state es
-Took keeps answers (Ok Enough) r bytes es = (left : Option (List ℕ)) → answers (Ok tt) r bytes left
+abbrev pub Took : OfMessages → OfInput → Result (ControlFlow (Unit {0}) (Unit {0})) ToolFault → ReaderView → List ℕ → List Entry → Type 0
+Took keeps answers (Ok (Continue tt)) r bytes es = keeps r.limits r.at.state es
+Took keeps answers (Ok (Break tt)) r bytes es = (left : Option (List ℕ)) → answers (Ok tt) r bytes left
 Took keeps answers (Err fault) r bytes es = (left : Option (List ℕ)) → answers (Err fault) r bytes left
 
 -- the same at whatever offset the message came, and however the consumer began
-abbrev pub Takes : {Start C : Type 0} → (Start → C → OfMessages) → (Start → C → OfInput) → C → ℕ → Item → ReaderView → Result Wants ToolFault → C → Type 0
+abbrev pub Takes : {Start C : Type 0} → (Start → C → OfMessages) → (Start → C → OfInput) → C → ℕ → Item → ReaderView → Result (ControlFlow (Unit {0}) (Unit {0})) ToolFault → C → Type 0
 Takes {Start} keeps answers c place item new answer c' =
     (start : Start) (old : ReaderView) (t : List ℕ) (es : List Entry) (piece : List ℕ) (n : ℕ) → Comes place item old new t es piece n → keeps start c old.limits old.at.state es
     → Took (keeps start c') (answers start c') answer new (t ++ piece) (es ++ entry_of item t n ∷ [])

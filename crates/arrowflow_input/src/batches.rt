@@ -4,11 +4,12 @@ ghost use Rattle.std.specs.Prelude.{◌≡◌, ◌++◌, OnOk};
 ghost use Rattle.arrow_stream_reader.specs.Tables.{table_in};
 ghost use Rattle.arrow_stream_reader.specs.Views.{given};
 
-use crate::consumer::{Consumer, Wants};
+use crate::consumer::Consumer;
 use crate::tool_fault::ToolFault;
 use arrow_data::Batch;
 use arrow_stream_reader::{Item, StreamReader};
 use std::alloc::AllocError;
+use std::ops::ControlFlow;
 
 /// A list of batches is a consumer: it keeps those of its stream, in the order of their messages,
 /// after what it held. What [`crate::drive`] promises of it is promised of a list that is empty at
@@ -29,9 +30,9 @@ impl Consumer for Vec<Batch> {
         _reader: &StreamReader,
         _place: u64,
         item: Item,
-    ) -> (Self, Result<Wants, ToolFault>) {
+    ) -> (Self, Result<ControlFlow<()>, ToolFault>) {
         match keep(&mut self, item) {
-            Ok(()) => (self, Ok(Wants::More)),
+            Ok(()) => (self, Ok(ControlFlow::Continue(()))),
             Err(_) => (self, Err(ToolFault::Memory)),
         }
     }

@@ -7,20 +7,12 @@ ghost use Rattle.arrow_stream_reader.specs.State.{StreamState};
 ghost use Rattle.arrow_stream_reader.specs.Stream.{ReaderView};
 ghost use Rattle.arrowflow_input.specs.Blame.{BlamesNone};
 ghost use Rattle.arrowflow_input.specs.Consumer.{Ends, Takes};
-ghost use Rattle.arrowflow_input.specs.declared.consumer.Wants.TheVariants.{More};
+ghost use Rattle.std.specs.declared.ops.ControlFlow.TheVariants.{Continue};
 ghost use Rattle.arrowflow_input.specs.declared.tool_fault.ToolFault.{ToolFault};
 
 use crate::tool_fault::ToolFault;
 use arrow_stream_reader::{Item, StreamReader};
-
-/// Whether a consumer asks for more of its stream.
-#[derive(Clone, Copy)]
-pub enum Wants {
-    /// It does.
-    More,
-    /// It has all that it needs: nothing after is parsed.
-    Enough,
-}
+use std::ops::ControlFlow;
 
 /// What is made of a stream, message by message: text, a copy, a list of its batches.
 ///
@@ -42,11 +34,17 @@ pub trait Consumer {
     ghost answers: { Self.Start → Self → Result (Unit {0}) ToolFault → ReaderView → List ℕ
         → Option (List ℕ) → Type 0 };
 
-    /// Takes a message that the reader has just read, and that begins at this offset.
-    fn item(self, reader: &StreamReader, place: u64, item: Item) -> (Self, Result<Wants, ToolFault>)
+    /// Takes a message that the reader has just read, and that begins at this offset. `Break` means
+    /// that it has all that it needs: nothing after is parsed.
+    fn item(
+        self,
+        reader: &StreamReader,
+        place: u64,
+        item: Item,
+    ) -> (Self, Result<ControlFlow<()>, ToolFault>)
         requires ready { Self.is_ready self }
         ensures takes { Takes Self.keeps Self.answers self place item reader.now result.1 result.0 }
-        ensures ready { result.1 ≡ Ok More → Self.is_ready result.0 }
+        ensures ready { result.1 ≡ Ok (Continue tt) → Self.is_ready result.0 }
         ensures blameless { IfErr result.1 BlamesNone };
 
     /// Ends a stream that ended well: with its end marker, or with its input at the end of a message.

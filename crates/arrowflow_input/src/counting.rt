@@ -7,9 +7,10 @@ ghost use Rattle.arrowflow_input.specs.Bounds.{IsPassed, Pass, messages_by, rows
 ghost use Rattle.arrowflow_input.specs.Counted.{AreCounted, HasCounted};
 
 use crate::bounds::{Excess, Measure, WholeLimits};
-use crate::consumer::{Consumer, Wants};
+use crate::consumer::Consumer;
 use crate::tool_fault::ToolFault;
 use arrow_stream_reader::{Item, StreamReader};
+use std::ops::ControlFlow;
 
 /// The bounds of a stream, and how many rows and messages of it came. Quantities without a bound
 /// are not counted.
@@ -156,7 +157,7 @@ impl<C: Consumer> Consumer for Counting<C> {
         reader: &StreamReader,
         place: u64,
         item: Item,
-    ) -> (Self, Result<Wants, ToolFault>) {
+    ) -> (Self, Result<ControlFlow<()>, ToolFault>) {
         let Counting {
             consumer,
             counts,
@@ -178,7 +179,7 @@ impl<C: Consumer> Consumer for Counting<C> {
                     counts,
                     excess: Some(passed),
                 };
-                (counting, Ok(Wants::Enough))
+                (counting, Ok(ControlFlow::Break(())))
             }
         }
     }

@@ -9,12 +9,13 @@ ghost use Rattle.arrowflow_input.specs.Driver.{Drives, TakesPiece};
 ghost use Rattle.arrowflow_input.specs.Session.{IsReaderAfter};
 ghost use Rattle.arrowflow_input.specs.declared.driver.Progress.TheVariants.{GoesOn, Marker};
 
-use crate::consumer::{Consumer, Wants};
+use crate::consumer::Consumer;
 use crate::input::Input;
 use crate::pieces::room_for_a_piece;
 use crate::tool_fault::ToolFault;
 use arrow_stream_reader::{Item, StreamReader};
 use std::alloc::Global;
+use std::ops::ControlFlow;
 
 /// What came of a piece.
 #[derive(Clone, Copy)]
@@ -126,12 +127,12 @@ pub fn take_piece<C: Consumer>(
                 let is_last = is_end(&item);
                 let (next, wants) = consumer.item(reader, place, item);
                 match wants {
-                    Ok(Wants::More) if is_last => return (next, Ok(Progress::Marker)),
-                    Ok(Wants::More) => {
+                    Ok(ControlFlow::Continue(())) if is_last => return (next, Ok(Progress::Marker)),
+                    Ok(ControlFlow::Continue(())) => {
                         consumer = next;
                         rest = &rest[taken..];
                     }
-                    Ok(Wants::Enough) => return (next, Ok(Progress::Stopped)),
+                    Ok(ControlFlow::Break(())) => return (next, Ok(Progress::Stopped)),
                     Err(fault) => return (next, Err(fault)),
                 }
             }

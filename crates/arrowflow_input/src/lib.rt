@@ -42,9 +42,10 @@ mod within;
 
 pub use bounded::Bounded;
 pub use bounds::{Excess, Measure, WholeLimits};
-pub use consumer::{Consumer, Wants};
+pub use consumer::Consumer;
 pub use driver::{Progress, drive, take_piece};
 pub use input::{Input, Tried};
+pub use pieces::room_for_a_piece;
 pub use tool_fault::ToolFault;
 pub use what::RefusedItem;
 pub use within::drive_within;

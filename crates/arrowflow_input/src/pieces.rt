@@ -11,12 +11,5 @@ const PIECE: usize = 65_536;
 pub fn room_for_a_piece(alloc: Global) -> Result<Vec<u8>, AllocError>
     ensures { IfOk result (λ v. vec_len v ≡ 65536) }
 {
-    zeroes(alloc, PIECE)
-}
-
-/// This number of zero bytes.
-fn zeroes(alloc: Global, len: usize) -> Result<Vec<u8>, AllocError>
-    ensures { IfOk result (λ v. vec_len v ≡ len) }
-{
-    Vec::from_elem(alloc, 0u8, len)
+    Vec::from_elem(alloc, 0u8, PIECE)
 }

@@ -10,8 +10,9 @@ ghost use Rattle.arrowflow_json.specs.Fields.{field_json, fields_json, name_by, 
 ghost use Rattle.arrowflow_json.specs.Tokens.{Adds, head_tokens, type_tokens};
 
 use crate::members::{write_dictionary, write_file, write_pairs, write_text};
-use crate::type_texts::{format_string, type_name};
+use crate::type_texts::format_string;
 use arrow_types::{DataType, Field, Schema};
+use arrowflow_text::push_type_name;
 use json::Writer;
 use std::alloc::{AllocError, Global};
 
@@ -103,7 +104,8 @@ fn write_head(alloc: Global, writer: &mut Writer, field: &Field) -> Result<(), A
 fn write_type(alloc: Global, writer: &mut Writer, data_type: &DataType) -> Result<(), AllocError>
     ensures { OnOk result (Adds (type_tokens (type_view data_type.now).tag) writer.old writer.new) }
 {
-    let name = type_name(alloc, data_type)?;
+    let mut name = String::new(alloc);
+    push_type_name(&mut name, data_type)?;
     write_text(writer, "type", &name)?;
     let format = format_string(alloc, data_type)?;
     write_text(writer, "format", &format)

@@ -3,7 +3,8 @@
 ghost use Rattle.std.specs.Prelude.{◌≡◌};
 
 use arrow_stream_reader::{Item, StreamReader};
-use arrowflow_input::{Consumer, ToolFault, Wants};
+use arrowflow_input::{Consumer, ToolFault};
+use std::ops::ControlFlow;
 
 /// The consumer that reads a stream up to its schema, which the reader then has.
 #[derive(Drop)]
@@ -25,8 +26,8 @@ impl Consumer for FirstSchema {
         _reader: &StreamReader,
         _place: u64,
         _item: Item,
-    ) -> (Self, Result<Wants, ToolFault>) {
-        (self, Ok(Wants::Enough))
+    ) -> (Self, Result<ControlFlow<()>, ToolFault>) {
+        (self, Ok(ControlFlow::Break(())))
     }
 
     fn end(self, _reader: &StreamReader, _marked: bool) -> (Self, Result<(), ToolFault>) {

@@ -24,11 +24,10 @@
 //!
 //! Of the proofs, `Writing` proves the statement for any form, `Showing` and `Sent` for rows,
 //! `Checking` for messages, `SchemaWritten` for the schema's call; `Adding` proves how tokens
-//! follow one another, `ReadBack` the laws, `Chars` what is written for a character.
+//! follow one another, `ReadBack` the laws.
 #![tactic(auto)]
 
 mod check;
-mod escapes;
 mod fields;
 mod first_schema;
 pub mod laws;

@@ -13,8 +13,9 @@ use crate::message_texts::{MessageText, end_line, message_line};
 use crate::sending::{flush, send_text};
 use arrow_sink::Sink;
 use arrow_stream_reader::{Item, StreamReader};
-use arrowflow_input::{Consumer, ToolFault, Wants};
+use arrowflow_input::{Consumer, ToolFault};
 use std::alloc::Global;
+use std::ops::ControlFlow;
 
 /// An output to which the lines of a stream's messages are written as they are read: the name of
 /// the file, if the lines have one, and the number of batches so far.
@@ -128,9 +129,9 @@ impl<'a, S: Sink> Consumer for MessageLines<'a, S> {
         reader: &StreamReader,
         place: u64,
         item: Item,
-    ) -> (Self, Result<Wants, ToolFault>) {
+    ) -> (Self, Result<ControlFlow<()>, ToolFault>) {
         match self.take(reader, place, &item) {
-            Ok(()) => (self, Ok(Wants::More)),
+            Ok(()) => (self, Ok(ControlFlow::Continue(()))),
             Err(fault) => (self, Err(fault)),
         }
     }

@@ -9,8 +9,9 @@ ghost use Rattle.arrowflow_json.specs.Showing.{SendsLines};
 use crate::sending::{flush, send_batch};
 use arrow_sink::Sink;
 use arrow_stream_reader::{Item, StreamReader};
-use arrowflow_input::{Consumer, ToolFault, Wants};
+use arrowflow_input::{Consumer, ToolFault};
 use std::alloc::Global;
+use std::ops::ControlFlow;
 
 /// An output to which the rows of a stream are written as lines of JSON, as its batches are read.
 #[derive(Drop)]
@@ -53,9 +54,9 @@ impl<S: Sink> Consumer for RowLines<S> {
         _reader: &StreamReader,
         _place: u64,
         item: Item,
-    ) -> (Self, Result<Wants, ToolFault>) {
+    ) -> (Self, Result<ControlFlow<()>, ToolFault>) {
         match self.take(&item) {
-            Ok(()) => (self, Ok(Wants::More)),
+            Ok(()) => (self, Ok(ControlFlow::Continue(()))),
             Err(fault) => (self, Err(fault)),
         }
     }

@@ -1,40 +1,14 @@
-//! The names and the format strings of types.
+//! The format strings of types.
 
 ghost use Rattle.std.specs.Prelude.{◌≡◌, ◌++◌, IfOk, codes, string_bytes};
 ghost use Rattle.std.specs.Fmt.{decimal, signed_decimal};
 ghost use Rattle.arrow_types.specs.View.{type_view};
-ghost use Rattle.arrowflow_text.specs.TypeWords.{format_of, type_name};
+ghost use Rattle.arrowflow_text.specs.TypeWords.{format_of};
 
-use crate::escapes::push_escaped;
 use arrow_types::DataType;
 use arrowflow_text::{format_width, words_of};
 use std::alloc::{AllocError, Global};
 use std::fmt::Write;
-
-/// The name of a type without its children, as it appears in the text of a schema.
-pub(crate) fn type_name(alloc: Global, data_type: &DataType) -> Result<String, AllocError>
-    ensures { IfOk result (λ text. string_bytes text ≡ type_name (type_view data_type.now).tag) }
-{
-    let mut text = String::new(alloc);
-    text.push_str(words_of(data_type).name)?;
-    match data_type {
-        DataType::Decimal {
-            precision,
-            scale,
-            ..
-        } => write!(text, "{}, {})", *precision, *scale)?,
-        DataType::FixedSizeBinary(width) => write!(text, "{}]", *width)?,
-        DataType::FixedSizeList(_, size) => write!(text, "{}]", *size)?,
-        DataType::Timestamp(_, None) => text.push_str("]")?,
-        DataType::Timestamp(_, Some(zone)) => {
-            text.push_str(", ")?;
-            push_escaped(&mut text, zone)?;
-            text.push_str("]")?;
-        }
-        _ => {}
-    }
-    Ok(text)
-}
 
 /// The format string of a type without its children.
 pub(crate) fn format_string(alloc: Global, data_type: &DataType) -> Result<String, AllocError>

@@ -1,13 +1,22 @@
 //! The library's calls over an input and an output that is flushed before the input is read.
 
+use crate::ends::{Source, open};
 use crate::output_buffer::{BufferedOutput, FlushBeforeRead, OutputBuffer};
-use arrowflow::{
-    Bounded, ColumnsFault, CopyOptions, Counted, Excess, Limits, Selection, ToolFault, WholeLimits,
-    check_json, check_within, copy_within, schema_json, show_json, show_within,
-};
+use crate::progress_of;
+use crate::progress_reader::ProgressReader;
+use crate::terminals::Terminals;
+use arrow_sink::Counted;
+use arrow_types::Limits;
+use arrowflow_copy::copy_within;
+use arrowflow_input::{Bounded, Excess, ToolFault, WholeLimits};
+use arrowflow_json::{check_json, schema_json, show_json};
+use arrowflow_line::CopyOptions;
+use arrowflow_text::{ColumnsFault, Selection, check_within, show_within};
 use std::alloc::Global;
-use std::io::{Read, Write};
+use std::io::{Input, Read, Write};
 use std::rc::Rc;
+use std::rt::Files;
+use std::time::Clock;
 
 /// An input, and an output whose bytes are buffered until the input is read again.
 #[derive(Drop)]
@@ -27,28 +36,14 @@ pub(crate) struct Ended {
 }
 
 impl Ended {
-    /// Writes the buffered bytes, and returns how a call with this result ended.
-    fn of<W: Write + Drop>(answer: Result<(), ToolFault>, held: &OutputBuffer<W>) -> Ended {
-        let written = held.finish();
-        Ended {
-            answer: written.and(answer),
-            excess: None,
-            is_closed: held.is_closed(),
-        }
-    }
-
-    /// The same for a call over an input with bounds. If the output failed, the result says so, and
-    /// names no bound.
-    fn within<W: Write + Drop>(
+    /// Writes the buffered bytes, and returns how a call with this result ended over an input that
+    /// passed this bound, if it did. If the output failed, the result says so, and names no bound.
+    fn of<W: Write + Drop>(
         answer: Result<(), ToolFault>,
         excess: Option<Excess>,
         held: &OutputBuffer<W>,
     ) -> Ended {
-        let Ended {
-            answer,
-            is_closed,
-            ..
-        } = Ended::of(answer, held);
+        let answer = held.finish().and(answer);
         let excess = match answer {
             Err(ToolFault::Input(_)) => excess,
             Ok(()) | Err(_) => None,
@@ -56,9 +51,38 @@ impl Ended {
         Ended {
             answer,
             excess,
-            is_closed,
+            is_closed: held.is_closed(),
         }
     }
+}
+
+/// What is written as JSON objects, one on each line.
+#[derive(Clone, Copy)]
+pub(crate) enum JsonLines<'a> {
+    /// The columns, with this name of the file.
+    Columns(Option<&'a str>),
+    /// The messages, with this name of the file.
+    Messages(Option<&'a str>),
+    /// The rows.
+    Rows,
+}
+
+/// The input with this name, opened for a command that prints on this output. `Memory` if the
+/// buffer cannot be allocated.
+pub(crate) fn open_ends<'a, R, W>(
+    rt: &'a R,
+    command: &'static str,
+    name: &str,
+    output: W,
+) -> Result<Ends<ProgressReader<'a, R, Source<R::File, R::Reader>>, W>, ToolFault>
+where
+    R: AllocGlobal + Files + Input + Eprint + Clock + Terminals,
+    R::File: Drop,
+    W: Write + Drop,
+{
+    let file = open(rt, 0, name)?;
+    let input = ProgressReader::new(file, progress_of(rt, command, name, true));
+    Ends::new(rt.alloc(), input, output)
 }
 
 impl<I: Read + Drop, W: Write + Drop> Ends<I, W> {
@@ -79,39 +103,19 @@ impl<I: Read + Drop, W: Write + Drop> Ends<I, W> {
     pub(crate) fn check(self, alloc: Global, limits: &Limits, whole: WholeLimits) -> (I, Ended) {
         let mut input = Bounded::new(self.input, whole);
         let (_, answer) = check_within(alloc, &mut input, Counted::new(self.output), limits);
-        let ended = Ended::within(answer, input.excess(), &self.held);
+        let ended = Ended::of(answer, input.excess(), &self.held);
         (input.into_inner().into_inner(), ended)
     }
 
-    /// Writes a JSON object for each message, and returns the input.
-    pub(crate) fn check_json(
-        self,
-        alloc: Global,
-        limits: &Limits,
-        file: Option<&str>,
-    ) -> (I, Ended) {
+    /// Writes JSON objects, and returns the input.
+    pub(crate) fn json(self, alloc: Global, lines: JsonLines<'_>, limits: &Limits) -> (I, Ended) {
         let (mut input, output) = (self.input, Counted::new(self.output));
-        let (_, answer) = check_json(alloc, &mut input, output, limits, file);
-        (input.into_inner(), Ended::of(answer, &self.held))
-    }
-
-    /// Writes a JSON object for each column, and returns the input.
-    pub(crate) fn schema_json(
-        self,
-        alloc: Global,
-        limits: &Limits,
-        file: Option<&str>,
-    ) -> (I, Ended) {
-        let (mut input, output) = (self.input, Counted::new(self.output));
-        let (_, answer) = schema_json(alloc, &mut input, output, limits, file);
-        (input.into_inner(), Ended::of(answer, &self.held))
-    }
-
-    /// Writes a JSON object for each row, and returns the input.
-    pub(crate) fn show_json(self, alloc: Global, limits: &Limits) -> (I, Ended) {
-        let (mut input, output) = (self.input, Counted::new(self.output));
-        let (_, answer) = show_json(alloc, &mut input, output, limits);
-        (input.into_inner(), Ended::of(answer, &self.held))
+        let (_, answer) = match lines {
+            JsonLines::Columns(file) => schema_json(alloc, &mut input, output, limits, file),
+            JsonLines::Messages(file) => check_json(alloc, &mut input, output, limits, file),
+            JsonLines::Rows => show_json(alloc, &mut input, output, limits),
+        };
+        (input.into_inner(), Ended::of(answer, None, &self.held))
     }
 
     /// Writes the selected rows, and returns the input. An error is the index of the first
@@ -127,8 +131,8 @@ impl<I: Read + Drop, W: Write + Drop> Ends<I, W> {
         let (_, answer) = show_within(alloc, &mut input, output, selection, limits);
         let excess = input.excess();
         let ended = match answer {
-            Ok(()) => Ok(Ended::of(Ok(()), &self.held)),
-            Err(ColumnsFault::Tool(fault)) => { Ok(Ended::within(Err(fault), excess, &self.held)) }
+            Ok(()) => Ok(Ended::of(Ok(()), None, &self.held)),
+            Err(ColumnsFault::Tool(fault)) => Ok(Ended::of(Err(fault), excess, &self.held)),
             Err(ColumnsFault::Lacks(place)) => Err(place),
         };
         (input.into_inner().into_inner(), ended)
@@ -147,7 +151,7 @@ impl<I: Read + Drop, W: Write + Drop> Ends<I, W> {
         if options.fail_downstream && answer.is_err() {
             self.held.cut();
         }
-        let ended = Ended::within(answer, input.excess(), &self.held);
+        let ended = Ended::of(answer, input.excess(), &self.held);
         (input.into_inner().into_inner(), ended)
     }
 }

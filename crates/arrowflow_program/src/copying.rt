@@ -5,7 +5,8 @@ use crate::ends::{Destination, Source, create, is_same_file, is_standard, open};
 use crate::progress_reader::ProgressReader;
 use crate::terminals::Terminals;
 use crate::{Bounds, FAILED, FINE, out_of_memory, progress_of, report, status_of_ended};
-use arrowflow::{CopyOptions, ToolFault};
+use arrowflow_input::ToolFault;
+use arrowflow_line::CopyOptions;
 use std::alloc::AllocError;
 use std::fs::{File, OpenFile};
 use std::io::{ErrorKind, Input, Write};
@@ -121,7 +122,7 @@ where
         let _ = eprintln!(rt; "{to} exists");
         return FAILED;
     }
-    let (Ok(place), Ok(part)) = (place_of(rt, to), part_of(rt, to)) else {
+    let Ok((place, part)) = place_and_part(rt, to) else {
         return out_of_memory(rt);
     };
     let output = match File::create_new(rt, part.as_str()) {
@@ -147,19 +148,19 @@ where
     }
 }
 
-/// The name of the file that is replaced: for a link to a file, the one that it leads to.
-fn place_of<R: AllocGlobal + Files>(rt: &R, name: &str) -> Result<String, AllocError> {
-    match fs::canonicalize(rt, name) {
-        Ok(path) => String::from_str(rt.alloc(), path.as_str()),
-        Err(_) => String::from_str(rt.alloc(), name),
-    }
-}
-
-/// The name of the file next to it.
-fn part_of<R: AllocGlobal + Files>(rt: &R, name: &str) -> Result<String, AllocError> {
-    let mut part = place_of(rt, name)?;
+/// The name of the file that is replaced, for a link to a file the one that it leads to, and the
+/// name of the file next to it.
+fn place_and_part<R>(rt: &R, name: &str) -> Result<(String, String), AllocError>
+where
+    R: AllocGlobal + Files,
+{
+    let place = match fs::canonicalize(rt, name) {
+        Ok(path) => String::from_str(rt.alloc(), path.as_str())?,
+        Err(_) => String::from_str(rt.alloc(), name)?,
+    };
+    let mut part = place.clone()?;
     part.push_str(".part")?;
-    Ok(part)
+    Ok((place, part))
 }
 
 /// Whether the name is that of a regular file, or of no file yet.

@@ -2,7 +2,10 @@
 
 use crate::ends::{Source, open};
 use crate::{print_text, report};
-use arrowflow::{Limits, Options, ToolFault, drill};
+use arrow_stream_writer::Options;
+use arrow_types::Limits;
+use arrowflow_drill::drill;
+use arrowflow_input::ToolFault;
 use std::io::Input;
 use std::rt::Files;
 

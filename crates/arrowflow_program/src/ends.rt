@@ -1,6 +1,6 @@
 //! Where a stream comes from, and where one goes: files, or standard input and output.
 
-use arrowflow::ToolFault;
+use arrowflow_input::ToolFault;
 use std::fs::File;
 use std::io::{Input, Read, Write};
 use std::os::unix::fs::MetadataExt;

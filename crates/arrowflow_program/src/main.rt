@@ -3,7 +3,7 @@
 #![tactic(auto)]
 
 ghost use Rattle.std.specs.Prelude.{◌≡◌, ◌⊎◌, IfErr, OnOk};
-ghost use Rattle.arrowflow.specs.Input.Faults.{status_of as status_by};
+ghost use Rattle.arrowflow_input.specs.Faults.{status_of as status_by};
 
 mod calls;
 mod coloured;
@@ -30,7 +30,9 @@ use crate::progress_reader::ProgressLine;
 use crate::reading::{FileReading, read_files};
 use crate::showing::show_file;
 use crate::terminals::Terminals;
-use arrowflow::{ArgFault, Limits, Plan, Task, ToolFault, Totals, WholeLimits, plan};
+use arrow_types::Limits;
+use arrowflow_input::{ToolFault, WholeLimits};
+use arrowflow_line::{ArgFault, Plan, Task, Totals, plan};
 use std::alloc::Global;
 use std::io::{ErrorKind, Input, Write};
 use std::process::ExitCode;

@@ -5,7 +5,7 @@ ghost use Rattle.std.specs.Prelude.{◌≡◌};
 ghost use Rattle.std.specs.Io.{WritesAtMost};
 
 use crate::pipe::Pipe;
-use arrowflow::ToolFault;
+use arrowflow_input::ToolFault;
 use std::alloc::Global;
 use std::cell::{Cell, RefCell};
 use std::io;

@@ -2,18 +2,19 @@
 
 ghost use Rattle.std.specs.Prelude.{◌≡◌};
 
-use crate::calls::Ends;
+use crate::calls::{Ended, Ends, JsonLines, open_ends};
 use crate::ends::{input_name, open};
 use crate::labelled::Labelled;
 use crate::progress_reader::ProgressReader;
 use crate::terminals::Terminals;
 use crate::{
     Bounds, FAILED, FINE, REFUSED, named_or_standard, out_of_memory, print_lines, progress_of,
-    report, status_of,
+    report,
 };
-use arrowflow::{
-    Bounded, Excess, Files as FileNames, Limits, ToolFault, check_quietly_within, schema_text,
-};
+use arrow_types::Limits;
+use arrowflow_input::{Bounded, Excess, ToolFault};
+use arrowflow_line::Files as FileNames;
+use arrowflow_text::{check_quietly_within, schema_text};
 use std::io;
 use std::io::Input;
 use std::rt::Files;
@@ -32,10 +33,10 @@ pub(crate) enum FileReading {
 
 /// A file that is read, whether its lines have its name, and whether they are JSON.
 #[derive(Clone, Copy)]
-struct Named<'a> {
-    name: &'a str,
-    is_labelled: bool,
-    json: bool,
+pub(crate) struct Named<'a> {
+    pub(crate) name: &'a str,
+    pub(crate) is_labelled: bool,
+    pub(crate) json: bool,
 }
 
 impl<'a> Named<'a> {
@@ -100,9 +101,25 @@ where
 {
     let limits = bounds.limits;
     match reading {
-        FileReading::Schema if named.json => print_objects(rt, reading, named, limits),
+        FileReading::Schema if named.json => {
+            print_objects(
+                rt,
+                "check",
+                named,
+                JsonLines::Columns(named.label()),
+                limits,
+            )
+        }
         FileReading::Schema => print_schema(rt, named, limits),
-        FileReading::Messages if named.json => print_objects(rt, reading, named, limits),
+        FileReading::Messages if named.json => {
+            print_objects(
+                rt,
+                "check",
+                named,
+                JsonLines::Messages(named.label()),
+                limits,
+            )
+        }
         FileReading::Messages => print_messages(rt, named, bounds),
         FileReading::Nothing => check_file(rt, named, bounds),
     }
@@ -141,41 +158,28 @@ where
     };
     let (input, ended) = ends.check(rt.alloc(), bounds.limits, bounds.whole);
     input.clear();
-    match (ended.excess, ended.answer) {
-        (Some(_), _) if ended.is_closed => REFUSED,
-        (Some(excess), _) => report_excess(rt, excess, named),
-        (None, Ok(())) => FINE,
-        (None, Err(fault)) if ended.is_closed => fault.status(),
-        (None, Err(fault)) => report_of(rt, &fault, named),
-    }
+    report_ended(rt, ended, named)
 }
 
-/// Prints the columns or the messages of the stream in a file as JSON objects, one on each line.
-fn print_objects<R>(rt: &R, reading: FileReading, named: Named<'_>, limits: &Limits) -> u8
+/// Prints JSON objects about the stream in a file, one on each line.
+pub(crate) fn print_objects<R>(
+    rt: &R,
+    command: &'static str,
+    named: Named<'_>,
+    lines: JsonLines<'_>,
+    limits: &Limits,
+) -> u8
 where
     R: AllocGlobal + Files + Input + Print + Eprint + Clock + Terminals,
     R::File: Drop,
 {
-    let file = match open(rt, 0, named.name) {
-        Ok(file) => file,
+    let ends = match open_ends(rt, command, named.name, io::writer(rt)) {
+        Ok(ends) => ends,
         Err(fault) => return report_of(rt, &fault, named),
     };
-    let input = ProgressReader::new(file, progress_of(rt, "check", named.name, true));
-    let Ok(ends) = Ends::new(rt.alloc(), input, io::writer(rt)) else {
-        return out_of_memory(rt);
-    };
-    let (input, ended) = match reading {
-        FileReading::Schema => ends.schema_json(rt.alloc(), limits, named.label()),
-        FileReading::Messages | FileReading::Nothing => {
-            ends.check_json(rt.alloc(), limits, named.label())
-        }
-    };
+    let (input, ended) = ends.json(rt.alloc(), lines, limits);
     input.clear();
-    match ended.answer {
-        Ok(()) => FINE,
-        Err(fault) if ended.is_closed => fault.status(),
-        Err(fault) => report_of(rt, &fault, named),
-    }
+    report_ended(rt, ended, named)
 }
 
 /// Reads the stream in a file, and prints only the line of its fault.
@@ -191,11 +195,23 @@ where
     let input = ProgressReader::new(file, progress_of(rt, "check", named.name, false));
     let mut input = Bounded::new(input, bounds.whole);
     let answer = check_quietly_within(rt.alloc(), &mut input, bounds.limits);
-    let excess = input.excess();
+    let ended = Ended {
+        answer,
+        excess: input.excess(),
+        is_closed: false,
+    };
     input.into_inner().clear();
-    match (excess, answer) {
+    report_ended(rt, ended, named)
+}
+
+/// Reports how a call over a file ended, and returns its status: the bound that its stream passed,
+/// or its fault.
+fn report_ended<R: AllocGlobal + Eprint>(rt: &R, ended: Ended, named: Named<'_>) -> u8 {
+    match (ended.excess, ended.answer) {
+        (Some(_), _) if ended.is_closed => REFUSED,
         (Some(excess), _) => report_excess(rt, excess, named),
         (None, Ok(())) => FINE,
+        (None, Err(fault)) if ended.is_closed => fault.status(),
         (None, Err(fault)) => report_of(rt, &fault, named),
     }
 }

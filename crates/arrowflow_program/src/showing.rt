@@ -2,15 +2,12 @@
 
 ghost use Rattle.std.specs.Prelude.{◌≡◌};
 
-use crate::calls::Ends;
-use crate::ends::open;
-use crate::progress_reader::ProgressReader;
+use crate::calls::{JsonLines, open_ends};
+use crate::reading::{Named, print_objects};
 use crate::terminals::Terminals;
-use crate::{
-    Bounds, FAILED, named_or_standard, out_of_memory, progress_of, report, status_of,
-    status_of_ended,
-};
-use arrowflow::{Layout, Limits, Selection, ShowOptions};
+use crate::{Bounds, FAILED, named_or_standard, out_of_memory, report, status_of_ended};
+use arrowflow_line::ShowOptions;
+use arrowflow_text::{Layout, Selection};
 use std::io;
 use std::io::Input;
 use std::rt::Files;
@@ -44,26 +41,12 @@ where
         let _ = eprintln!(rt; "--json has no bounds of a whole stream");
         return FAILED;
     }
-    print_json(rt, name, bounds.limits)
-}
-
-/// Prints each row of the stream in the file with this name as a JSON object on a line.
-fn print_json<R>(rt: &R, name: &str, limits: &Limits) -> u8
-where
-    R: AllocGlobal + Files + Input + Print + Eprint + Clock + Terminals,
-    R::File: Drop,
-{
-    let file = match open(rt, 0, name) {
-        Ok(file) => file,
-        Err(fault) => return report(rt, &fault, name, "-"),
+    let named = Named {
+        name,
+        is_labelled: false,
+        json: true,
     };
-    let input = ProgressReader::new(file, progress_of(rt, "show", name, true));
-    let Ok(ends) = Ends::new(rt.alloc(), input, io::writer(rt)) else {
-        return out_of_memory(rt);
-    };
-    let (input, ended) = ends.show_json(rt.alloc(), limits);
-    input.clear();
-    status_of(rt, ended.answer, (name, "-"), ended.is_closed)
+    print_objects(rt, "show", named, JsonLines::Rows, bounds.limits)
 }
 
 /// Prints the requested rows of the stream in the file with this name.
@@ -94,13 +77,9 @@ where
         skip: options.skip.unwrap_or(0),
         rows: options.rows,
     };
-    let file = match open(rt, 0, name) {
-        Ok(file) => file,
+    let ends = match open_ends(rt, "show", name, io::writer(rt)) {
+        Ok(ends) => ends,
         Err(fault) => return report(rt, &fault, name, "-"),
-    };
-    let input = ProgressReader::new(file, progress_of(rt, "show", name, true));
-    let Ok(ends) = Ends::new(rt.alloc(), input, io::writer(rt)) else {
-        return out_of_memory(rt);
     };
     let (input, ended) = ends.show(rt.alloc(), &selection, bounds.limits, bounds.whole);
     input.clear();

@@ -17,8 +17,7 @@ use Rattle.arrowflow_input.specs.declared.what.RefusedItem.TheVariants.{Start, B
 use Rattle.arrowflow_session.specs.declared.connection.Connection.{Connection}
 
 -- What is asked of a connection: the schema and the batches to be written, with which options, whether with an end
--- marker, and how many of all bytes are delivered. The pieces in which these come are not included, since nothing
--- depends on them.
+-- marker, and how many bytes are delivered. Nothing depends on the pieces in which these come.
 pub record Asked : Type 0 where
   pub shape : SchemaShape
   pub options : Options
@@ -44,7 +43,6 @@ abbrev pub begun : Options → SchemaShape → Progress
 begun o shape = record { tried = 0; admitted = []; refused = []; sent = []; place = first_place o shape }
 
 -- after one more batch: an accepted one is sent with the dictionaries that it needs, a rejected one changes nothing
--- of what was sent
 abbrev pub with_batch : Options → SchemaShape → Table → Option WriteFault → Progress → Progress
 with_batch o shape t None p = record p {
   tried = p.tried + 1;
@@ -54,14 +52,12 @@ with_batch o shape t None p = record p {
 }
 with_batch o shape t (Some k) p = record p { tried = p.tried + 1; refused = p.refused ++ record { what = Batch p.tried; kind = k } ∷ [] }
 
--- after these more batches, each accepted or rejected by the dictionaries and the offset after the accepted ones
--- before it
+-- after these more batches, each accepted or rejected by the dictionaries and the offset after those before it
 abbrev pub with_batches : LimitNumbers → Options → SchemaShape → Progress → List Table → Progress
 with_batches limits o shape p [] = p
 with_batches limits o shape p (t ∷ ts) = with_batches limits o shape (with_batch o shape t (admission limits o shape p.sent p.place t) p) ts
 
--- The outcome of the writing in all: the batches that are sent, the rejections, the dictionaries that were sent, and
--- whether the end marker is the last part.
+-- All that was written: the batches, the rejections, the dictionaries, and whether the end marker is the last part.
 pub record Outcome : Type 0 where
   pub admitted : List Table
   pub refused : List Refusal
@@ -74,8 +70,7 @@ marker_refusals false fits = []
 marker_refusals true true = []
 marker_refusals true false = record { what = Finish; kind = TooLarge } ∷ []
 
--- after all batches: the end marker is sent if it is asked for and ends by offset 2^62, and rejected if it would pass
--- that
+-- after all batches: an end marker that is asked for is sent if it ends by offset 2^62, and rejected otherwise
 abbrev pub ended_after : Bool → Progress → Outcome
 ended_after finish p = record {
   admitted = p.admitted;

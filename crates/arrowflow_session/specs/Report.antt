@@ -1,5 +1,4 @@
--- What is reported of a connection: what was sent, and what was received of the first bytes of it. (This project's own; Columnar
--- Format, "IPC Streaming Format".)
+-- What was sent on a connection, and received of it (this project's own; Columnar Format, "IPC Streaming Format").
 use Rattle.std.specs.Prelude.{◌≡◌, ℕ, ℤ, ◌≤◌, nat_lt, if◌then◌else◌, List, [], ◌∷◌, length, take, map, Option, Some, None, Vec}
 use Rattle.std.specs.List.{AllByRecursion}
 use Rattle.std.specs.declared.alloc.Global.{Global}
@@ -45,8 +44,7 @@ reported_by r = record {
   ending = r.received.ending;
 }
 
--- The parts are the bytes of a connection with the accepted batches, in these frames; if the schema is rejected,
--- there are none.
+-- The parts are the bytes of a connection with the accepted batches, in these frames; none if the schema is rejected.
 abbrev pub Sends : Option WriteFault → LimitNumbers → Asked → List (List ℕ) → List Frame → Type 0
 Sends None limits c parts frames = Written limits c.options c.shape (outcome_of limits c).closed parts (outcome_of limits c).admitted frames
 Sends (Some k) limits c parts frames = (parts ≡ []) × (frames ≡ [])

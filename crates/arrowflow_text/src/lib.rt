@@ -47,4 +47,5 @@ pub use columns::{ColumnsFault, Selection};
 pub use reports::{check, check_quietly, show, show_selection};
 pub use schema_call::schema_text;
 pub use schema_lines::schema_lines_of;
+pub use type_names::push_type_name;
 pub use type_words::{TypeWords, format_width, int_words, words_of};

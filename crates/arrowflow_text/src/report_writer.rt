@@ -17,7 +17,7 @@ ghost use Rattle.arrowflow_input.specs.Endings.{SendsText, SendsSome};
 ghost use Rattle.arrowflow_text.specs.Shown.{IsTextIn, header_in};
 ghost use Rattle.arrowflow_text.specs.ReportWriting.{AreCountsSame, HasReported, IsLastBy, IsReportWriterSame};
 ghost use Rattle.arrowflow_text.specs.ReportWriting.{ReportsSo};
-ghost use Rattle.arrowflow_input.specs.declared.consumer.Wants.TheVariants.{More};
+ghost use Rattle.std.specs.declared.ops.ControlFlow.TheVariants.{Continue};
 ghost use Rattle.arrowflow_input.specs.declared.tool_fault.ToolFault.TheVariants.{Memory};
 
 use crate::lines::{MessageLine, end_line, push_line};
@@ -27,8 +27,9 @@ use crate::window::Window;
 use arrow_csv::{BatchRows, Layout, header_of, lacking};
 use arrow_sink::Sink;
 use arrow_stream_reader::{Item, StreamReader};
-use arrowflow_input::{Consumer, ToolFault, Wants};
+use arrowflow_input::{Consumer, ToolFault};
 use std::alloc::Global;
+use std::ops::ControlFlow;
 
 /// A stream that is reported into an output: what is reported, how many of its batches came, which
 /// rows are still to be written, if not all are, the index of the first column asked for that its
@@ -129,17 +130,22 @@ impl<'a, S: Sink> ReportWriter<'a, S> {
 
     /// Reports a message that the reader has just read and that begins at this offset; returns
     /// whether more are needed.
-    fn put(&mut self, reader: &StreamReader, place: u64, item: &Item) -> Result<Wants, ToolFault>
+    fn put(
+        &mut self,
+        reader: &StreamReader,
+        place: u64,
+        item: &Item,
+    ) -> Result<ControlFlow<()>, ToolFault>
         requires ready { S.failed self.old.output < 2 ^ 64 - 1 }
         ensures takes { Takes (HasReported S.contents S.failed)
             (ReportsSo S.contents S.failed S.is_passed_on) self.old place item.now reader.now result
             self.new }
-        ensures ready { result ≡ Ok More → S.failed self.new.output < 2 ^ 64 - 1 }
+        ensures ready { result ≡ Ok (Continue tt) → S.failed self.new.output < 2 ^ 64 - 1 }
         ensures blameless { IfErr result BlamesNone }
     {
         if let Some(column) = lacking_in(self.report, reader, item) {
             self.lacks = Some(column);
-            return Ok(Wants::Enough);
+            return Ok(ControlFlow::Break(()));
         }
         let message = MessageLine {
             reader,
@@ -148,15 +154,15 @@ impl<'a, S: Sink> ReportWriter<'a, S> {
         };
         let Some(window) = self.window else {
             self.put_whole(message)?;
-            return Ok(Wants::More);
+            return Ok(ControlFlow::Continue(()));
         };
         let number = self.number;
         self.put_part(window, message)?;
         if !self.pass(window, item, number) {
-            return Ok(Wants::More);
+            return Ok(ControlFlow::Continue(()));
         }
         flush(&mut self.output)?;
-        Ok(Wants::Enough)
+        Ok(ControlFlow::Break(()))
     }
 
     /// Reports all of a message.
@@ -311,7 +317,7 @@ impl<'a, S: Sink> Consumer for ReportWriter<'a, S> {
         reader: &StreamReader,
         place: u64,
         item: Item,
-    ) -> (Self, Result<Wants, ToolFault>) {
+    ) -> (Self, Result<ControlFlow<()>, ToolFault>) {
         let answer = self.put(reader, place, &item);
         (self, answer)
     }

@@ -7,8 +7,9 @@ ghost use Rattle.arrowflow_text.specs.SchemaCall.{AnswersInput};
 use crate::schema_lines::schema_lines_of;
 use arrow_stream_reader::{Item, StreamReader};
 use arrow_types::Limits;
-use arrowflow_input::{Consumer, Input, ToolFault, Wants, drive};
+use arrowflow_input::{Consumer, Input, ToolFault, drive};
 use std::alloc::Global;
+use std::ops::ControlFlow;
 
 /// The text of the schema of a stream: one line per field in pre-order, each with its line feed,
 /// two spaces of indentation for each level below the first. A schema without columns has the empty
@@ -61,16 +62,16 @@ impl Consumer for SchemaLines {
         reader: &StreamReader,
         _place: u64,
         _item: Item,
-    ) -> (Self, Result<Wants, ToolFault>) {
+    ) -> (Self, Result<ControlFlow<()>, ToolFault>) {
         match reader.schema() {
             Some(schema) => match schema_lines_of(self.alloc, schema) {
                 Ok(text) => {
                     self.text = text;
-                    (self, Ok(Wants::Enough))
+                    (self, Ok(ControlFlow::Break(())))
                 }
                 Err(_) => (self, Err(ToolFault::Memory)),
             },
-            None => (self, Ok(Wants::More)),
+            None => (self, Ok(ControlFlow::Continue(()))),
         }
     }
 

@@ -22,10 +22,10 @@ pub(crate) fn push_column_type(
         ≡ string_bytes line.old ++ column_type (type_view data_type.now).tag dictionary) }
 {
     match dictionary {
-        None => push_type(line, data_type),
+        None => push_type_name(line, data_type),
         Some(encoding) => {
             push_index(line, encoding)?;
-            push_type(line, data_type)?;
+            push_type_name(line, data_type)?;
             push_id(line, encoding)
         }
     }
@@ -51,8 +51,10 @@ fn push_id(line: &mut String, encoding: Encoding) -> Result<(), AllocError>
     Ok(())
 }
 
-/// Appends the name of a type without its children.
-fn push_type(line: &mut String, data_type: &DataType) -> Result<(), AllocError>
+/// Appends the name of a type without its children, as the text of a schema has it.
+///
+/// The only error is `AllocError`.
+pub fn push_type_name(line: &mut String, data_type: &DataType) -> Result<(), AllocError>
     ensures { OnOk result (string_bytes line.new
         ≡ string_bytes line.old ++ type_name (type_view data_type.now).tag) }
 {

@@ -1,5 +1,6 @@
 use arrow_bits::{
-    Bits, BitsBuilder, LargeOffsets, Offsets, are_at_most, first_unset, int_at, plain, put_int,
+    Bits, BitsBuilder, LargeOffsets, Offsets, are_at_most, first_unset, int_at, plain, put_bit,
+    put_int, put_zeros,
 };
 use std::process::Abort;
 
@@ -163,6 +164,36 @@ fn assert_packed(rt: &(impl Abort + AllocGlobal), bits: &str, bytes: &[u8], zero
     assert!(rt; builder.as_bytes() == bytes);
     let packed = builder.into_bytes();
     assert!(rt; are_bits(&packed, bits.len(), Some((zeros, bits))));
+}
+
+/// An index, a bit that is put there into the bytes A5 and 0F, and the bytes then.
+static PUT: [(usize, bool, &[u8]); 7] = [
+    (0, false, &[0xa4, 0x0f]),
+    (1, true, &[0xa7, 0x0f]),
+    (7, true, &[0xa5, 0x0f]),
+    (8, false, &[0xa5, 0x0e]),
+    (15, true, &[0xa5, 0x8f]),
+    (16, true, &[0xa5, 0x0f, 1]),
+    (16, false, &[0xa5, 0x0f, 0]),
+];
+
+#[test]
+fn bits_are_put_over_others(rt: HostRuntime) {
+    for (at, bit, expected) in PUT.iter() {
+        let mut bytes = Vec::from_slice(rt.alloc(), &[0xa5, 0x0f]).expect(&rt, "memory");
+        assert!(rt; *at <= 8 * bytes.len());
+        put_bit(&mut bytes, *at, *bit).expect(&rt, "memory");
+        assert!(rt; bytes.as_slice() == *expected, "bit {at}");
+    }
+}
+
+#[test]
+fn zero_bytes_are_appended(rt: HostRuntime) {
+    let mut out = Vec::from_slice(rt.alloc(), &[7]).expect(&rt, "memory");
+    put_zeros(&mut out, 0).expect(&rt, "memory");
+    assert!(rt; out.as_slice() == [7].as_slice());
+    put_zeros(&mut out, 3).expect(&rt, "memory");
+    assert!(rt; out.as_slice() == [7, 0, 0, 0].as_slice());
 }
 
 #[test]

@@ -2,9 +2,10 @@
 
 use super::bodies::{dictionary, listed, loaded, parts_of};
 use super::reported::{holds, is_text, reported};
-use arrow_body_reader::BodyFault::{Index, Layout, Memory, Text};
-use arrow_body_reader::{BodyFault, are_fit, check, load_typed};
-use arrow_data::{Array, Dictionary, SharedBody, shared_types};
+use arrow_body_reader::BodyFault::{self, Index, Layout, Memory, Text};
+use arrow_body_reader::{are_fit, check, load_typed};
+use arrow_data::{Array, Dictionary};
+use arrow_layout::{SharedBody, shared_types};
 use arrow_test_fields::fields_of;
 use arrow_types::Field;
 use std::process::Abort;

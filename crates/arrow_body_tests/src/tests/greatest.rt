@@ -33,10 +33,13 @@ const BYTES: Piece = ("binary", "2/0", SMALL, &[0, 12, 4_194_316]);
 
 const LARGE_TEXTS: Piece = ("large_utf8", "2/0", LARGE, &[0, 24, 4_194_328]);
 
+/// As many nulls as a column can have.
+const NULLS: Piece = ("null", "2147483647/2147483647", &[], &[]);
+
 /// Names, an array, how often it is put into the dictionary, from which value on the dictionary is
 /// laid out, and in how many bytes. From the second text on there are 1,024 offsets and 2^31 - 1
 /// bytes, for large texts 1,025 offsets and 2^31 bytes.
-static CASES: [(&str, Piece, usize, usize, Option<u64>); 7] = [
+static CASES: [(&str, Piece, usize, usize, Option<u64>); 9] = [
     ("truths", TRUTHS, 64, 0, None),
     ("truths but one", TRUTHS, 64, 1, Some(268_435_456)),
     ("texts", TEXTS, 512, 0, None),
@@ -44,6 +47,14 @@ static CASES: [(&str, Piece, usize, usize, Option<u64>); 7] = [
     ("bytes", BYTES, 512, 0, None),
     ("bytes but one", BYTES, 512, 1, Some(2_147_487_744)),
     ("large texts", LARGE_TEXTS, 512, 0, Some(2_147_491_848)),
+    ("nulls", NULLS, 2, 0, None),
+    (
+        "nulls of the second array",
+        NULLS,
+        2,
+        2_147_483_647,
+        Some(0),
+    ),
 ];
 
 /// What an array is loaded from.
@@ -118,5 +129,22 @@ fn the_most_values_and_bytes(rt: HostRuntime) {
             let stored = store_rest_in(&mut room, &whole, *from, Align::Eight);
             holds(&rt, name, stored == Err(BodyStoreFault::TooLarge));
         }
+    }
+}
+
+/// The faults, and their words.
+static FAULTS: [(BodyStoreFault, &str); 2] = [
+    (
+        BodyStoreFault::TooLarge,
+        "too many slots or bytes in a column",
+    ),
+    (BodyStoreFault::Memory, "out of memory"),
+];
+
+#[test]
+fn faults_are_reported(rt: HostRuntime) {
+    for (fault, expected) in &FAULTS {
+        let got = format!(in rt.alloc(); "{fault}").expect(&rt, "memory");
+        assert_eq!(rt; got.as_str(), *expected);
     }
 }

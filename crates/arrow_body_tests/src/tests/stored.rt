@@ -15,7 +15,13 @@ use arrow_types::{Buffer, FieldNode};
 use std::alloc::Global;
 use std::process::Abort;
 
-static COLUMNS: [&str; 12] = [
+static COLUMNS: [&str; 15] = [
+    "a text after two bytes: utf8 | 1/0 | #, 2 3, 'xxa' => 8 | 1/0 | # @0, 0 1 @0, 'a' @8 | 16",
+    // Each offset has 64 bits, which are two numbers here.
+    "large texts: large_utf8 | 3/1 | #5, 0 0 1 0 1 0 3 0, 'abc' \
+    => 8 | 3/1 | #5 @0, 0 0 1 0 1 0 3 0 @8, 'abc' @40 | 48",
+    "bytes under a null: fixed_size_binary[3] | 2/1 | #1, #0 1 255 7 8 9 \
+    => 8 | 2/1 | #1 @0, #0 1 255 0 0 0 @8 | 16",
     "a number under a null: int32 | 3/1 | #5, 1 9 3 => 8 | 3/1 | #5 @0, 1 0 3 @8 | 24",
     "a validity of no nulls: int32 | 2/0 | #255, 1 2 => 64 | 2/0 | # @0, 1 2 @0 | 64",
     "an item under a null: list int32 | 3/1 4/0 | #5, 0 2 3 4, #, 1 2 7 3 \

@@ -19,7 +19,7 @@ const A: &str = "7 utf8 = 'a'";
 type Finish = (&'static str, &'static str);
 
 /// The type of a column and its values; how it is finished, again and again.
-static FINISHES: [(&str, &str, &[Finish]); 9] = [
+static FINISHES: [(&str, &str, &[Finish]); 10] = [
     (
         "by:7:uint8 utf8",
         "0 null 2",
@@ -52,6 +52,11 @@ static FINISHES: [(&str, &str, &[Finish]); 9] = [
         ],
     ),
     ("by:7:uint8 utf8", "0", &[("", "fault 2")]),
+    (
+        "by:7:int32 utf8",
+        "3",
+        &[(ABC, "fault 2"), ("7 int32 = 1 2 3", "fault 1")],
+    ),
     ("by:7:int8 utf8", "-1", &[(A, "fault 2")]),
     (
         "list by:7:uint8 utf8",

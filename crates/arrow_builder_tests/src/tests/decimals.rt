@@ -3,7 +3,8 @@
 use super::building::{array, builder};
 use super::reported::is_number;
 use arrow_builder::{ArrayBuilder, PushFault};
-use arrow_data::{Array, Decimal, Value};
+use arrow_data::Array;
+use arrow_layout::{Decimal, Value};
 use std::process::Abort;
 
 const MEMORY: &str = "memory";

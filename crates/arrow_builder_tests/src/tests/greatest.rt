@@ -3,7 +3,7 @@
 use super::building::{builder, push_all};
 use super::reported::is_number;
 use arrow_builder::ArrayBuilder;
-use arrow_data::Value;
+use arrow_layout::Value;
 use std::process::Abort;
 
 const MEMORY: &str = "memory";

@@ -5,7 +5,7 @@ use super::building::{array, builder, push_all};
 use super::reported::{is_number, is_text, reported};
 use super::values::{value, values};
 use arrow_builder::ArrayBuilder;
-use arrow_data::Value;
+use arrow_layout::Value;
 use std::process::Abort;
 
 const MEMORY: &str = "memory";

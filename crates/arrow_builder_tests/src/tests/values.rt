@@ -1,7 +1,7 @@
 //! Values from a text, with a blank between all words: `null true -5 'abc' x0,255 [ 1 2 ] { 1 'a' }`
 //! are a null, a truth value, a number, a text, two bytes, a list and a struct.
 
-use arrow_data::Value;
+use arrow_layout::Value;
 use std::process::Abort;
 
 const MEMORY: &str = "memory";

@@ -2,7 +2,7 @@
 //! each index, and byte strings of each length up to that of two chunks and one byte.
 
 use super::columns::{MEMORY, are_records, builder, push, records, schema};
-use arrow_data::Value;
+use arrow_layout::Value;
 use arrow_types::DataType;
 use std::process::Abort;
 

@@ -2,7 +2,8 @@
 
 use arrow_builder::ArrayBuilder;
 use arrow_csv::rows;
-use arrow_data::{Array, Batch, Value};
+use arrow_data::{Array, Batch};
+use arrow_layout::Value;
 use arrow_types::{DataType, Field, Schema};
 use std::process::Abort;
 use std::rc::Rc;

@@ -3,7 +3,7 @@
 
 use super::columns::{MEMORY, field};
 use super::nested::{are_shown, list, lists};
-use arrow_data::{Decimal, Value};
+use arrow_layout::{Decimal, Value};
 use arrow_types::{DataType, DecimalWidth};
 use std::process::Abort;
 

@@ -3,7 +3,8 @@
 use super::columns::{
     MEMORY, are_records, builder, field, finished, push, records_of, schema, schema_of,
 };
-use arrow_data::{Array, Dictionary, Value};
+use arrow_data::{Array, Dictionary};
+use arrow_layout::Value;
 use arrow_types::{BitWidth, DataType, Encoding, Field, IndexType, Schema};
 use std::process::Abort;
 

@@ -2,7 +2,7 @@
 
 use super::columns::{MEMORY, field};
 use super::nested::{are_shown, list, lists};
-use arrow_data::{Interval, Value};
+use arrow_layout::{Interval, Value};
 use arrow_types::{DataType, IntervalUnit};
 use std::process::Abort;
 

@@ -1,7 +1,7 @@
 //! Truth values, lists and structs as records, and numbers of few digits.
 
 use super::columns::{MEMORY, are_records, builder, field, push, records, schema};
-use arrow_data::Value;
+use arrow_layout::Value;
 use arrow_types::{BitWidth, DataType};
 use std::process::Abort;
 

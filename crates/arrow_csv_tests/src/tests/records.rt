@@ -2,7 +2,8 @@
 
 use super::columns::{MEMORY, are_records, builder, field, finished, push, schema_of};
 use arrow_csv::{BatchRows, Layout, header, header_of, lacking, rows};
-use arrow_data::{Array, Batch, Value};
+use arrow_data::{Array, Batch};
+use arrow_layout::Value;
 use arrow_types::{BitWidth, DataType, Schema};
 use std::process::Abort;
 use std::rc::Rc;

@@ -1,6 +1,6 @@
 use Rattle.std.proofs.Common.{rules, ◌≡◌, ◌≤◌, ◌-◌, length, ap, sym, ◌∙◌, arith, get_or, refl}
 use Rattle.std.proofs.lemmas.Bool.{false≢true}
-use Rattle.arrow_data.specs.PlainValue.{null_value}
+use Rattle.arrow_layout.specs.PlainValue.{null_value}
 use Rattle.arrow_data.specs.Column.{row_of}
 use Rattle.arrow_data.proofs.Sameness.{child_smaller, parts_smaller, items_agree, parts_agree, items_same, rows_same, longer, read_row, length-values_from}
 use borrow.Author.Count.{below_more}

@@ -1,5 +1,5 @@
 use Rattle.std.proofs.Common.{◌≡◌, ◌+◌, ◌<◌, ℕ, get_or}
-use Rattle.arrow_data.specs.PlainValue.{value_at, null_value}
+use Rattle.arrow_layout.specs.PlainValue.{value_at, null_value}
 use Rattle.arrow_data.specs.Column.{row_of}
 use Rattle.arrow_data.specs.Same.{slot_measure, items_measure, parts_measure}
 use Rattle.arrow_data.proofs.+same.Given as goal

@@ -2,8 +2,9 @@
 
 use super::making::plain;
 use super::reported::is_text;
-use arrow_data::BatchFault::{ColumnCount, ColumnLength, ColumnType, IndexRange, Memory};
-use arrow_data::{Array, Batch, BatchFault, SharedBody};
+use arrow_data::BatchFault::{self, ColumnCount, ColumnLength, ColumnType, IndexRange, Memory};
+use arrow_data::{Array, Batch};
+use arrow_layout::SharedBody;
 use arrow_test_fields::schema_of;
 use arrow_types::Schema;
 use bytes::Bytes;

@@ -2,8 +2,9 @@
 
 use super::making::{column, dictionary, halves, listed, plain};
 use super::reported::is_text;
-use arrow_data::form::{ListForm, OffsetWidth};
-use arrow_data::{Array, Buffers, NumberBuffers, StringBuffers};
+use arrow_data::{Array, Buffers};
+use arrow_layout::form::{ListForm, OffsetWidth};
+use arrow_layout::{NumberBuffers, StringBuffers};
 use std::process::Abort;
 
 const MEMORY: &str = "memory";

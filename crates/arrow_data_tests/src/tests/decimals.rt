@@ -1,7 +1,8 @@
 //! Decimals, by bytes that are written out. Their numbers are those of Python.
 
 use super::making::{column, dictionary, listed, plain};
-use arrow_data::{Array, Decimal, Value, decimals};
+use arrow_data::Array;
+use arrow_layout::{Decimal, Value, decimals};
 use std::process::Abort;
 
 const MEMORY: &str = "memory";

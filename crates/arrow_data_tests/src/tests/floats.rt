@@ -1,7 +1,8 @@
 //! Floating-point numbers, against those that another program reads from their bits.
 
 use super::making::{column, dictionary, listed, plain};
-use arrow_data::{Array, Value, half};
+use arrow_data::Array;
+use arrow_layout::{Value, half};
 use arrow_types::Precision;
 use std::num::{f64_from_bits_with_nan, f64_to_bits_with_nan};
 use std::process::Abort;

@@ -1,9 +1,9 @@
 //! The forms of types, and the properties of each form.
 
-use arrow_data::form::{Form, ListForm, NumberForm, OffsetWidth, form_of, int_width, node_form};
+use arrow_layout::form::{Form, ListForm, NumberForm, OffsetWidth, form_of, int_width, node_form};
 use arrow_test_fields::fields_of;
-use arrow_types::BitWidth::{Eight, Sixteen, SixtyFour, ThirtyTwo};
-use arrow_types::{BitWidth, Field, IndexType};
+use arrow_types::BitWidth::{self, Eight, Sixteen, SixtyFour, ThirtyTwo};
+use arrow_types::{Field, IndexType};
 use std::process::Abort;
 
 const SIGNED_32: Form = Form::Numbers(NumberForm::Int {

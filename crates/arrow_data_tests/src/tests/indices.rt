@@ -2,13 +2,13 @@
 
 ghost use Rattle.std.specs.Prelude.{◌≡◌};
 ghost use Rattle.arrow_bits.specs.Numbers.{IsWidth};
-ghost use Rattle.arrow_data.specs.Slots.{index_width};
+ghost use Rattle.arrow_layout.specs.Slots.{index_width};
 
 use super::making::{column, dictionary, listed};
 use super::reported::shows;
-use arrow_data::NumberBuffers;
-use arrow_data::form::{Form, NumberForm, node_form};
-use arrow_data::layout::{are_indices, has_fixed};
+use arrow_layout::NumberBuffers;
+use arrow_layout::form::{Form, NumberForm, node_form};
+use arrow_layout::layout::{are_indices, has_fixed};
 use arrow_test_fields::fields_of;
 use arrow_types::BitWidth::{self, Eight, Sixteen, SixtyFour, ThirtyTwo};
 use arrow_types::{Field, IndexType};

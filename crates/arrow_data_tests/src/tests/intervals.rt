@@ -1,7 +1,8 @@
 //! Intervals, by bytes that are written out.
 
 use super::making::{column, dictionary, listed, plain};
-use arrow_data::{Array, Interval, Value};
+use arrow_data::Array;
+use arrow_layout::{Interval, Value};
 use arrow_types::IntervalUnit;
 use std::process::Abort;
 

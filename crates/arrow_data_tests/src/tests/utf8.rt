@@ -1,8 +1,8 @@
 //! Whether slots are texts: bytes that together are one, and bytes that are not.
 
-use arrow_data::StringBuffers;
-use arrow_data::form::OffsetWidth;
-use arrow_data::layout::{are_texts, has_strings};
+use arrow_layout::StringBuffers;
+use arrow_layout::form::OffsetWidth;
+use arrow_layout::layout::{are_texts, has_strings};
 use std::process::Abort;
 
 /// Whether the slots between these offsets are texts, if they are slots at all.

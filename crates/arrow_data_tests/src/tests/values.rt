@@ -1,6 +1,6 @@
 //! Values by themselves.
 
-use arrow_data::Value;
+use arrow_layout::Value;
 use std::process::Abort;
 
 /// The values 1 and null.

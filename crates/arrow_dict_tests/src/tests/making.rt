@@ -5,12 +5,13 @@ ghost use Rattle.std.specs.Prelude.{◌≡◌, ◌≤◌, ℕ, IsTrue, List, Non
 ghost use Rattle.arrow_types.specs.Field.{none};
 ghost use Rattle.arrow_types.specs.View.{type_view};
 ghost use Rattle.arrow_data.specs.Column.{ValueList};
-ghost use Rattle.arrow_data.specs.Layout.{IsText, buffer_count};
+ghost use Rattle.arrow_layout.specs.Layout.{IsText, buffer_count};
 ghost use Rattle.arrow_data.specs.Listed.{listed};
 
-use arrow_data::layout::is_laid;
-use arrow_data::{Array, ByteRange, ChildData, Dictionary, NodeBuffers, SharedBody};
+use arrow_data::{Array, ChildData, Dictionary};
 use arrow_dict::{Store, StoreFault};
+use arrow_layout::layout::is_laid;
+use arrow_layout::{ByteRange, NodeBuffers, SharedBody};
 use arrow_types::{BitWidth, DataType, Field};
 use bytes::Bytes;
 use std::alloc::Global;

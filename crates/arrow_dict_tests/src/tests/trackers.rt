@@ -2,7 +2,7 @@
 
 use super::played::is_played;
 
-static SCRIPTS: [&str; 8] = [
+static SCRIPTS: [&str; 9] = [
     // A dictionary that is extended, and then changes.
     "delta 1 [1 2 3] -> New; stage 1 [1 2 3]; commit; delta 1 [1 2 3] -> None; \
     delta 1 [1 2 3 4 5] -> Delta(3); stage 1 [1 2 3 4 5]; commit; delta 1 [1 3 4 5] -> Replace; \
@@ -19,6 +19,10 @@ static SCRIPTS: [&str; 8] = [
     // Segments make no difference.
     "stage 1 [1 2 3]; commit; delta 1 [1][2 3] -> None; delta 1 [1 2][3 4] -> Delta(3); \
     delta 1 [1 2 3][4] -> Delta(3); delta 1 [1 2][4 3] -> Replace",
+    // Nor do they if there are two of the sent list too, which end elsewhere.
+    "stage 1 [1 2 3][4 5]; commit; delta 1 [1][2 3 4 5 6] -> Delta(5); \
+    resend 1 [1][2 3 4 5 6] -> Replace; delta 1 [1][2 3 4 5] -> None; \
+    resend 1 [1][2 3 4 5] -> None; delta 1 [1][2 3 4 6] -> Replace; sent 1 -> [1 2 3 4 5]",
     // Staged lists do not count until they are committed.
     "stage 1 [1]; delta 1 [1] -> New; sent 1 -> none; commit; delta 1 [1] -> None; sent 1 -> [1]",
     // Nothing is left of what was discarded.

@@ -6,7 +6,8 @@ use crate::vectors::{
     ABSENT, AT_BOTH, AT_COLUMN, AT_MESSAGE, AT_SCHEMA, FILLED, LEVELS, NO_PAIRS, PLAIN, ROWS,
     SHARED, WORDS,
 };
-use arrow_meta_reader::{DecodeCost, decode_counted, tree_counted};
+use arrow_meta_reader::decode_counted;
+use arrow_meta_tree::{DecodeCost, tree_counted};
 use arrow_types::Limits;
 use std::process::Abort;
 

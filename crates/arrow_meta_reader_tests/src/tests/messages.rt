@@ -4,7 +4,8 @@
 use super::reading::{Edits, MEMORY, edited};
 use crate::foreign::NOTHING;
 use crate::vectors::{PLAIN, ROWS, WORDS};
-use arrow_meta_reader::{BatchKind, Header, Message, MetaFault, RecordBatch, decode, judge, tree};
+use arrow_meta_reader::{Header, Message, RecordBatch, decode, judge};
+use arrow_meta_tree::{BatchKind, MetaFault, tree};
 use arrow_types::Limits;
 use std::alloc::Global;
 use std::process::Abort;

@@ -1,6 +1,7 @@
 //! Metadata with some bytes changed, and what was counted when they were read.
 
-use arrow_meta_reader::{DecodeCost, decode_counted};
+use arrow_meta_reader::decode_counted;
+use arrow_meta_tree::DecodeCost;
 use arrow_types::Limits;
 use std::alloc::Global;
 use std::process::Abort;

@@ -64,6 +64,17 @@ impl Answers {
         write!(self.text, "refused {} at {}; ", fault.kind, fault.place)
     }
 
+    /// How many values the dictionary of the first column of each batch has now.
+    pub(super) fn dictionary_lengths(&self, alloc: Global) -> Result<String, AllocError> {
+        let mut text = String::new(alloc);
+        for batch in &self.batches {
+            let first = batch.columns().first();
+            let dictionary = first.and_then(|column| column.dictionary());
+            write!(text, "{} ", dictionary.map_or(0, |it| it.len()))?;
+        }
+        Ok(text)
+    }
+
     /// The batches as they are now.
     pub(super) fn rows(&self, alloc: Global) -> Result<String, AllocError> {
         let mut text = String::new(alloc);

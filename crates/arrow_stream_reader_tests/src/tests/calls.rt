@@ -197,6 +197,20 @@ fn one_connection_after_the_other(rt: HostRuntime) {
     }
 }
 
+/// The rows of the batches of a stream, and the lengths of their dictionaries, when all of it is
+/// read: a batch keeps the dictionary that it was sent with.
+#[test]
+fn batches_keep_their_dictionaries(rt: HostRuntime) {
+    let letters = joined(rt.alloc(), &[(Growing, 0, 1_376)], &[]).expect(&rt, "a stream");
+    let mut reader = StreamReader::new(rt.alloc(), Limits::standard());
+    let mut answers = Answers::new(rt.alloc());
+    answers.give(&mut reader, &letters).expect(&rt, "memory");
+    let lengths = answers.dictionary_lengths(rt.alloc()).expect(&rt, "memory");
+    assert_eq!(rt; lengths.as_str(), "3 5 4 ");
+    let rows = answers.rows(rt.alloc()).expect(&rt, "memory");
+    assert_eq!(rt; rows.as_str(), "batch a b cbatch e abatch c e");
+}
+
 /// The batches of one stream, after the reader has read another.
 fn rows_at_last(alloc: Global, first: &[u8], second: &[u8]) -> Result<String, AllocError> {
     let mut reader = StreamReader::new(alloc, Limits::standard());

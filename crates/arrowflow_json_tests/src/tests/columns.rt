@@ -1,8 +1,9 @@
 //! Columns that are built value by value, and their lines.
 
 use arrow_builder::ArrayBuilder;
-use arrow_data::{Array, Batch, Value};
+use arrow_data::{Array, Batch};
 use arrow_json::lines_of;
+use arrow_layout::Value;
 use arrow_types::{DataType, Field, Schema};
 use std::process::Abort;
 use std::rc::Rc;

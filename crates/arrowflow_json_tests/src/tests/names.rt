@@ -1,8 +1,9 @@
 //! Names of columns, and rows of several of them.
 
 use super::columns::{MEMORY, are_lines, column, field, schema_of};
-use arrow_data::{Batch, Value};
+use arrow_data::Batch;
 use arrow_json::lines_of;
+use arrow_layout::Value;
 use arrow_types::{BitWidth, DataType};
 
 const INT8: DataType = DataType::Int {

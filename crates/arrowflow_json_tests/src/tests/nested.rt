@@ -1,7 +1,7 @@
 //! Lists, structs and maps.
 
 use super::columns::{MEMORY, are_shown, field, text};
-use arrow_data::Value;
+use arrow_layout::Value;
 use arrow_types::{BitWidth, DataType};
 use std::process::Abort;
 

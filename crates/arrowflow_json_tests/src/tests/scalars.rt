@@ -1,7 +1,7 @@
 //! Values that hold no others.
 
 use super::columns::{MEMORY, are_shown, bytes, text};
-use arrow_data::{Decimal, Interval, Value};
+use arrow_layout::{Decimal, Interval, Value};
 use arrow_types::{BitWidth, DataType, DateUnit, DecimalWidth, IntervalUnit, Precision, TimeUnit};
 use std::process::Abort;
 

@@ -1,7 +1,8 @@
 //! One way to specify a batch: the columns with their values, or the stream that contains it.
 
 use arrow_builder::ArrayBuilder;
-use arrow_data::{Array, Batch, Dictionary, Value};
+use arrow_data::{Array, Batch, Dictionary};
+use arrow_layout::Value;
 use arrow_stream_reader::StreamReader;
 use arrow_test_streams::parts::Source::{self, Growing, OneBatch};
 use arrow_types::BitWidth::{self, Eight, Sixteen, ThirtyTwo};

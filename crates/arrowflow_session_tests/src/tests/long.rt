@@ -3,7 +3,8 @@
 
 use super::batches::{MEMORY, batch, builder, field, received};
 use super::writers::{DELTA, STANDARD, called, limits_of, writer_of};
-use arrow_data::{Batch, Value};
+use arrow_data::Batch;
+use arrow_layout::Value;
 use arrow_sink::probe::{Failing, Narrow};
 use arrow_sink::{Sink, WriteFault};
 use arrow_stream_writer::StreamWriter;

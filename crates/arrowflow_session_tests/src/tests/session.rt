@@ -6,6 +6,7 @@ use super::batches::{
 use super::beginnings::{self, Frame, beginning};
 use super::reported::{push_dictionaries, push_received};
 use super::writers::{DELTA, Most, RESEND, STANDARD, Sent, assert_sent, limits_of};
+use crate::written::GAP;
 use arrow_data::{Batch, Buffers};
 use arrow_test_streams::parts::Source::Growing;
 use arrow_test_streams::parts::{self, END, LETTERS as SCHEMA, Part, joined};
@@ -269,4 +270,34 @@ fn a_number_under_a_null(rt: HostRuntime) {
     assert_report(&rt, &reports[0], "152 176 8 | ___ Clean", Some(NUMBERS));
     let handed = numbers_in(&rt, &reports[0].received.handed);
     assert!(rt; handed == [1, 0, 0, 0, 0, 0, 0, 0, 3, 0, 0, 0].as_slice());
+}
+
+/// The first list of the only column of the only batch: where it begins and ends among the items,
+/// and the items.
+fn list_in(rt: &(impl Abort + AllocGlobal), batches: &[Batch]) -> String {
+    let columns = batches.first().expect(rt, "a batch").columns();
+    let column = columns.first().expect(rt, "a column");
+    assert!(rt; column.len() == 1);
+    let (start, end, items) = column.list_at(0).expect(rt, "a list");
+    let mut text = format!(in rt.alloc(); "{start} to {end} of").expect(rt, MEMORY);
+    for i in 0..items.len() {
+        let item = items.int_at(i).expect(rt, "a number");
+        write!(text, " {item}").expect(rt, MEMORY);
+    }
+    text
+}
+
+/// A list is returned as it was read: without the item that it does not have.
+#[test]
+fn a_list_after_a_gap(rt: HostRuntime) {
+    let mut only = [connection_of(&rt, (NO_COLUMNS, &[], DELTA, true, ALL))];
+    only[0].batches = received(&rt, &GAP).handed;
+    assert_eq!(rt; list_in(&rt, &only[0].batches).as_str(), "1 to 2 of 7 8");
+    let schema = only[0].batches.first().expect(&rt, "a batch").schema();
+    only[0].schema = schema.copy(rt.alloc()).expect(&rt, MEMORY);
+    let reports = run(rt.alloc(), &limits_of(&rt, STANDARD), &only).expect(&rt, MEMORY);
+    assert_eq!(rt; reports.len(), 1);
+    assert_report(&rt, &reports[0], "216 216 8 | _ Clean", None);
+    let handed = list_in(&rt, &reports[0].received.handed);
+    assert_eq!(rt; handed.as_str(), "0 to 1 of 8");
 }

@@ -1,7 +1,7 @@
 use Rattle.std.proofs.Common.{rules, ◌≡◌, drop, ap, ◌∙◌}
 use Rattle.arrow_types.specs.View.{field_view}
 use Rattle.arrow_data.specs.Column.{counts_of}
-use Rattle.arrow_data.specs.Shared.{node_type}
+use Rattle.arrow_layout.specs.Shared.{node_type}
 use Rattle.arrow_body_reader.specs.Taken.{below, own_buffers}
 use Rattle.arrow_body_reader.proofs.Columns.{are_children, columns_long, columns_typed}
 use Rattle.arrow_body_reader.proofs.build.with_array.Goals as goal

@@ -1,8 +1,8 @@
 use Rattle.std.proofs.Common.{rules, ◌≡◌, [], drop, ap, sym, ◌∙◌, subst}
 use Rattle.arrow_types.specs.View.{field_view}
-use Rattle.arrow_data.specs.Form.{IsLeaf, form_of, node_form}
-use Rattle.arrow_data.specs.Layout.{IsLaid, IsText}
-use Rattle.arrow_data.specs.Shared.{NodeType, node_type}
+use Rattle.arrow_layout.specs.Form.{IsLeaf, form_of, node_form}
+use Rattle.arrow_layout.specs.Layout.{IsLaid, IsText}
+use Rattle.arrow_layout.specs.Shared.{NodeType, node_type}
 use Rattle.arrow_data.proofs.NodeParts.{leaf_laid}
 use Rattle.arrow_body_reader.specs.Sound.{lengths_of, own_bytes, slots_at}
 use Rattle.arrow_body_reader.specs.Taken.{below}

@@ -9,7 +9,7 @@ use Rattle.arrow_types.proofs.Fields.{fields_from}
 use Rattle.arrow_data.specs.Column.{Column}
 use Rattle.arrow_data.specs.Listed.{dictionary_for}
 use Rattle.arrow_data.specs.Parts.{node_column, values_in}
-use Rattle.arrow_data.specs.Shared.{node_type}
+use Rattle.arrow_layout.specs.Shared.{node_type}
 use Rattle.arrow_body_reader.specs.Sound.{AreFit, AreIndexed, AreLaid, AreText, IsNodeIndexed, IsNodeLaid, IsNodeText, columns_of, lengths_of, own_bytes, slots_at}
 use Rattle.arrow_body_reader.specs.Taken.{AreThere, below, own_buffers, taken_nodes, taken_buffers}
 use Rattle.arrow_body_reader.specs.Types.{HaveTypes}

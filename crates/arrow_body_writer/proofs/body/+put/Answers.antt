@@ -7,7 +7,7 @@ use Rattle.arrow_body_laws.specs.Raws.{AreRaws}
 use Rattle.arrow_body_laws.specs.Stored.{fields_of_columns, stored_chunks, stored_nodes}
 use Rattle.arrow_body_writer.proofs.Chunks.{StoresUpTo, leads_more, leads_out, some_alignment}
 use Rattle.arrow_body_writer.proofs.Measures.{IsRepresentableUpTo, columns_from, none_left, raws_one, raws_others, represented_next, represented_one, represented_out, represented_start}
-use Rattle.arrow_body_writer.proofs.Passing.{child_below, found_column}
+use Rattle.arrow_body_writer.proofs.Children.{child_below, found_column}
 use Rattle.arrow_body_writer.proofs.Sending.{sent_whole}
 use Rattle.arrow_body_writer.proofs.Wholes.{stores_whole, represented_whole, whole_counted, whole_raws, whole_smaller, whole_represented}
 use Rattle.arrow_body_writer.specs.Align.{alignment_of}

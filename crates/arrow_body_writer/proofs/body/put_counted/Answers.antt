@@ -3,7 +3,7 @@ use Rattle.arrow_body_laws.specs.Stored.{own_chunks, own_node}
 use Rattle.arrow_body_writer.proofs.Chunks.{chunk_next, chunk_past, some_alignment, stores_more}
 use Rattle.arrow_body_writer.proofs.Rooms.{node_rooms}
 use Rattle.arrow_body_writer.specs.Align.{alignment_of}
-use Rattle.arrow_body_writer.specs.Part.{chunk_of, part_of}
+use Rattle.arrow_body_slots.specs.Part.{chunk_of, part_of}
 use Rattle.arrow_body_writer.specs.Storing.{Stores}
 use Rattle.arrow_body_writer.specs.Source.{column_in}
 use Rattle.arrow_body_writer.proofs.body.put_counted.Goals as goal

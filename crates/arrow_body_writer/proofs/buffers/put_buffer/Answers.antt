@@ -1,9 +1,9 @@
 use Rattle.std.proofs.Common.{◌≡◌, ◌++◌, true, false, ap, sym, ◌∙◌}
-use Rattle.arrow_body_writer.proofs.Counting.{chunk_is, chunk_put}
+use Rattle.arrow_body_slots.proofs.Counting.{chunk_is, chunk_put}
 use Rattle.arrow_body_writer.specs.Align.{alignment_of}
 use Rattle.arrow_body_writer.specs.Counts.{sent_at}
-use Rattle.arrow_body_writer.specs.Part.{chunk_of}
-use Rattle.arrow_body_writer.specs.declared.part.BufferKind.TheVariants.{Validity}
+use Rattle.arrow_body_slots.specs.Part.{chunk_of}
+use Rattle.arrow_body_slots.specs.declared.part.BufferKind.TheVariants.{Validity}
 use Rattle.arrow_body_writer.proofs.buffers.put_buffer.Goals as goal
 use Rattle.arrow_body_writer.proofs.buffers.put_buffer.Goals.{else-tally-eq0-via-then-tally-eq0+else-matches, in-Validity, in_default, else-tally-eq0-via-else-tally-eq0}
 

@@ -3,12 +3,12 @@ use Rattle.std.proofs.lemmas.List.{at_drop_all}
 use Rattle.arrow_types.proofs.Fields.{fewer_below, fields_from}
 use Rattle.arrow_types.specs.Field.{TypeShape, count}
 use Rattle.arrow_types.specs.View.{field_view, fields_view, type_view}
-use Rattle.arrow_data.specs.Form.{HasFieldsOf, form_of}
+use Rattle.arrow_layout.specs.Form.{HasFieldsOf, form_of}
 use Rattle.arrow_body_reader.specs.Taken.{taken_nodes}
 use Rattle.arrow_body_laws.specs.Formed.{AreFormed}
 use Rattle.arrow_body_writer.proofs.Forming.{IsBelow, below_encoded, below_plain}
-use Rattle.arrow_body_writer.proofs.Passing.{same_encoding, same_type}
-use Rattle.arrow_body_writer.specs.Tally.{capped}
+use Rattle.arrow_body_writer.proofs.Children.{same_encoding, same_type}
+use Rattle.arrow_body_slots.specs.Tally.{capped}
 use Rattle.arrow_body_writer.proofs.forms.+counted.Goals as goal
 use Rattle.arrow_body_writer.proofs.forms.+counted.Goals.{count_nodes-in-Some, count_nodes-in-None}
 

@@ -3,7 +3,7 @@ use Rattle.arrow_types.specs.Field.{count}
 use Rattle.arrow_types.specs.View.{fields_view, type_view}
 use Rattle.arrow_body_reader.specs.Taken.{taken_nodes}
 use Rattle.arrow_body_laws.specs.Formed.{AreFormed}
-use Rattle.arrow_body_writer.specs.Tally.{capped}
+use Rattle.arrow_body_slots.specs.Tally.{capped}
 use Rattle.arrow_body_writer.proofs.forms.+counted.Given as goal
 
 -- there are fewer fields below

@@ -4,7 +4,7 @@ use Rattle.std.specs.Prelude.{option_map}
 use denote.Bor.{Bor}
 use Rattle.arrow_types.specs.Field.{TypeShape}
 use Rattle.arrow_types.specs.declared.field.Encoding.{Encoding}
-use Rattle.arrow_data.specs.Form.{HasFieldsOf, form_of}
+use Rattle.arrow_layout.specs.Form.{HasFieldsOf, form_of}
 use Rattle.arrow_body_reader.specs.Taken.{IfFlattened}
 use Rattle.arrow_body_laws.specs.Formed.{AreFormed}
 use Rattle.arrow_body_writer.proofs.Measures.{column_raws}

@@ -3,7 +3,7 @@ use Rattle.arrow_body_reader.specs.Taken.{taken_nodes}
 use Rattle.arrow_body_laws.specs.Laws.{raws_of}
 use Rattle.arrow_body_laws.specs.Raws.{AreRaws}
 use Rattle.arrow_body_laws.specs.Stored.{fields_of_columns}
-use Rattle.arrow_body_writer.specs.Tally.{capped}
+use Rattle.arrow_body_slots.specs.Tally.{capped}
 use Rattle.arrow_body_writer.proofs.forms.nodes_in_all.Given as goal
 
 -- the nodes so far and those of the remaining columns are all nodes; all raw values can be stored if those of the

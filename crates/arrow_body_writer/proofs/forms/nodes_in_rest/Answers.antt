@@ -1,6 +1,6 @@
 use Rattle.std.proofs.Common.{subst}
 use Rattle.arrow_types.specs.Field.{TypeShape}
-use Rattle.arrow_data.specs.Form.{HasFieldsOf, form_of}
+use Rattle.arrow_layout.specs.Form.{HasFieldsOf, form_of}
 use Rattle.arrow_body_laws.specs.Formed.{AreFormed}
 use Rattle.arrow_body_writer.proofs.Measures.{column_raws}
 use Rattle.arrow_body_writer.proofs.Sources.{all_from_one}

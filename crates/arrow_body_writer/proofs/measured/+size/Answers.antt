@@ -5,14 +5,14 @@ use Rattle.arrow_body_laws.specs.Laws.{raws_of}
 use Rattle.arrow_body_laws.specs.Raws.{AreRaws}
 use Rattle.arrow_body_laws.specs.Stored.{fields_of_columns}
 use Rattle.arrow_body_writer.proofs.Measures.{IsMeasured, columns_from, measured_next, measured_none, raws_one, raws_others, represented_one}
-use Rattle.arrow_body_writer.proofs.Passing.{child_below, found_column}
+use Rattle.arrow_body_writer.proofs.Children.{child_below, found_column}
 use Rattle.arrow_body_writer.proofs.Sending.{sent_whole}
 use Rattle.arrow_body_writer.proofs.Wholes.{sized_whole, whole_counted, whole_raws, whole_smaller, whole_represented}
 use Rattle.arrow_body_writer.specs.Align.{alignment_of}
 use Rattle.arrow_body_writer.specs.Sent.{nodes_of_column, visible_children}
 use Rattle.arrow_body_writer.specs.Source.{column_in}
 use Rattle.arrow_body_writer.specs.Storable.{AreRepresentable, columns_size}
-use Rattle.arrow_body_writer.specs.Tally.{capped}
+use Rattle.arrow_body_slots.specs.Tally.{capped}
 use Rattle.arrow_body_writer.proofs.measured.+size.Goals as goal
 use Rattle.arrow_body_writer.proofs.measured.+size.Goals.{column_size-in-Some+in_ok-below-in-Some, column_size-in-None+in_ok-below-in-None}
 

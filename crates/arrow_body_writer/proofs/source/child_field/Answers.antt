@@ -2,7 +2,7 @@ use Rattle.std.proofs.Common.{rules, ◌<◌, Some, length, sym, ap, ◌∙◌, 
 use Rattle.arrow_types.proofs.Fields.{width-fields_view}
 use Rattle.arrow_types.specs.Field.{width}
 use Rattle.arrow_data.specs.Column.{type_of_field}
-use Rattle.arrow_body_writer.proofs.Passing.{field_typed, same_encoding, same_type}
+use Rattle.arrow_body_writer.proofs.Children.{field_typed, same_encoding, same_type}
 use Rattle.arrow_body_writer.proofs.source.child_field.Goals as goal
 
 -- there is a field at the index

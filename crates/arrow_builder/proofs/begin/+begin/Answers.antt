@@ -1,12 +1,12 @@
 use Rattle.std.proofs.Common.{rules, None, ◌≡◌, ◌<◌, ℕ, List, length, map, ap, sym, subst, ◌∙◌, arith}
 use Rattle.std.proofs.lemmas.Grind.{common_steps}
 use Rattle.std.proofs.lemmas.Result.{IfOk-weaker}
-use Rattle.arrow_data.specs.Form.{HasFieldsOf, form_of}
+use Rattle.arrow_layout.specs.Form.{HasFieldsOf, form_of}
 use Rattle.arrow_builder.specs.Buffers.{buffers_in}
 use Rattle.arrow_builder.specs.Built.{AreBelow, counts_in, no_values_of}
 use Rattle.arrow_builder.specs.Fields.{field_form}
 use Rattle.arrow_builder.specs.Kept.{Keeps}
-use Rattle.arrow_types.specs.declared.data_type.DataType.{the_lemmas}
+use Rattle.arrow_types.specs.declared.field.DataType.{the_lemmas}
 use Rattle.arrow_types.specs.Field.{levels}
 use Rattle.arrow_types.specs.Schema.{field_is_nested}
 use Rattle.arrow_types.specs.View.{field_view}

@@ -1,8 +1,8 @@
 use Rattle.std.proofs.Common.{sym, subst}
 use Rattle.arrow_types.specs.View.{type_view}
 use Rattle.arrow_data.specs.Column.{counts_of}
-use Rattle.arrow_data.specs.Form.{node_form}
-use Rattle.arrow_data.specs.Layout.{IsLaid}
+use Rattle.arrow_layout.specs.Form.{node_form}
+use Rattle.arrow_layout.specs.Layout.{IsLaid}
 use Rattle.arrow_builder.specs.Buffers.{buffers_in}
 use Rattle.arrow_builder.proofs.Finishing.{keeps_holds}
 use Rattle.arrow_builder.proofs.finish.array_of.Goals as goal

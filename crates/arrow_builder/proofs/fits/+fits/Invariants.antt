@@ -1,8 +1,8 @@
 use Rattle.std.proofs.Common.{◌↔◌, drop}
 use Rattle.arrow_types.specs.View.{fields_view}
-use Rattle.arrow_data.specs.Fits.{ItemsFit, PartsFit}
-use Rattle.arrow_data.specs.PlainValue.{values_of}
-use Rattle.arrow_data.specs.Value.{values_view}
+use Rattle.arrow_layout.specs.Fits.{ItemsFit, PartsFit}
+use Rattle.arrow_layout.specs.PlainValue.{values_of}
+use Rattle.arrow_layout.specs.Value.{values_view}
 use Rattle.arrow_builder.proofs.fits.+fits.Given as goal
 
 abbrev pub invariant-items_fit-loop-item : goal.invariant-items_fit-loop-item

@@ -1,8 +1,8 @@
 use Rattle.std.proofs.Common.{◌≡◌, ◌↔◌, ◌≤◌, length, take, Some, sym, ◌∙◌, subst, arith}
 use Rattle.std.proofs.lemmas.Grind.{common_steps}
 use Rattle.arrow_types.specs.View.{field_view}
-use Rattle.arrow_data.specs.Form.{int_width}
-use Rattle.arrow_data.specs.Slots.{AreIndices}
+use Rattle.arrow_layout.specs.Form.{int_width}
+use Rattle.arrow_layout.specs.Slots.{AreIndices}
 use Rattle.arrow_data.specs.Listed.{values_by}
 use Rattle.arrow_builder.specs.Built.{Built}
 use Rattle.arrow_builder.specs.Finished.{IsIndexed}

@@ -1,4 +1,4 @@
-use Rattle.arrow_data.specs.Value.{value_view}
+use Rattle.arrow_layout.specs.Value.{value_view}
 use Rattle.arrow_builder.specs.Buffers.{buffers_in}
 use Rattle.arrow_builder.proofs.Putting.{err_gives, ok_gives}
 use Rattle.arrow_builder.proofs.Leaves.{binary_leaf, binary_stays, number_leaf, text_leaf, text_stays}

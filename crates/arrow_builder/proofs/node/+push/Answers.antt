@@ -6,20 +6,21 @@ use Rattle.std.proofs.lemmas.Grind.{common_steps}
 use Rattle.std.proofs.lemmas.List.{with_items_is}
 use Rattle.arrow_types.specs.Field.{FieldShape, levels, more, none}
 use Rattle.arrow_types.specs.View.{field_view}
-use Rattle.arrow_data.specs.Fits.{Fits}
-use Rattle.arrow_data.specs.PlainValue.{field_value, list_value, null_value, values_of}
-use Rattle.arrow_data.specs.Slots.{is_valid_at, place_of}
-use Rattle.arrow_data.specs.Value.{value_view, values_view}
-use Rattle.arrow_data.specs.declared.form.Form.TheVariants as forms
-use Rattle.arrow_data.specs.declared.form.ListForm.TheVariants as lists
-use Rattle.arrow_data.specs.declared.value.Value.{the_lemmas}
+use Rattle.arrow_bits.specs.Bitmap.{PutsBit}
+use Rattle.arrow_layout.specs.Fits.{Fits}
+use Rattle.arrow_layout.specs.PlainValue.{field_value, list_value, null_value, values_of}
+use Rattle.arrow_layout.specs.Slots.{is_valid_at, place_of}
+use Rattle.arrow_layout.specs.Value.{value_view, values_view}
+use Rattle.arrow_layout.specs.declared.form.Form.TheVariants as forms
+use Rattle.arrow_layout.specs.declared.form.ListForm.TheVariants as lists
+use Rattle.arrow_layout.specs.declared.value.Value.{the_lemmas}
 use Rattle.arrow_data.proofs.Lists.{list_again}
 use Rattle.arrow_builder.specs.Built.{Built, HaveSlots, built_size, cut_to, fields_in, sized_items, with_parts, with_value, with_values}
 use Rattle.arrow_builder.specs.Fields.{FitsField, field_form}
 use Rattle.arrow_builder.proofs.Listed.{given_fit, item_has, items_fit, items_more, nulls_more, only_child}
 use Rattle.arrow_builder.proofs.Nested.{begun, begun_all, begun_broken, begun_length, begun_more, begun_next, cut_more, field_fits, length_by_cut, long_by_cut, long_counts, parts_cut, size_below, slot_below, slots_by_cut}
 use Rattle.arrow_builder.proofs.NodeParts.{children_are, kept_lists, kept_structs, list_grows, list_stays, sized_grows, sized_stays, struct_grows, struct_stays}
-use Rattle.arrow_builder.specs.Puts.{PutsBit, PutsValid}
+use Rattle.arrow_builder.specs.Puts.{PutsValid}
 use Rattle.arrow_builder.proofs.NodeSlots.{node_len}
 use Rattle.arrow_builder.proofs.Putting.{after_err}
 use Rattle.arrow_builder.proofs.node.+push.Goals as goal

@@ -1,7 +1,7 @@
 use Rattle.std.proofs.Common.{◌≡◌, ◌+◌, ◌*◌, replicate, take}
 use Rattle.arrow_types.specs.Field.{levels}
-use Rattle.arrow_data.specs.PlainValue.{null_value}
-use Rattle.arrow_data.specs.Value.{value_view, values_view}
+use Rattle.arrow_layout.specs.PlainValue.{null_value}
+use Rattle.arrow_layout.specs.Value.{value_view, values_view}
 use Rattle.arrow_builder.specs.Built.{built_size, fields_in, with_values}
 use Rattle.arrow_builder.proofs.Nested.{begun}
 use Rattle.arrow_builder.proofs.node.+push.Given as goal

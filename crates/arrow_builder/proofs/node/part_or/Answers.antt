@@ -1,8 +1,8 @@
 use Rattle.std.proofs.Common.{◌≡◌, ℕ, zero, suc, ◌<◌, ◌≤◌, List, [], ◌∷◌, length, refl, ap, sym, ◌∙◌, arith, get_or}
 use Rattle.std.proofs.lemmas.Grind.{common_steps}
-use Rattle.arrow_data.specs.PlainValue.{nth_value, null_value, values_of}
-use Rattle.arrow_data.specs.Value.{value_view, values_view}
-use Rattle.arrow_data.specs.declared.value.Value.{Value}
+use Rattle.arrow_layout.specs.PlainValue.{nth_value, null_value, values_of}
+use Rattle.arrow_layout.specs.Value.{value_view, values_view}
+use Rattle.arrow_layout.specs.declared.value.Value.{Value}
 use Rattle.arrow_builder.proofs.node.part_or.Goals as goal
 
 -- the value of a part

@@ -1,7 +1,7 @@
 use Rattle.std.proofs.Common.{◌≡◌, ◌+◌, length, take, refl, ap, sym, subst, arith, ◌∙◌, length-take}
 use Rattle.std.specs.Prelude.{is_some}
 use Rattle.std.proofs.lemmas.Grind.{common_steps}
-use Rattle.arrow_data.specs.Slots.{is_valid_at, place_of}
+use Rattle.arrow_layout.specs.Slots.{is_valid_at, place_of}
 use Rattle.arrow_builder.specs.Puts.{PutsSlot, PutsValid, StaySlots, part_slot, value_or_null}
 use Rattle.arrow_builder.proofs.Putting.{after_err, err_gives, kept_start, ok_both}
 use Rattle.arrow_builder.proofs.Ranging.{parts_put, parts_stay}

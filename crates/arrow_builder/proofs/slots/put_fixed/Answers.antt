@@ -1,8 +1,8 @@
 use Rattle.std.proofs.Common.{◌≡◌, ◌*◌, length, take, refl, ap, subst, arith, ◌∙◌, length-take}
 use Rattle.std.specs.Prelude.{is_some}
 use Rattle.std.proofs.lemmas.Grind.{common_steps}
-use Rattle.arrow_data.specs.Slots.{is_valid_at}
-use Rattle.arrow_builder.specs.Puts.{PutsBit}
+use Rattle.arrow_bits.specs.Bitmap.{PutsBit}
+use Rattle.arrow_layout.specs.Slots.{is_valid_at}
 use Rattle.arrow_builder.proofs.Putting.{after_err, err_gives, fixed_in_slot, fixed_put, fixed_stay, kept_start, ok_gives}
 use Rattle.arrow_builder.proofs.slots.put_fixed.Goals as goal
 

@@ -4,9 +4,9 @@ use Rattle.std.proofs.Common.{◌≡◌, ◌*◌, ◌++◌, Bool, length, take, 
 use Rattle.std.proofs.lemmas.Grind.{common_steps}
 use Rattle.std.proofs.lemmas.List.{take-take}
 use Rattle.arrow_bits.specs.Numbers.{int_bytes, int_of, FitsInt}
-use Rattle.arrow_data.specs.Slots.{is_valid_at}
+use Rattle.arrow_bits.specs.Bitmap.{PutsBit}
+use Rattle.arrow_layout.specs.Slots.{is_valid_at}
 use Rattle.std.specs.Prelude.{is_some}
-use Rattle.arrow_builder.specs.Puts.{PutsBit}
 use Rattle.arrow_builder.proofs.Putting.{numbers_put, numbers_stay, start_stays, after_err, ok_gives, err_gives}
 use Rattle.arrow_builder.proofs.slots.put_number.Goals as goal
 

@@ -3,9 +3,9 @@ use mir.Syntax.{w128}
 use mir.Val.{to_z}
 use Rattle.std.proofs.lemmas.Grind.{common_steps}
 use Rattle.std.proofs.lemmas.List.{take-take}
-use Rattle.arrow_data.specs.Form.{offset_bytes}
+use Rattle.arrow_bits.specs.Bitmap.{PutsBit}
+use Rattle.arrow_layout.specs.Form.{offset_bytes}
 use Rattle.arrow_bits.specs.Numbers.{int_bytes}
-use Rattle.arrow_builder.specs.Puts.{PutsBit}
 use Rattle.arrow_builder.proofs.Putting.{after_err, ok_gives, err_gives, start_stays}
 use Rattle.arrow_builder.proofs.Ranging.{offset_appended, offset_whole, one_more_there, places_stay, ranges_put, ranges_stay}
 use Rattle.arrow_builder.proofs.slots.put_range.Goals as goal
@@ -58,7 +58,7 @@ returns-clause-kept c =
     let put = offset_appended c.args.width c.args.at c.args.slot.end c.bytes-bytes.result c.truncate.new.self.items c.put_int.new.out.items (to_z w128 c.args.slot.end)
     c.bytes-bytes.ensures.same (offset_whole c.args.width c.args.slot.end low) low long c.in_ok-put_int.ensures.reads in
     ok_gives c.put_bit.result (λ (puts : PutsBit c.args.at c.args.slot.valid c.args.buffers.now.validity.items c.put_bit.new.bytes.items).
-    ranges_put c.args.width c.args.at c.args.slot.end c.args.buffers.now.validity.items c.put_bit.new.bytes.items old c.put_int.new.out.items c.requires.kept puts.long there
+    ranges_put c.args.width c.args.at c.args.slot.end c.args.buffers.now.validity.items c.put_bit.new.bytes.items old c.put_int.new.out.items c.requires.kept (omega (arith, puts.long)) there
     (returns-clause-places c) c.requires.order low put)
     c.put_bit.ensures.ok
 

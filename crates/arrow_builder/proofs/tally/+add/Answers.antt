@@ -2,9 +2,9 @@ use Rattle.std.proofs.Common.{rules, ◌≡◌, ◌+◌, ◌<◌, suc, true, fal
 use denote.Param.Weighed.{at_most, most}
 use Rattle.std.proofs.lemmas.Grind.{common_steps}
 use Rattle.std.proofs.lemmas.List.{append-nil}
-use Rattle.arrow_data.specs.PlainValue.{list_value, values_of}
-use Rattle.arrow_data.specs.Value.{value_view, values_view}
-use Rattle.arrow_data.specs.declared.value.Value.{the_lemmas}
+use Rattle.arrow_layout.specs.PlainValue.{list_value, values_of}
+use Rattle.arrow_layout.specs.Value.{value_view, values_view}
+use Rattle.arrow_layout.specs.declared.value.Value.{the_lemmas}
 use Rattle.arrow_data.proofs.Lists.{list_again}
 use Rattle.arrow_builder.specs.Built.{given_items, sized_items}
 use Rattle.arrow_builder.specs.Columns.{child_column}

@@ -1,6 +1,6 @@
 use Rattle.std.proofs.Common.{◌+◌, ◌*◌, true, [], ◌∷◌, take}
 use denote.Param.Weighed.{most}
-use Rattle.arrow_data.specs.Value.{value_view, values_view}
+use Rattle.arrow_layout.specs.Value.{value_view, values_view}
 use Rattle.arrow_builder.specs.Tally.{Adds}
 use Rattle.arrow_builder.specs.declared.tally.Tally.{size-Tally}
 use Rattle.arrow_builder.proofs.Counting.{Gives, UpTo}

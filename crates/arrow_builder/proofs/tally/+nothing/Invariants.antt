@@ -1,7 +1,7 @@
 use Rattle.std.proofs.Common.{◌+◌, ◌*◌, false, [], ℕ, take}
 use Rattle.arrow_types.specs.Field.{levels}
 use Rattle.arrow_types.specs.View.{field_view, fields_view}
-use Rattle.arrow_data.specs.declared.form.Form.{Form}
+use Rattle.arrow_layout.specs.declared.form.Form.{Form}
 use Rattle.arrow_builder.specs.Tally.{AreCounted}
 use Rattle.arrow_builder.proofs.tally.+nothing.Given as goal
 

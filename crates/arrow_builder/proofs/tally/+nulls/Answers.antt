@@ -1,6 +1,6 @@
 use Rattle.std.proofs.Common.{◌≡◌, ◌+◌, ◌*◌, ◌<◌, suc, true, false, length, get_or, replicate, set, sym, ap, ◌∙◌, subst, arith}
 use denote.Param.Weighed.{at_most, most}
-use Rattle.arrow_data.specs.PlainValue.{null_value}
+use Rattle.arrow_layout.specs.PlainValue.{null_value}
 use Rattle.arrow_builder.specs.Columns.{all_items, child_column}
 use Rattle.arrow_builder.specs.Tally.{Adds}
 use Rattle.arrow_builder.specs.declared.tally.Tally.{Tally, Tally-F, out-Tally, out-roll-Tally, size-Tally}

@@ -1,6 +1,6 @@
 use Rattle.std.proofs.Common.{◌+◌, ◌*◌, true, replicate}
 use denote.Param.Weighed.{most}
-use Rattle.arrow_data.specs.PlainValue.{null_value}
+use Rattle.arrow_layout.specs.PlainValue.{null_value}
 use Rattle.arrow_builder.specs.declared.tally.Tally.{size-Tally}
 use Rattle.arrow_builder.proofs.Counting.{Gives, UpTo}
 use Rattle.arrow_builder.proofs.tally.+nulls.Given as goal

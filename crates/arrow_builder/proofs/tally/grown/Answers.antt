@@ -1,6 +1,6 @@
 use Rattle.std.proofs.Common.{sym, ◌∙◌, arith}
 use Rattle.std.proofs.lemmas.Bool.{false≢true}
-use Rattle.arrow_data.specs.Value.{value_view}
+use Rattle.arrow_layout.specs.Value.{value_view}
 use Rattle.arrow_builder.proofs.Within.{total_more, total_past}
 use Rattle.arrow_builder.proofs.tally.grown.Goals as goal
 

@@ -1,6 +1,6 @@
 use Rattle.std.proofs.Common.{◌≡◌, ◌+◌, ◌*◌, ap, sym, ◌∙◌, arith}
 use Rattle.std.proofs.lemmas.Bool.{false≢true}
-use Rattle.arrow_data.specs.PlainValue.{null_value}
+use Rattle.arrow_layout.specs.PlainValue.{null_value}
 use Rattle.arrow_builder.specs.Within.{slot_bytes}
 use Rattle.arrow_builder.proofs.Within.{most_low, total_nulls}
 use Rattle.arrow_builder.proofs.tally.grown_by_nulls.Goals as goal

@@ -2,7 +2,7 @@ use Rattle.std.proofs.Common.{◌≡◌, ap, sym, ◌∙◌, subst, arith, rules
 use Rattle.std.specs.Int.{w128}
 use Rattle.std.proofs.lemmas.Result.{on_ok_weaker}
 use Rattle.arrow_data.specs.Column.{resolved_row_of, values_from}
-use Rattle.arrow_data.specs.PlainValue.{int_value, value_at}
+use Rattle.arrow_layout.specs.PlainValue.{int_value, value_at}
 use Rattle.arrow_data.specs.Shown.{HoldsValue}
 use Rattle.arrow_types.specs.View.{fields_view, type_view}
 use Rattle.arrow_csv.specs.Floats.{IsNumberText}

@@ -1,7 +1,7 @@
 use Rattle.std.proofs.Common.{◌≡◌, ◌<◌, ◌^◌, to_z, of_z, sym, ap, ◌∙◌, rules}
 use Rattle.std.proofs.lemmas.Result.{on_ok_weaker}
 use Rattle.std.specs.Int.{is_negative, w8, w128}
-use Rattle.arrow_data.specs.Decimals.{unscaled_of}
+use Rattle.arrow_layout.specs.Decimals.{unscaled_of}
 use Rattle.arrow_csv.specs.Wide.{wide_number}
 use Rattle.arrow_csv.proofs.DecimalTexts.{appends_decimal}
 use Rattle.arrow_csv.proofs.WideNumbers.{half_sign}

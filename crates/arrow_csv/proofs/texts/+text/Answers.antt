@@ -4,7 +4,7 @@ use Rattle.std.proofs.lemmas.Result.{on_ok_weaker}
 use Rattle.arrow_types.specs.declared.field.Field.{Field, the_lemmas}
 use Rattle.arrow_types.specs.View.{field_view, fields_view, type_view}
 use Rattle.arrow_data.specs.Column.{AreOf, resolved_row_of, values_from}
-use Rattle.arrow_data.specs.PlainValue.{int_value, value_at}
+use Rattle.arrow_layout.specs.PlainValue.{int_value, value_at}
 use Rattle.arrow_data.specs.Shown.{HoldsValue}
 use Rattle.arrow_data.proofs.Sameness.{child_smaller, parts_smaller}
 use Rattle.arrow_csv.specs.Floats.{IsNumberText}

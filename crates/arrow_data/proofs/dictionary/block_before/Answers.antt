@@ -2,7 +2,7 @@ use Rattle.std.proofs.Common.{◌≡◌, ◌+◌, ◌-◌, ◌/◌, length, get_
 use Rattle.std.proofs.lemmas.List.{length-map}
 use Rattle.std.specs.Rc.{rc_value}
 use Rattle.arrow_data.specs.Segments.{block_starts}
-use Rattle.arrow_data.specs.declared.dictionary.Block.{Block}
+use Rattle.arrow_data.specs.declared.array.Block.{Block}
 use Rattle.arrow_data.proofs.Blocks.{start_read}
 use Rattle.arrow_data.proofs.dictionary.block_before.Goals as goal
 

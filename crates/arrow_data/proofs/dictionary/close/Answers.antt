@@ -2,7 +2,7 @@ use Rattle.std.proofs.Common.{◌≡◌, ◌∷◌, ◌++◌, [], ap, sym, ◌�
 use Rattle.std.proofs.lemmas.List.{map_push}
 use Rattle.std.specs.Rc.{rc_value}
 use Rattle.arrow_data.specs.Segments.{AreSame, block_segments, columns_of, starts_of}
-use Rattle.arrow_data.specs.declared.dictionary.Block.{Block}
+use Rattle.arrow_data.specs.declared.array.Block.{Block}
 use Rattle.arrow_data.proofs.Blocks.{closed}
 use Rattle.arrow_data.proofs.dictionary.close.Goals as goal
 

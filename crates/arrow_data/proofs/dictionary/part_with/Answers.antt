@@ -3,7 +3,7 @@ use Rattle.std.proofs.lemmas.Bool.{cases_lt}
 use Rattle.std.proofs.lemmas.List.{get_or-map, length-map}
 use Rattle.std.specs.Rc.{rc_value}
 use Rattle.arrow_data.specs.Segments.{Between, IsPartWith, block_starts, starts_of}
-use Rattle.arrow_data.specs.declared.dictionary.Block.{Block}
+use Rattle.arrow_data.specs.declared.array.Block.{Block}
 use Rattle.arrow_data.proofs.Blocks.{block_part, blocks_begin, last_part}
 use Rattle.arrow_data.proofs.dictionary.part_with.Goals as goal
 

@@ -1,11 +1,12 @@
 use Rattle.std.proofs.lemmas.Grind.{common_steps}
 use Rattle.std.proofs.Common.{◌≡◌, ◌≤◌, length, map, ap, sym, ◌∙◌, subst, refl, arith}
 use Rattle.arrow_types.specs.View.{type_view}
-use Rattle.arrow_data.specs.Form.{buffers_of, form_of}
-use Rattle.arrow_data.specs.Node.{binary_at, bytes_of, utf8_at}
+use Rattle.arrow_layout.specs.Form.{buffers_of, form_of}
+use Rattle.arrow_layout.specs.ByteRanges.{bytes_of}
+use Rattle.arrow_data.specs.Node.{binary_at, utf8_at}
 use Rattle.arrow_data.specs.Parts.{value_slot}
-use Rattle.arrow_data.specs.Slots.{binary_slot, utf8_slot}
-use Rattle.arrow_data.specs.declared.form.Form.TheVariants as forms
+use Rattle.arrow_layout.specs.Slots.{binary_slot, utf8_slot}
+use Rattle.arrow_layout.specs.declared.form.Form.TheVariants as forms
 use Rattle.arrow_data.proofs.NodeParts.{leaf_same, strings_same}
 use Rattle.arrow_data.proofs.parts.leaf_ranges.Goals as goal
 

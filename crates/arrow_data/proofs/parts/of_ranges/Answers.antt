@@ -1,6 +1,7 @@
 use Rattle.std.proofs.Common.{rules, ◌∙◌, sym, subst}
 use Rattle.arrow_types.specs.View.{type_view}
-use Rattle.arrow_data.specs.Node.{AreBytes, column_by}
+use Rattle.arrow_layout.specs.ByteRanges.{AreBytes}
+use Rattle.arrow_data.specs.Node.{column_by}
 use Rattle.arrow_data.proofs.parts.of_ranges.Goals as goal
 
 -- the copies have the type and the bytes that were lent

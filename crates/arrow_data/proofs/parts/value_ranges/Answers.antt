@@ -1,8 +1,8 @@
 use Rattle.std.proofs.lemmas.Grind.{common_steps}
 use Rattle.std.proofs.Common.{◌≡◌, ◌≤◌, length, sym, ◌∙◌, subst, refl, arith}
 use Rattle.arrow_types.specs.View.{type_view}
-use Rattle.arrow_data.specs.Form.{HasFieldsOf, buffers_of, form_of}
-use Rattle.arrow_data.specs.declared.form.Form.TheVariants as forms
+use Rattle.arrow_layout.specs.Form.{HasFieldsOf, buffers_of, form_of}
+use Rattle.arrow_layout.specs.declared.form.Form.TheVariants as forms
 use Rattle.arrow_data.proofs.NodeParts.{list_lies, list_same, one_child, struct_lies, struct_same}
 use Rattle.arrow_data.proofs.parts.value_ranges.Goals as goal
 

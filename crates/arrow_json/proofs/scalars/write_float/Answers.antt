@@ -1,7 +1,7 @@
 use Rattle.std.proofs.Common.{◌≡◌, sym, subst, OnOk, rules}
 use Rattle.std.specs.Float.{Float}
 use Rattle.arrow_types.specs.declared.data_type.Precision.TheVariants.{Half, Single, Double}
-use Rattle.arrow_data.specs.Floats.{number_of}
+use Rattle.arrow_layout.specs.Floats.{number_of}
 use Rattle.arrow_csv.specs.Floats.{text_format}
 use Rattle.arrow_json.specs.Scalars.{IsFloatJson}
 use Rattle.arrow_json.specs.Written.{Adds}

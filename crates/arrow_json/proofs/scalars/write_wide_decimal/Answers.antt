@@ -1,6 +1,6 @@
 use Rattle.std.specs.Str.{IsUtf8}
 use Rattle.json.specs.Print.{IsNumber}
-use Rattle.arrow_data.specs.Decimals.{unscaled_of}
+use Rattle.arrow_layout.specs.Decimals.{unscaled_of}
 use Rattle.arrow_csv.specs.Decimals.{decimal_text}
 use Rattle.arrow_json.proofs.Asciis.{decimal_utf8, in_room}
 use Rattle.arrow_json.proofs.DecimalNumbers.{decimal_is_number}

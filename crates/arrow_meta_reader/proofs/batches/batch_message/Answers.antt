@@ -2,7 +2,7 @@ use Rattle.std.proofs.Common.{◌≡◌, ◌≤◌, ℕ, Some, sym, rules, arith
 use Rattle.arrow_flatbuf.specs.Place.{past}
 use Rattle.arrow_flatbuf.specs.Table.{field_place, table_at}
 use Rattle.arrow_meta_reader.specs.Means.{header_view}
-use Rattle.arrow_meta_reader.specs.Codes.{metadata_version}
+use Rattle.arrow_meta_reader.specs.Versions.{metadata_version}
 use Rattle.arrow_meta_reader.proofs.Straight.{message_there}
 use Rattle.arrow_meta_reader.proofs.batches.batch_message.Goals as goal
 

@@ -1,6 +1,6 @@
 use Rattle.std.proofs.Common.{◌≡◌, [], ◌∷◌, ◌++◌, arith, rules}
 use Rattle.arrow_meta_reader.specs.Means.{buffer_of}
-use Rattle.arrow_meta_reader.proofs.Pairs.{one_made}
+use Rattle.arrow_meta_tree.proofs.Pairs.{one_made}
 use Rattle.arrow_meta_reader.proofs.batches.buffers_of.Goals as goal
 
 pub loop-index-preserved : goal.loop-index-preserved

@@ -1,5 +1,5 @@
 use Rattle.std.proofs.Common.{◌≡◌, ◌+◌, ◌*◌, ◌-◌, ◌++◌, map}
-use Rattle.arrow_meta_reader.specs.Lies.{pairs_from}
+use Rattle.arrow_meta_tree.specs.Lies.{pairs_from}
 use Rattle.arrow_meta_reader.specs.Means.{node_of}
 use Rattle.arrow_meta_reader.proofs.batches.nodes_of.Given as goal
 

@@ -1,5 +1,5 @@
 use Rattle.std.proofs.Common.{◌≡◌, Some, sym, ◌∙◌}
-use Rattle.arrow_meta_reader.proofs.OneTree.{one_table}
+use Rattle.arrow_meta_tree.proofs.OneTree.{one_table}
 use Rattle.arrow_meta_reader.proofs.laws.one_meaning.Goals as goal
 
 pub returns-clause-tree : goal.returns-clause-tree

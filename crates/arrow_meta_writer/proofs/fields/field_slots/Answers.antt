@@ -14,8 +14,8 @@ use Rattle.arrow_types.specs.View.{field_notes, field_view}
 use Rattle.arrow_types.specs.declared.field.Encoding.{Encoding}
 use Rattle.arrow_meta_writer.specs.Appends.{after_encoding, encoding_slot, field_node}
 use Rattle.arrow_meta_writer.specs.Capped.{capped}
-use Rattle.arrow_meta_reader.specs.Types.{type_code}
-use Rattle.arrow_meta_reader.specs.Conditions.{children_fit}
+use Rattle.arrow_meta_tree.specs.Types.{type_code}
+use Rattle.arrow_meta_schema.specs.Conditions.{children_fit}
 use Rattle.arrow_meta_writer.specs.Layouts.{flag, tag_code, type_cells, with_encoding, field_cells}
 use Rattle.arrow_meta_writer.specs.Layouts.{field_nodes, metadata_cells}
 use Rattle.arrow_meta_writer.proofs.WithEncoding.{children_after, last_slots}

@@ -3,7 +3,7 @@ use Rattle.std.specs.Str.{is_utf8}
 use Rattle.std.proofs.lemmas.Str.{is_utf8-from_IsUtf8}
 use Rattle.arrow_types.specs.DataType.{TypeId, timestamp}
 use Rattle.arrow_types.specs.View.{type_view}
-use Rattle.arrow_types.specs.declared.data_type.DataType.{the_lemmas}
+use Rattle.arrow_types.specs.declared.field.DataType.{the_lemmas}
 use Rattle.arrow_meta_writer.specs.Writable.{HasTextZone}
 use Rattle.arrow_meta_writer.proofs.types.zone_of.Goals as goal
 

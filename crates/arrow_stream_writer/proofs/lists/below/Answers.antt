@@ -1,9 +1,9 @@
 use Rattle.std.proofs.Common.{◌≡◌, sym, ap, ◌∙◌, subst, inl, inr}
 use Rattle.arrow_types.specs.Field.{FieldTree, none, TypeShape}
 use Rattle.arrow_types.specs.View.{type_view}
-use Rattle.arrow_data.specs.Form.{HasFieldsOf}
-use Rattle.arrow_data.specs.declared.form.Form.{Form}
-use Rattle.arrow_data.specs.declared.form.Form.TheVariants as forms
+use Rattle.arrow_layout.specs.Form.{HasFieldsOf}
+use Rattle.arrow_layout.specs.declared.form.Form.{Form}
+use Rattle.arrow_layout.specs.declared.form.Form.TheVariants as forms
 use Rattle.arrow_stream_writer.proofs.Gathering.{leaf_lists}
 use Rattle.arrow_stream_writer.proofs.lists.below.Goals as goal
 

@@ -3,9 +3,9 @@ use Rattle.arrow_types.specs.Limits.{LimitNumbers}
 use Rattle.arrow_stream_laws.specs.Sizes.{Options}
 use Rattle.arrow_stream_writer.specs.Shown.{options_view}
 use Rattle.arrowflow_copy.specs.CopierShown.{copier_view}
-use Rattle.arrowflow_c.specs.Copied.{IsFresh}
-use Rattle.arrowflow_c.specs.Terms.{AreLimits, numbers, options_by}
-use Rattle.arrowflow_c.specs.declared.pieces.Copying.{Copying}
+use Rattle.arrowflow_calls.specs.Copied.{IsFresh}
+use Rattle.arrowflow_calls.specs.Terms.{AreLimits, numbers, options_by}
+use Rattle.arrowflow_calls.specs.declared.pieces.Copying.{Copying}
 use Rattle.arrowflow_c.proofs.CopierCalls.{opens}
 use Rattle.arrowflow_c.proofs.copier.arrowflow_copier_open.Goals as goal
 

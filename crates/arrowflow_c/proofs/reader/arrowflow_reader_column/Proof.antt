@@ -34,9 +34,9 @@ use Rattle.std.proofs.raw_atomic.Walks.{proved, leaves}
 use Rattle.arrowflow_c.specs.Columns.{ColumnIf}
 use Rattle.arrowflow_c.specs.Lending.{KeepsReader}
 use Rattle.arrowflow_c.specs.declared.columns.ColumnC.{ColumnC}
-use Rattle.arrowflow_c.specs.declared.reading.Reading.{Reading}
-use Rattle.arrowflow_c.specs.contracts.reading.Reading as held
-use Rattle.arrowflow_c.proofs.reading.Reading.TheLaws as held_laws
+use Rattle.arrowflow_calls.specs.declared.reading.Reading.{Reading}
+use Rattle.arrowflow_calls.specs.contracts.reading.Reading as held
+use Rattle.arrowflow_calls.proofs.reading.Reading.TheLaws as held_laws
 use Rattle.arrowflow_c.specs.contracts.columns.ColumnC as column
 use Rattle.arrowflow_c.specs.contracts.handle.ReaderC as handle
 use Rattle.arrowflow_c.specs.contracts.handle.ReaderC.reading as lending

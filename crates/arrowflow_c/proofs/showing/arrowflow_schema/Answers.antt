@@ -1,6 +1,6 @@
 use Rattle.std.proofs.Common.{[], Some, Ok, Err, subst, refl, inl}
 use Rattle.arrowflow_text.specs.SchemaCall.{AnswersInput}
-use Rattle.arrowflow_c.specs.Terms.{numbers}
+use Rattle.arrowflow_calls.specs.Terms.{numbers}
 use Rattle.arrowflow_c.proofs.showing.arrowflow_schema.Goals as goal
 
 -- the text was given

@@ -13,23 +13,23 @@ loop-taken-init g c = (taking_nothing g.C.Consumer.keeps c.args.consumer c.args.
 pub item-next-requires : goal.item-next-requires
 item-next-requires g c = record { ready = c.loop-taken.invariant.2 }
 
-pub returns-in-Ok-More-clause-takes : goal.returns-in-Ok-More-clause-takes
-returns-in-Ok-More-clause-takes g c start t x =
+pub returns-in-Ok-Continue-clause-takes : goal.returns-in-Ok-Continue-clause-takes
+returns-in-Ok-Continue-clause-takes g c start t x =
     let some = c.in-Ok-default-Some in
     let l = c.loop-taken in
     let is_open = open_by_item l.reader.at.verdict some.taken some.field-0-1 some.item some.field-0-1-is (λ d. (some.ensures.done d).0) (λ k b. (_, (some.ensures.failed k b).0)) in
     let next : (t : List ℕ) (es : List Entry) → IsReaderAt l.reader t es → GivesNext l.rest.now some.taken some.item c.read.new.self t es = λ t es at. rw some.field-0-1-is at (some.ensures.reads t es at) in
     piece_marked g.C.Consumer.keeps g.C.Consumer.answers c.args.consumer c.args.reader.now c.args.piece.now l.reader l.consumer l.rest.now l.invariant.0 c.read.new.self some.ensures.limits some.taken some.item is_open next c.place-place.result c.place-place.ensures.place
-    c.item-next.result.1 c.item-next.result.0 c.item-next.ensures.takes (c.in-Ok-More.is ∙ ap Ok (rw c.in-Ok-More.is at c.in-Ok-More.field-0-is)) (ap given c.if-is_last.ensures) start t x
+    c.item-next.result.1 c.item-next.result.0 c.item-next.ensures.takes (c.in-Ok-Continue.is ∙ ap Ok (rw c.in-Ok-Continue.is at c.in-Ok-Continue.field-0-is)) (ap given c.if-is_last.ensures) start t x
 
-pub returns-in-Ok-Enough-clause-takes : goal.returns-in-Ok-Enough-clause-takes
-returns-in-Ok-Enough-clause-takes g c start t x =
+pub returns-in-Ok-Break-clause-takes : goal.returns-in-Ok-Break-clause-takes
+returns-in-Ok-Break-clause-takes g c start t x =
     let some = c.in-Ok-default-Some in
     let l = c.loop-taken in
     let is_open = open_by_item l.reader.at.verdict some.taken some.field-0-1 some.item some.field-0-1-is (λ d. (some.ensures.done d).0) (λ k b. (_, (some.ensures.failed k b).0)) in
     let next : (t : List ℕ) (es : List Entry) → IsReaderAt l.reader t es → GivesNext l.rest.now some.taken some.item c.read.new.self t es = λ t es at. rw some.field-0-1-is at (some.ensures.reads t es at) in
     piece_stopped g.C.Consumer.keeps g.C.Consumer.answers c.args.consumer c.args.reader.now c.args.piece.now l.reader l.consumer l.rest.now l.invariant.0 c.read.new.self some.ensures.limits some.taken some.item is_open next c.place-place.result c.place-place.ensures.place
-    c.item-next.result.1 c.item-next.result.0 c.item-next.ensures.takes (c.in-Ok-Enough.is ∙ ap Ok (rw c.in-Ok-Enough.is at c.in-Ok-Enough.field-0-is)) start t x
+    c.item-next.result.1 c.item-next.result.0 c.item-next.ensures.takes (c.in-Ok-Break.is ∙ ap Ok (rw c.in-Ok-Break.is at c.in-Ok-Break.field-0-is)) start t x
 
 pub returns-in-Err-wants-clause-takes : goal.returns-in-Err-wants-clause-takes
 returns-in-Err-wants-clause-takes g c start t x =
@@ -48,9 +48,9 @@ loop-taken-preserved g c =
     let next : (t : List ℕ) (es : List Entry) → IsReaderAt l.reader t es → GivesNext l.rest.now some.taken some.item c.read.new.self t es = λ t es at. rw some.field-0-1-is at (some.ensures.reads t es at) in (
       subst (IsTaking g.C.Consumer.keeps c.args.consumer c.args.reader.now c.args.piece.now c.read.new.self c.item-next.result.0) (sym (take_rest l.rest.now some.taken))
           (taking_next g.C.Consumer.keeps g.C.Consumer.answers c.args.consumer c.args.reader.now c.args.piece.now l.reader l.consumer l.rest.now l.invariant.0 c.read.new.self some.ensures.limits some.taken some.item is_open next c.place-place.result
-          c.place-place.ensures.place c.item-next.result.1 c.item-next.result.0 c.item-next.ensures.takes (c.in-Ok-More.is ∙ ap Ok (rw c.in-Ok-More.is at c.in-Ok-More.field-0-is))),
+          c.place-place.ensures.place c.item-next.result.1 c.item-next.result.0 c.item-next.ensures.takes (c.in-Ok-Continue.is ∙ ap Ok (rw c.in-Ok-Continue.is at c.in-Ok-Continue.field-0-is))),
       λ o. open_after l.reader.at.verdict c.read.new.self.at.verdict some.field-0-1 some.item some.field-0-1-is some.ensures.goes_on c.if-is_last.ensures,
-      c.item-next.ensures.ready (c.in-Ok-More.is ∙ ap Ok (rw c.in-Ok-More.is at c.in-Ok-More.field-0-is)),
+      c.item-next.ensures.ready (c.in-Ok-Continue.is ∙ ap Ok (rw c.in-Ok-Continue.is at c.in-Ok-Continue.field-0-is)),
     )
 
 pub returns-in-Ok-default-None-clause-takes : goal.returns-in-Ok-default-None-clause-takes

@@ -1,9 +1,9 @@
 use Rattle.std.proofs.Common.{◌≡◌, ◌≤◌, ◌↔◌, ℕ, List, IsTrue, leb, le-leb, leb-true, refl, sym, subst, ◌∙◌}
-use Rattle.arrow_data.specs.Form.{node_form}
-use Rattle.arrow_data.specs.Layout.{HoldsSlots, buffer}
-use Rattle.arrow_data.specs.Slots.{HasBits}
-use Rattle.arrow_data.specs.declared.form.Form.{Form}
-use Rattle.arrow_data.specs.declared.form.Form.TheVariants as forms
+use Rattle.arrow_layout.specs.Form.{node_form}
+use Rattle.arrow_layout.specs.Layout.{HoldsSlots, buffer}
+use Rattle.arrow_layout.specs.Slots.{HasBits}
+use Rattle.arrow_layout.specs.declared.form.Form.{Form}
+use Rattle.arrow_layout.specs.declared.form.Form.TheVariants as forms
 use Rattle.arrow_body_reader.specs.Least.{IsLeast}
 use Rattle.arrow_body_reader.specs.Place.{buffers_in, head_at, lengths_below}
 use Rattle.arrow_body_reader.proofs.place.NodePlace.check_layout.Goals as goal

@@ -3,4 +3,4 @@ use Rattle.arrow_body_writer.proofs.source.ColumnSource.+send.Given as goal
 
 -- each call goes one column up
 abbrev pub decreases-send : goal.decreases-send
-decreases-send l = count_above l.self.now
+decreases-send g l = count_above l.self.now

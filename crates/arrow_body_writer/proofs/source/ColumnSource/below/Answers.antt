@@ -1,7 +1,7 @@
 use Rattle.std.proofs.Common.{ap, sym, ◌∙◌, subst, Some}
 use Rattle.std.specs.List.{flat_map}
 use Rattle.arrow_data.specs.Column.{IsList, type_of_field}
-use Rattle.arrow_data.specs.Form.{IsLists}
+use Rattle.arrow_layout.specs.Form.{IsLists}
 use Rattle.arrow_body_writer.proofs.Sending.{field_sent, items_sent, lists_of, sends_structs}
 use Rattle.arrow_body_laws.specs.Raws.{items_in_value}
 use Rattle.arrow_body_writer.specs.Sent.{column_by, form_of_column}

@@ -1,5 +1,5 @@
 use Rattle.std.proofs.Common.{◌∷◌, [], ◌++◌, true, false, sym, subst}
-use Rattle.arrow_data.specs.Value.{value_view}
+use Rattle.arrow_layout.specs.Value.{value_view}
 use Rattle.arrow_builder.specs.Built.{Built}
 use Rattle.arrow_builder.specs.Columns.{AllNodes}
 use Rattle.arrow_builder.specs.Faults.{TakesValue}

@@ -1,5 +1,5 @@
 use Rattle.std.proofs.Common.{◌≡◌, ◌<◌, arith, ap, sym, subst, ◌∙◌}
-use Rattle.arrow_data.specs.Value.{value_view}
+use Rattle.arrow_layout.specs.Value.{value_view}
 use Rattle.arrow_types.specs.View.{field_view}
 use Rattle.arrow_builder.specs.Built.{Built, with_value}
 use Rattle.arrow_builder.specs.Fields.{FitsField, field_form}

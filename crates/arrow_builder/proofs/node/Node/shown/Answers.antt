@@ -1,10 +1,10 @@
 use Rattle.std.proofs.Common.{◌≡◌, ◌+◌, ◌*◌, ◌<◌, ◌≤◌, length, take, ap, sym, ◌∙◌, subst, arith}
 use Rattle.std.proofs.lemmas.Grind.{common_steps}
 use Rattle.arrow_types.specs.View.{field_view}
-use Rattle.arrow_data.specs.Form.{offset_bytes}
-use Rattle.arrow_data.specs.Slots.{place_of}
-use Rattle.arrow_data.specs.declared.form.Form.TheVariants as forms
-use Rattle.arrow_data.specs.declared.form.ListForm.TheVariants as lists
+use Rattle.arrow_layout.specs.Form.{offset_bytes}
+use Rattle.arrow_layout.specs.Slots.{place_of}
+use Rattle.arrow_layout.specs.declared.form.Form.TheVariants as forms
+use Rattle.arrow_layout.specs.declared.form.ListForm.TheVariants as lists
 use Rattle.arrow_builder.specs.Built.{Built}
 use Rattle.arrow_builder.specs.Columns.{child_column}
 use Rattle.arrow_builder.specs.Fields.{field_form}

@@ -2,7 +2,7 @@ use Rattle.std.proofs.Common.{subst, ◌∙◌}
 use Rattle.std.specs.Prelude.{OnOk}
 use Rattle.std.proofs.lemmas.Result.{on_ok_weaker}
 use Rattle.arrow_data.specs.Column.{Column}
-use Rattle.arrow_data.specs.PlainValue.{value_at}
+use Rattle.arrow_layout.specs.PlainValue.{value_at}
 use Rattle.arrow_csv.specs.Layouts.{null_by}
 use Rattle.arrow_csv.specs.Made.{HasFields}
 use Rattle.arrow_csv.specs.Texts.{Appends, IsFieldOf, IsSomeField}

@@ -1,7 +1,7 @@
 use Rattle.std.proofs.Common.{◌∙◌, ap, subst, sym}
-use Rattle.arrow_data.specs.Node.{bytes_of}
+use Rattle.arrow_layout.specs.ByteRanges.{bytes_of}
 use Rattle.arrow_data.specs.View.{HoldIndices, HoldLists, HoldStructs}
-use Rattle.arrow_data.specs.declared.byte_range.ByteRange.{ByteRange}
+use Rattle.arrow_layout.specs.declared.byte_range.ByteRange.{ByteRange}
 use Rattle.arrow_data.proofs.Viewing.{binaries_held, bools_held, fixed_held, indices_held, ints_held, lists_held, nulls_held, structs_held, texts_held}
 use Rattle.arrow_data.proofs.array.Array.buffers.Goals as goal
 
@@ -17,23 +17,23 @@ pub returns-in-Ints : goal.returns-in-Ints
 returns-in-Ints c =
     let body = λ (r : ByteRange). ap (λ bs. bytes_of bs r) c.as_slice-body.ensures in
     let n = c.in-Ints.ints in
-    let of = c.of.ensures in
-    ints_held c.self.inside c.args.self.now n c.of.result.width c.of.result.signed c.of.result.validity.now c.of.result.values.now c.self.view_is c.self.invariant c.in-Ints.is of.width of.signed (of.validity ∙ body n.validity) (of.values ∙ body n.values)
+    let of = c.slices.ensures in
+    ints_held c.self.inside c.args.self.now n c.slices.result.width c.slices.result.signed c.slices.result.validity.now c.slices.result.values.now c.self.view_is c.self.invariant c.in-Ints.is of.width of.signed (of.validity ∙ body n.validity) (of.values ∙ body n.values)
 
 pub returns-in-Binaries : goal.returns-in-Binaries
 returns-in-Binaries c =
     let body = λ (r : ByteRange). ap (λ bs. bytes_of bs r) c.as_slice-body.ensures in
     let s = c.in-Binaries.strings in
-    let x = c.of-in-Binaries.result in
-    let of = c.of-in-Binaries.ensures in
+    let x = c.slices-in-Binaries.result in
+    let of = c.slices-in-Binaries.ensures in
     binaries_held c.self.inside c.args.self.now s x.width x.validity.now x.offsets.now x.bytes.now c.self.view_is c.self.invariant c.in-Binaries.is of.width (of.validity ∙ body s.validity) (of.offsets ∙ body s.offsets) (of.bytes ∙ body s.bytes)
 
 pub returns-in-Texts : goal.returns-in-Texts
 returns-in-Texts c =
     let body = λ (r : ByteRange). ap (λ bs. bytes_of bs r) c.as_slice-body.ensures in
     let s = c.in-Texts.strings in
-    let x = c.of-in-Texts.result in
-    let of = c.of-in-Texts.ensures in
+    let x = c.slices-in-Texts.result in
+    let of = c.slices-in-Texts.ensures in
     texts_held c.self.inside c.args.self.now s x.width x.validity.now x.offsets.now x.bytes.now c.self.view_is c.self.invariant c.in-Texts.is of.width (of.validity ∙ body s.validity) (of.offsets ∙ body s.offsets) (of.bytes ∙ body s.bytes)
 
 pub returns-in-FixedBytes : goal.returns-in-FixedBytes
@@ -46,8 +46,8 @@ pub returns-in-Indices : goal.returns-in-Indices
 returns-in-Indices c =
     let body = λ (r : ByteRange). ap (λ bs. bytes_of bs r) c.as_slice-body.ensures in
     let n = c.in-Indices.ints in
-    let x = c.of-in-Indices.result in
-    let of = c.of-in-Indices.ensures in
+    let x = c.slices-in-Indices.result in
+    let of = c.slices-in-Indices.ensures in
     let held = indices_held c.self.inside c.args.self.now n c.in-Indices.dictionary x.width x.signed x.validity.now x.values.now c.self.view_is c.self.invariant c.in-Indices.is of.width of.signed (of.validity ∙ body n.validity) (of.values ∙ body n.values) in
     subst (HoldIndices c.args.self.now x.width x.signed x.validity.now x.values.now) (sym c.deref-in-Indices.ensures) held
 

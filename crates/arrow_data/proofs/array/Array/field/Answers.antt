@@ -1,6 +1,7 @@
 use Rattle.std.proofs.Common.{ap, sym, ◌∙◌, subst}
 use Rattle.arrow_types.specs.View.{type_view}
-use Rattle.arrow_data.specs.Node.{AreRanges, bytes_of, column_by}
+use Rattle.arrow_layout.specs.ByteRanges.{bytes_of}
+use Rattle.arrow_data.specs.Node.{AreRanges, column_by}
 use Rattle.arrow_data.specs.declared.array.Ranges.TheVariants.{Structs}
 use Rattle.arrow_data.proofs.Shown.{longer_of_counts}
 use Rattle.arrow_data.proofs.Children.{field_of_column, found_from_lookup}

@@ -3,8 +3,9 @@ use Rattle.std.proofs.lemmas.Result.{IfOk-weaker}
 use Rattle.arrow_types.specs.Field.{TypeShape, none}
 use Rattle.arrow_types.specs.View.{type_view}
 use Rattle.arrow_data.specs.Column.{AreOf}
-use Rattle.arrow_data.specs.Form.{HasFieldsOf, form_of}
-use Rattle.arrow_data.specs.Node.{bytes_of, column_by}
+use Rattle.arrow_layout.specs.Form.{HasFieldsOf, form_of}
+use Rattle.arrow_layout.specs.ByteRanges.{bytes_of}
+use Rattle.arrow_data.specs.Node.{column_by}
 use Rattle.arrow_data.specs.Parts.{node_column}
 use Rattle.arrow_data.proofs.NodeParts.{leaf_bare}
 use Rattle.arrow_data.proofs.array.Array.from_leaf_parts.Goals as goal

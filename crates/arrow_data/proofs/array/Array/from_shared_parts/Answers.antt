@@ -1,9 +1,10 @@
 use Rattle.std.proofs.Common.{◌≡◌, ◌≤◌, ap, sym, ◌∙◌, subst, length, map, Some, None}
 use Rattle.std.proofs.lemmas.Result.{IfOk-weaker}
 use Rattle.arrow_types.specs.View.{type_view}
-use Rattle.arrow_data.specs.Layout.{buffer_count}
-use Rattle.arrow_data.specs.Node.{IsFormat, bytes_of, column_by}
-use Rattle.arrow_data.specs.declared.form.Form.TheVariants as forms
+use Rattle.arrow_layout.specs.Layout.{buffer_count}
+use Rattle.arrow_layout.specs.ByteRanges.{bytes_of}
+use Rattle.arrow_data.specs.Node.{IsFormat, column_by}
+use Rattle.arrow_layout.specs.declared.form.Form.TheVariants as forms
 use Rattle.arrow_data.specs.Parts.{node_column, values_in}
 use Rattle.arrow_data.specs.declared.array.Ranges.TheVariants.{Indices}
 use Rattle.arrow_data.proofs.NodeParts.{index_same}

@@ -1,8 +1,9 @@
 use Rattle.std.proofs.Common.{◌≡◌, ◌+◌, ◌<◌, ◌≤◌, length, ap, sym, ◌∙◌, subst, arith, rules, map, true}
 use Rattle.arrow_types.specs.View.{type_view}
 use Rattle.arrow_data.specs.Column.{Column}
-use Rattle.arrow_data.specs.Node.{AreRanges, column_by, raw_slot, resolved_slot, bytes_of}
-use Rattle.arrow_data.specs.Slots.{slots, item_place, list_slot, struct_slot, is_valid_at}
+use Rattle.arrow_layout.specs.ByteRanges.{bytes_of}
+use Rattle.arrow_data.specs.Node.{AreRanges, column_by, raw_slot, resolved_slot}
+use Rattle.arrow_layout.specs.Slots.{slots, item_place, list_slot, struct_slot, is_valid_at}
 use Rattle.arrow_data.specs.declared.array.Ranges.TheVariants.{Lists}
 use Rattle.arrow_data.proofs.Children.{items_of_column}
 use Rattle.arrow_data.proofs.Shown.{parts_shown, length_slots, shown}

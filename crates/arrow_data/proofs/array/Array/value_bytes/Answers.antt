@@ -4,11 +4,12 @@ use Rattle.std.specs.List.Sorted.{IsNonDecreasing}
 use Rattle.arrow_bits.specs.Offsets.{plain_list}
 use Rattle.arrow_types.specs.View.{type_view}
 use Rattle.arrow_data.specs.Column.{Column}
-use Rattle.arrow_data.specs.Form.{node_form, offset_bytes}
-use Rattle.arrow_data.specs.Node.{AreRanges, IsFormat, bytes_of, raw_slot}
+use Rattle.arrow_layout.specs.Form.{node_form, offset_bytes}
+use Rattle.arrow_layout.specs.ByteRanges.{bytes_of}
+use Rattle.arrow_data.specs.Node.{AreRanges, IsFormat, raw_slot}
 use Rattle.arrow_data.specs.declared.array.Ranges.TheVariants as ranges
-use Rattle.arrow_data.specs.PlainValue.{binary_value, list_value, struct_value, utf8_value, value_at, values_of}
-use Rattle.arrow_data.specs.Slots.{is_valid_at, items_at, place_of, slots}
+use Rattle.arrow_layout.specs.PlainValue.{binary_value, list_value, struct_value, utf8_value, value_at, values_of}
+use Rattle.arrow_layout.specs.Slots.{is_valid_at, items_at, place_of, slots}
 use Rattle.arrow_data.proofs.FullSlots.{empty_part, entries_of, fixed_part, ints_part, none_by, none_part, strings_part}
 use Rattle.arrow_data.proofs.Shown.{length_slots}
 use Rattle.arrow_data.proofs.array.Array.value_bytes.Goals as goal

@@ -1,4 +1,4 @@
-use Rattle.std.proofs.Common.{◌≡◌, ◌≤◌, ◌++◌, false, inl, inr, length, ap, sym, ◌∙◌, arith, rules}
+use Rattle.std.proofs.Common.{◌≡◌, ◌≤◌, ◌++◌, false, inl, inr, length, refl, ap, sym, ◌∙◌, arith, rules}
 use Rattle.std.proofs.lemmas.Result.{err_from_is_err_and}
 use Rattle.arrow_sink.specs.declared.write_fault.WriteFault.TheVariants.{TooLarge}
 use Rattle.arrow_meta_reader.specs.Means.{header_view, message_view}
@@ -48,4 +48,4 @@ returns c body reported =
     let header = header_view c.args.message.now.header in
     let types_are_in : leaves_header_out terms.limits.types m.header ≡ false =
     ap (λ types. leaves_header_out types header) (sym c.types.ensures) ∙ sym c.leaves_out.ensures ∙ c.if-leaves_out.false in
-    appended_frame terms c.bytes.result m body c.args.out.now.items c.reserve.new.self.items (c.put_head.new.out.items ++ body) c.bytes.ensures fits short types_are_in c.in_ok-reserve.ensures.items (c.in_ok-put_head.ensures.ok body reported)
+    appended_frame terms terms.align m body c.args.out.now.items c.reserve.new.self.items (c.put_head.new.out.items ++ body) refl fits short types_are_in c.in_ok-reserve.ensures.items (c.in_ok-put_head.ensures.ok body reported)

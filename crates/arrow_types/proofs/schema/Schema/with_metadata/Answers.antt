@@ -2,7 +2,7 @@ use Rattle.std.proofs.Common.{◌≡◌, ◌≤◌, false, rules}
 use Rattle.arrow_types.proofs.Schemas.{flawless, schema_kept}
 use Rattle.arrow_types.specs.Notes.{pair_count, pairs_view}
 use Rattle.arrow_types.specs.Schema.{IsBounded, some_flawed}
-use Rattle.arrow_types.specs.declared.schema.SchemaFault.TheVariants.{ByteWidth, MapEntries, DecimalRange}
+use Rattle.arrow_types.specs.declared.fault.SchemaFault.TheVariants.{ByteWidth, MapEntries, DecimalRange}
 use Rattle.arrow_types.specs.View.{fields_view, schema_view}
 use Rattle.arrow_types.proofs.schema.Schema.with_metadata.Goals as goal
 

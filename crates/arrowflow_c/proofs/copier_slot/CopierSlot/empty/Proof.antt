@@ -18,7 +18,7 @@ use denote.Steps.{nothing}
 use denote.Triple.Walked.{walk_of}
 use Rattle.std.proofs.raw_atomic.Walks.{proved_at, leaves}
 use Rattle.std.specs.declared.option.Option.{Option}
-use Rattle.arrowflow_c.specs.declared.pieces.Copying.{Copying}
+use Rattle.arrowflow_calls.specs.declared.pieces.Copying.{Copying}
 use Rattle.std.specs.declared.option.Option.TheVariants.{None}
 use Rattle.arrowflow_c.proofs.Addresses.{one_val}
 use Rattle.arrowflow_c.proofs.CopierAddresses.{slot_in}

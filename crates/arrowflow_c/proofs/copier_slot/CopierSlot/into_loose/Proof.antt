@@ -21,12 +21,12 @@ use Rattle.std.proofs.raw_atomic.Walks.{proved_at, leaves}
 use Rattle.std.specs.contracts.impls.GlobalAllocator.TheImpl.{ghosts}
 use Rattle.std.specs.Prelude.{IsTrue, is_some}
 use Rattle.std.specs.declared.option.Option.{Option}
-use Rattle.arrowflow_c.specs.declared.pieces.Copying.{Copying}
+use Rattle.arrowflow_calls.specs.declared.pieces.Copying.{Copying}
 use Rattle.std.specs.declared.option.Option.TheVariants.{None, Some}
 use Rattle.std.proofs.alloc.Global.TheLaws as heap_laws
 use Rattle.arrowflow_c.proofs.Addresses.{RawBox, Z, both, heap_al, loose_good, loose_in, one_val}
 use Rattle.arrowflow_c.proofs.CopierAddresses.{slot_out}
-use Rattle.arrowflow_c.specs.contracts.pieces.Copying as held
+use Rattle.arrowflow_calls.specs.contracts.pieces.Copying as held
 use Rattle.arrowflow_c.specs.contracts.copier_slot.CopierSlot as slot
 use Rattle.arrowflow_c.specs.contracts.copier_slot.CopierSlot.into_loose.{ended, clauses}
 use Rattle.arrowflow_c.specs.contracts.copier_slot.CopierSlot.into_loose.Key.{name as #self}

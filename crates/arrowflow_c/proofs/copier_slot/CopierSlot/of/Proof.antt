@@ -22,7 +22,7 @@ use Rattle.std.specs.declared.option.Option.TheVariants.{Some}
 use Rattle.std.proofs.alloc.Global.TheLaws as heap_laws
 use Rattle.arrowflow_c.proofs.Addresses.{RawBox, Z, both, loose_good, loose_out, one_val}
 use Rattle.arrowflow_c.proofs.CopierAddresses.{slot_in}
-use Rattle.arrowflow_c.specs.contracts.pieces.Copying as held
+use Rattle.arrowflow_calls.specs.contracts.pieces.Copying as held
 use Rattle.arrowflow_c.specs.contracts.copier_slot.CopierSlot.of.{ended, clauses}
 use Rattle.arrowflow_c.specs.contracts.copier_slot.CopierSlot.of.Key.{name as #self}
 use Rattle.arrowflow_c.proofs.copier_slot.CopierSlot.of.Statement.{statement}

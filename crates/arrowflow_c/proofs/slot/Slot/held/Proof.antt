@@ -37,8 +37,8 @@ use Rattle.std.specs.Prelude.{IsTrue, is_some, Option, None, Some}
 use Rattle.std.specs.contracts.impls.GlobalAllocator.TheImpl.{ghosts}
 use Rattle.arrowflow_c.specs.Lending.{with_held}
 use Rattle.arrowflow_c.specs.Owned.{heap, owned}
-use Rattle.arrowflow_c.specs.declared.reading.Reading.{Reading}
-use Rattle.arrowflow_c.specs.contracts.reading.Reading as held
+use Rattle.arrowflow_calls.specs.declared.reading.Reading.{Reading}
+use Rattle.arrowflow_calls.specs.contracts.reading.Reading as held
 use Rattle.arrowflow_c.specs.contracts.slot.Slot as slot
 use Rattle.arrowflow_c.proofs.Addresses.{one_val, slot_in, slot_out}
 use Rattle.arrowflow_c.specs.contracts.slot.Slot.held as F

@@ -1,0 +1,14 @@
+pub mod Packs
+pub mod Shown
+pub mod OneMore
+pub mod Ranges
+pub mod Running
+pub mod Counting
+pub mod Marking
+pub mod Masking
+pub mod Bytewise
+pub mod Numbering
+pub mod Moving
+pub mod Spanning
+pub mod Holding
+pub mod Adding

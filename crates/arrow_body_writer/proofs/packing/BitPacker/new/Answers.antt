@@ -1,5 +1,0 @@
-use Rattle.arrow_body_writer.proofs.Packs.{no_bits}
-use Rattle.arrow_body_writer.proofs.packing.BitPacker.new.Goals as goal
-
-pub returns-clause-none : goal.returns-clause-none
-returns-clause-none c = no_bits

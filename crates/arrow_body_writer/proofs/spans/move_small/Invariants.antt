@@ -1,7 +1,0 @@
-use Rattle.std.proofs.Common.{◌≡◌, length}
-use Rattle.arrow_body_writer.proofs.Moving.{MovedTo}
-use Rattle.arrow_body_writer.proofs.spans.move_small.Given as goal
-
--- the numbers so far are increased
-abbrev pub invariant-loop-k : goal.invariant-loop-k
-invariant-loop-k l = (length l.numbers ≡ length l.fn.numbers) × (l.numbers ≡ MovedTo 4 l.by l.k l.fn.numbers)

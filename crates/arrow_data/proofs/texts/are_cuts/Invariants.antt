@@ -1,6 +1,0 @@
-use Rattle.arrow_data.specs.Cuts.{AreCuts}
-use Rattle.arrow_data.proofs.texts.are_cuts.Given as goal
-
--- the slots so far end between characters
-abbrev pub invariant-loop-j : goal.invariant-loop-j
-invariant-loop-j l = AreCuts l.offsets.width l.j l.offsets.bytes.now l.text

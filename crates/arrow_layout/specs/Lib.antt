@@ -1,0 +1,15 @@
+pub mod PlainValue
+pub mod Form
+pub mod Stored
+pub mod Resolve
+pub mod Fits
+pub mod Slots
+pub mod ByteRanges
+pub mod Cuts
+pub mod Layout
+pub mod Shared
+pub mod Value
+pub mod Half
+pub mod Floats
+pub mod Intervals
+pub mod Decimals

@@ -1,0 +1,9 @@
+pub mod TableFields
+pub mod FieldTables
+pub mod FirstFields
+pub mod OwnParts
+pub mod Places
+pub mod Misfits
+pub mod Decimals
+pub mod Flawless
+pub mod Shallow

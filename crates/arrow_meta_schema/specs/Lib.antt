@@ -1,0 +1,4 @@
+pub mod SchemaMeaning
+pub mod Conditions
+pub mod Sharing
+pub mod Builds

@@ -1,0 +1,15 @@
+pub mod Kinds
+pub mod Trees
+pub mod Lies
+pub mod Within
+pub mod Views
+pub mod Grows
+pub mod Reads
+pub mod Ranks
+pub mod Stored
+pub mod Codes
+pub mod Parts
+pub mod Slots
+pub mod Types
+pub mod FaultNumbers
+pub mod Costs

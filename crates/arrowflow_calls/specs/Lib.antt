@@ -1,0 +1,11 @@
+pub mod Terms
+pub mod Kinds
+pub mod Survey
+pub mod Texts
+pub mod Steps
+pub mod Reading
+pub mod Pens
+pub mod Fields
+pub mod Copied
+pub mod Culprit
+pub mod Blame

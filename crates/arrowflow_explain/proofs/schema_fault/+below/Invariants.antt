@@ -1,5 +1,0 @@
-use Rattle.std.proofs.Common.{length}
-use Rattle.arrowflow_explain.proofs.schema_fault.+below.Given as goal
-
-abbrev pub decreases-below : goal.decreases-below
-decreases-below l = length l.path.now

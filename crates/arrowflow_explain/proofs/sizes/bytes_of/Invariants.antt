@@ -1,7 +1,0 @@
-use Rattle.std.proofs.Common.{◌≡◌, ◌-◌, ◌^◌, min, take}
-use Rattle.arrowflow_explain.specs.Sizes.{buffer_bytes}
-use Rattle.arrowflow_explain.proofs.sizes.bytes_of.Given as goal
-
--- the sum of the lengths of the buffers before this one
-abbrev pub invariant-loop-buffer : goal.invariant-loop-buffer
-invariant-loop-buffer l = l.bytes ≡ min (buffer_bytes (take l.buffer-index l.buffers)) (2 ^ 64 - 1)

@@ -1,9 +1,0 @@
-use Rattle.std.proofs.Common.{◌≡◌, ◌++◌, string_bytes}
-use Rattle.std.specs.Str.Iter.{chars_rest}
-use Rattle.arrowflow_text.specs.Escapes.{escaped}
-use Rattle.arrowflow_json.proofs.escapes.push_escaped.Given as goal
-
--- what is written so far and what is still to be written are the complete text
-abbrev pub invariant-loop-ch : goal.invariant-loop-ch
-invariant-loop-ch l =
-    string_bytes l.line ++ escaped (chars_rest l.ch-iterator) ≡ string_bytes l.initial.line ++ escaped l.text
