@@ -46,6 +46,7 @@ puts_byte at bit bytes inside end =
             unset ∙ sym (past_end bytes j (omega (arith, after, end)))
       ];
       long = omega (arith, inside, end, long);
+      kept = omega (arith, long);
       few = inr (omega (arith, end, long));
     }
 
@@ -66,6 +67,7 @@ puts_in at bit bytes changed le apart here others =
         | inr elsewhere ↦ rw (get_or-set_other bytes (at / 8) (j / 8) changed 0 elsewhere) refl
       ];
       long = omega (arith, inside, long);
+      kept = omega (arith, long);
       few = inl long;
     }
 

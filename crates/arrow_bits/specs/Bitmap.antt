@@ -29,9 +29,10 @@ pub record IsPacked (bits : List Bool) (bytes : List ℕ) : Type 0 where
   pub same : bits_of (length bits) bytes ≡ bits
   pub spare : (j : ℕ) → length bits ≤ j → bit_of bytes j ≡ false
 
--- bit `at` is this one, every other bit stays, and there are no more bytes than before or than these bits need
+-- bit `at` is this one, every other bit stays, no byte goes, and there are no more bytes than before or than these bits need
 pub record PutsBit (at : ℕ) (bit : Bool) (old new : List ℕ) : Type 0 where
   pub put : bit_of new at ≡ bit
   pub same : (j : ℕ) → j ≢ at → bit_of new j ≡ bit_of old j
   pub long : at < 8 * length new
+  pub kept : length old ≤ length new
   pub few : (length new ≡ length old) ⊎ (length new ≡ at / 8 + 1)
