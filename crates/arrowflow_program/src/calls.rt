@@ -1,10 +1,9 @@
 //! The library's calls over an input and an output that is flushed before the input is read.
 
-use crate::ends::{Source, open};
+use crate::ends::{Source, open_watched};
+use crate::host::Host;
 use crate::output_buffer::{BufferedOutput, FlushBeforeRead, OutputBuffer};
-use crate::progress_of;
 use crate::progress_reader::ProgressReader;
-use crate::terminals::Terminals;
 use arrow_sink::Counted;
 use arrow_types::Limits;
 use arrowflow_copy::copy_within;
@@ -13,10 +12,8 @@ use arrowflow_json::{check_json, schema_json, show_json};
 use arrowflow_line::CopyOptions;
 use arrowflow_text::{ColumnsFault, Selection, check_within, show_within};
 use std::alloc::Global;
-use std::io::{Input, Read, Write};
+use std::io::{Read, Write};
 use std::rc::Rc;
-use std::rt::Files;
-use std::time::Clock;
 
 /// An input, and an output whose bytes are buffered until the input is read again.
 #[derive(Drop)]
@@ -58,31 +55,24 @@ impl Ended {
 
 /// What is written as JSON objects, one on each line.
 #[derive(Clone, Copy)]
-pub(crate) enum JsonLines<'a> {
-    /// The columns, with this name of the file.
-    Columns(Option<&'a str>),
-    /// The messages, with this name of the file.
-    Messages(Option<&'a str>),
+pub(crate) enum JsonLines {
+    /// The columns.
+    Columns,
+    /// The messages.
+    Messages,
     /// The rows.
     Rows,
 }
 
 /// The input with this name, opened for a command that prints on this output. `Memory` if the
 /// buffer cannot be allocated.
-pub(crate) fn open_ends<'a, R, W>(
+pub(crate) fn open_ends<'a, R: Host, W: Write + Drop>(
     rt: &'a R,
-    command: &'static str,
+    command: &'a str,
     name: &str,
     output: W,
-) -> Result<Ends<ProgressReader<'a, R, Source<R::File, R::Reader>>, W>, ToolFault>
-where
-    R: AllocGlobal + Files + Input + Eprint + Clock + Terminals,
-    R::File: Drop,
-    W: Write + Drop,
-{
-    let file = open(rt, 0, name)?;
-    let input = ProgressReader::new(file, progress_of(rt, command, name, true));
-    Ends::new(rt.alloc(), input, output)
+) -> Result<Ends<ProgressReader<'a, R, Source<R::File, R::Reader>>, W>, ToolFault> {
+    Ends::new(rt.alloc(), open_watched(rt, command, name, true)?, output)
 }
 
 impl<I: Read + Drop, W: Write + Drop> Ends<I, W> {
@@ -107,12 +97,19 @@ impl<I: Read + Drop, W: Write + Drop> Ends<I, W> {
         (input.into_inner().into_inner(), ended)
     }
 
-    /// Writes JSON objects, and returns the input.
-    pub(crate) fn json(self, alloc: Global, lines: JsonLines<'_>, limits: &Limits) -> (I, Ended) {
+    /// Writes JSON objects, those of columns and messages with this name of the file, and returns
+    /// the input.
+    pub(crate) fn json(
+        self,
+        alloc: Global,
+        lines: JsonLines,
+        file: Option<&str>,
+        limits: &Limits,
+    ) -> (I, Ended) {
         let (mut input, output) = (self.input, Counted::new(self.output));
         let (_, answer) = match lines {
-            JsonLines::Columns(file) => schema_json(alloc, &mut input, output, limits, file),
-            JsonLines::Messages(file) => check_json(alloc, &mut input, output, limits, file),
+            JsonLines::Columns => schema_json(alloc, &mut input, output, limits, file),
+            JsonLines::Messages => check_json(alloc, &mut input, output, limits, file),
             JsonLines::Rows => show_json(alloc, &mut input, output, limits),
         };
         (input.into_inner(), Ended::of(answer, None, &self.held))

@@ -1,10 +1,9 @@
 //! Explanations with colours, for a terminal.
 
-use crate::terminals::Terminals;
+use crate::host::Host;
 use std::alloc::{AllocError, Global};
 use std::env;
 use std::env::VarError;
-use std::rt::Env;
 
 /// The escape sequence that makes a terminal print in bold.
 const BOLD: &str = "\u{1b}[1m";
@@ -17,7 +16,7 @@ const PLAIN: &str = "\u{1b}[0m";
 
 /// Whether output is to have colours: on a terminal, unless the environment has a variable
 /// `NO_COLOR` with a value.
-pub(crate) fn has_colours<R: AllocGlobal + Env + Terminals>(rt: &R) -> bool {
+pub(crate) fn has_colours<R: Host>(rt: &R) -> bool {
     if !rt.prints_on_terminal() {
         return false;
     }

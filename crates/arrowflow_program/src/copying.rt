@@ -1,17 +1,16 @@
 //! The command `copy`, which writes a stream again.
 
 use crate::calls::Ends;
-use crate::ends::{Destination, Source, create, is_same_file, is_standard, open};
+use crate::ends::{Destination, Source, create, is_same_file, is_standard, open_watched};
+use crate::host::Host;
 use crate::progress_reader::ProgressReader;
-use crate::terminals::Terminals;
-use crate::{Bounds, FAILED, FINE, out_of_memory, progress_of, report, status_of_ended};
+use crate::{Bounds, FAILED, FINE, out_of_memory, report, report_ended};
 use arrowflow_input::ToolFault;
 use arrowflow_line::CopyOptions;
 use std::alloc::AllocError;
 use std::fs::{File, OpenFile};
-use std::io::{ErrorKind, Input, Write};
+use std::io::{ErrorKind, Write};
 use std::rt::Files;
-use std::time::Clock;
 use std::{fs, io};
 
 /// What is copied where, and how.
@@ -47,13 +46,9 @@ impl<'a> FileCopy<'a> {
 }
 
 /// Writes a stream again, and returns the exit status.
-pub(crate) fn copy_file<R>(rt: &R, copying: FileCopy<'_>) -> u8
-where
-    R: AllocGlobal + Files + Input + Print + Eprint + Clock + Terminals,
-    R::File: Drop,
-{
+pub(crate) fn copy_file<R: Host>(rt: &R, copying: FileCopy<'_>) -> u8 {
     let FileCopy { from, to, .. } = copying;
-    let input = match open(rt, 0, from) {
+    let input = match open_watched(rt, "copy", from, is_standard(to)) {
         Ok(input) => input,
         Err(fault) => return report(rt, &fault, from, to),
     };
@@ -80,39 +75,33 @@ fn not_created<R: AllocGlobal + Eprint>(rt: &R, error: &io::Error, from: &str, t
 }
 
 /// Writes the stream of an input again into an output, and returns the exit status.
-fn copy_into<R, W>(
+fn copy_into<R: Host, W: Write + Drop>(
     rt: &R,
-    input: Source<R::File, R::Reader>,
+    input: ProgressReader<'_, R, Source<R::File, R::Reader>>,
     output: W,
     copying: FileCopy<'_>,
-) -> u8
-where
-    R: AllocGlobal + Files + Input + Print + Eprint + Clock + Terminals,
-    R::File: Drop,
-    W: Write + Drop,
-{
+) -> u8 {
     let FileCopy {
         from,
         to,
         options,
         bounds,
     } = copying;
-    let input = ProgressReader::new(input, progress_of(rt, "copy", from, is_standard(to)));
     let Ok(ends) = Ends::new(rt.alloc(), input, output) else {
         return out_of_memory(rt);
     };
     let (input, ended) = ends.copy(rt.alloc(), options, bounds.limits, bounds.whole);
     input.clear();
-    status_of_ended(rt, ended, (from, to))
+    report_ended(rt, ended, None, (from, to))
 }
 
 /// Writes the stream of an input again into a file next to the output's, which replaces the
 /// output's once everything is written; returns the exit status.
-fn replace<R>(rt: &R, input: Source<R::File, R::Reader>, copying: FileCopy<'_>) -> u8
-where
-    R: AllocGlobal + Files + Input + Print + Eprint + Clock + Terminals,
-    R::File: Drop,
-{
+fn replace<R: Host>(
+    rt: &R,
+    input: ProgressReader<'_, R, Source<R::File, R::Reader>>,
+    copying: FileCopy<'_>,
+) -> u8 {
     let FileCopy { from, to, .. } = copying;
     if !is_replaceable(rt, to) {
         let _ = eprintln!(rt; "{to} is no file that can be replaced");
@@ -150,10 +139,7 @@ where
 
 /// The name of the file that is replaced, for a link to a file the one that it leads to, and the
 /// name of the file next to it.
-fn place_and_part<R>(rt: &R, name: &str) -> Result<(String, String), AllocError>
-where
-    R: AllocGlobal + Files,
-{
+fn place_and_part<R: Host>(rt: &R, name: &str) -> Result<(String, String), AllocError> {
     let place = match fs::canonicalize(rt, name) {
         Ok(path) => String::from_str(rt.alloc(), path.as_str())?,
         Err(_) => String::from_str(rt.alloc(), name)?,
@@ -181,10 +167,7 @@ fn put_in_place<R: Files>(
     file: &R::File,
     (part, place): (&str, &str),
     no_clobber: bool,
-) -> io::Result<()>
-where
-    R::File: Drop,
-{
+) -> io::Result<()> {
     if let Ok(found) = fs::metadata(rt, place) {
         file.set_permissions(found.permissions())?;
     }

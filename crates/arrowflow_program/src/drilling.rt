@@ -1,13 +1,12 @@
 //! The command `drill`, which rehearses connections over the streams in files.
 
 use crate::ends::{Source, open};
+use crate::host::Host;
 use crate::{print_text, report};
 use arrow_stream_writer::Options;
 use arrow_types::Limits;
 use arrowflow_drill::drill;
 use arrowflow_input::ToolFault;
-use std::io::Input;
-use std::rt::Files;
 
 /// How streams are rehearsed: how they are written again, how many bytes of each connection are
 /// delivered, and in pieces of which length.
@@ -19,15 +18,12 @@ pub(crate) struct Rehearsal {
 }
 
 /// Rehearses a connection for each stream in the files of these names, and prints the results.
-pub(crate) fn drill_files<R: AllocGlobal + Files + Input + Print + Eprint>(
+pub(crate) fn drill_files<R: Host>(
     rt: &R,
     names: &[String],
     rehearsal: Rehearsal,
     limits: &Limits,
-) -> u8
-where
-    R::File: Drop,
-{
+) -> u8 {
     let mut inputs = match open_all(rt, names) {
         Ok(inputs) => inputs,
         Err(fault) => return report_of(rt, &fault, names),
@@ -44,13 +40,10 @@ where
 }
 
 /// Opens the inputs with these names, in their order. Stops at the first that cannot be opened.
-fn open_all<R: AllocGlobal + Files + Input>(
+fn open_all<R: Host>(
     rt: &R,
     names: &[String],
-) -> Result<Vec<Source<R::File, R::Reader>>, ToolFault>
-where
-    R::File: Drop,
-{
+) -> Result<Vec<Source<R::File, R::Reader>>, ToolFault> {
     let mut inputs = Vec::new(rt.alloc());
     for (number, name) in names.iter().enumerate() {
         let input = open(rt, number as u64, name)?;

@@ -1,5 +1,7 @@
 //! Where a stream comes from, and where one goes: files, or standard input and output.
 
+use crate::host::Host;
+use crate::progress_reader::{ProgressLine, ProgressReader};
 use arrowflow_input::ToolFault;
 use std::fs::File;
 use std::io::{Input, Read, Write};
@@ -54,15 +56,29 @@ pub(crate) fn open<R: Files + Input>(
     rt: &R,
     number: u64,
     name: &str,
-) -> Result<Source<R::File, R::Reader>, ToolFault>
-where
-    R::File: Drop,
-{
+) -> Result<Source<R::File, R::Reader>, ToolFault> {
     if is_standard(name) {
         return Ok(Source::Standard(rt.reader()));
     }
     let file = File::open(rt, name).map_err(|_| ToolFault::Input(number))?;
     Ok(Source::File(file))
+}
+
+/// Opens the only input of a command, which prints on standard output or not. Its progress is
+/// reported if standard error is a terminal, unless the command prints on a terminal.
+pub(crate) fn open_watched<'a, R: Host>(
+    rt: &'a R,
+    command: &'a str,
+    name: &str,
+    prints: bool,
+) -> Result<ProgressReader<'a, R, Source<R::File, R::Reader>>, ToolFault> {
+    let input = open(rt, 0, name)?;
+    let progress = if !rt.reports_on_terminal() || (prints && rt.prints_on_terminal()) {
+        None
+    } else {
+        ProgressLine::new(rt, command, size_of(rt, name))
+    };
+    Ok(ProgressReader::new(input, progress))
 }
 
 /// A file, or standard output.
@@ -94,10 +110,7 @@ pub(crate) fn create<'a, R: Files + Print>(
     rt: &'a R,
     name: &str,
     no_clobber: bool,
-) -> io::Result<Destination<R::File, io::Printer<'a, R>>>
-where
-    R::File: Drop,
-{
+) -> io::Result<Destination<R::File, io::Printer<'a, R>>> {
     if is_standard(name) {
         return Ok(Destination::Standard(io::writer(rt)));
     }
@@ -111,7 +124,7 @@ where
 
 /// How many bytes the file with this name has; `None` if the name means standard input, or is not
 /// that of a regular file.
-pub(crate) fn size_of<R: Files>(rt: &R, name: &str) -> Option<u64> {
+fn size_of<R: Files>(rt: &R, name: &str) -> Option<u64> {
     if is_standard(name) {
         return None;
     }

@@ -1,32 +1,23 @@
 //! The command `explain`: why a stream is rejected, or what it has.
 
 use crate::coloured::{coloured, has_colours};
-use crate::ends::open;
-use crate::progress_reader::ProgressReader;
-use crate::terminals::Terminals;
-use crate::{REFUSED, named_or_standard, out_of_memory, print_text, progress_of, report};
+use crate::ends::open_watched;
+use crate::host::Host;
+use crate::{REFUSED, named_or_standard, out_of_memory, print_text, report};
 use arrow_types::Limits;
 use arrowflow_explain::{Explanation, explain};
-use std::io::Input;
-use std::rt::{Env, Files};
-use std::time::Clock;
 
 /// Says why the stream in the file with this name, or on standard input, is rejected, or what it
 /// has.
-pub(crate) fn explain_file<R>(rt: &R, name: &Option<String>, limits: &Limits) -> u8
-where
-    R: AllocGlobal + Env + Files + Input + Print + Eprint + Clock + Terminals,
-    R::File: Drop,
-{
+pub(crate) fn explain_file<R: Host>(rt: &R, name: &Option<String>, limits: &Limits) -> u8 {
     let name = match named_or_standard(rt, name.as_ref().map(|name| name.as_str())) {
         Ok(name) => name,
         Err(status) => return status,
     };
-    let file = match open(rt, 0, name) {
-        Ok(file) => file,
+    let mut input = match open_watched(rt, "explain", name, false) {
+        Ok(input) => input,
         Err(fault) => return report(rt, &fault, name, "-"),
     };
-    let mut input = ProgressReader::new(file, progress_of(rt, "explain", name, false));
     let answer = explain(rt.alloc(), &mut input, limits);
     input.clear();
     let explanation = match answer {
@@ -43,10 +34,7 @@ where
 }
 
 /// Prints why a stream is rejected, and returns the exit status of the printing.
-fn print_refusal<R>(rt: &R, text: &str) -> u8
-where
-    R: AllocGlobal + Env + Print + Eprint + Terminals,
-{
+fn print_refusal<R: Host>(rt: &R, text: &str) -> u8 {
     if !has_colours(rt) {
         return print_text(rt, text);
     }

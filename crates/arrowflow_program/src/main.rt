@@ -2,7 +2,7 @@
 //! or one for each file, prints the results, and ends with the call's exit status.
 #![tactic(auto)]
 
-ghost use Rattle.std.specs.Prelude.{◌≡◌, ◌⊎◌, IfErr, OnOk};
+ghost use Rattle.std.specs.Prelude.{◌≡◌, ◌⊎◌, IfErr, IfSome, None, OnOk};
 ghost use Rattle.arrowflow_input.specs.Faults.{status_of as status_by};
 
 mod calls;
@@ -11,33 +11,30 @@ mod copying;
 mod drilling;
 mod ends;
 mod explaining;
+mod host;
 mod labelled;
 mod output_buffer;
 mod pipe;
 mod progress_reader;
 mod reading;
 mod showing;
-mod terminals;
 
 use crate::calls::Ended;
 use crate::copying::{FileCopy, copy_file};
 use crate::drilling::{Rehearsal, drill_files};
-use crate::ends::{input_name, output_name, size_of};
+use crate::ends::{input_name, output_name};
 use crate::explaining::explain_file;
+use crate::host::Host;
 use crate::labelled::Labelled;
 use crate::pipe::Pipe;
-use crate::progress_reader::ProgressLine;
 use crate::reading::{FileReading, read_files};
 use crate::showing::show_file;
-use crate::terminals::Terminals;
 use arrow_types::Limits;
 use arrowflow_input::{ToolFault, WholeLimits};
 use arrowflow_line::{ArgFault, Plan, Task, Totals, plan};
 use std::alloc::Global;
-use std::io::{ErrorKind, Input, Write};
+use std::io::{ErrorKind, Write};
 use std::process::ExitCode;
-use std::rt::{Env, Files};
-use std::time::Clock;
 use std::{env, io};
 
 /// All went well.
@@ -58,10 +55,7 @@ fn main(rt: HostRuntime) -> ExitCode {
 }
 
 /// Does what the command line asks for, and returns the exit status.
-fn run<R: AllocGlobal + Env + Files + Input + Print + Eprint + Clock + Terminals>(rt: &R) -> u8
-where
-    R::File: Drop,
-{
+fn run<R: Host>(rt: &R) -> u8 {
     let alloc = rt.alloc();
     keep_free_memory(alloc);
     let words = match env::args(rt) {
@@ -125,11 +119,7 @@ fn whole_limits(totals: Totals) -> WholeLimits {
 }
 
 /// Makes the call that a plan asks for, and returns the exit status.
-fn carry_out<R>(rt: &R, plan: &Plan) -> u8
-where
-    R: AllocGlobal + Env + Files + Input + Print + Eprint + Clock + Terminals,
-    R::File: Drop,
-{
+fn carry_out<R: Host>(rt: &R, plan: &Plan) -> u8 {
     let limits = &plan.limits;
     let bounds = Bounds {
         limits,
@@ -184,10 +174,7 @@ where
 
 /// The file that a command reads: the one with this name, or standard input if there is no name and
 /// standard input is not a terminal. The exit status if there is none.
-pub(crate) fn named_or_standard<'a, R: Eprint + Terminals>(
-    rt: &R,
-    name: Option<&'a str>,
-) -> Result<&'a str, u8> {
+pub(crate) fn named_or_standard<'a, R: Host>(rt: &R, name: Option<&'a str>) -> Result<&'a str, u8> {
     match name {
         Some(name) => Ok(name),
         None if rt.reads_terminal() => {
@@ -198,27 +185,22 @@ pub(crate) fn named_or_standard<'a, R: Eprint + Terminals>(
     }
 }
 
-/// The progress of a command that reads the file with this name. `None` if standard error is not a
-/// terminal, or if the command prints on a terminal.
-pub(crate) fn progress_of<'a, R: Files + Eprint + Clock + Terminals>(
-    rt: &'a R,
-    command: &'static str,
-    from: &str,
-    prints: bool,
-) -> Option<ProgressLine<'a, R>> {
-    if !rt.reports_on_terminal() || (prints && rt.prints_on_terminal()) {
-        return None;
-    }
-    ProgressLine::new(rt, command, size_of(rt, from))
-}
-
 /// Reports how a call ended that read the input with the first name and wrote the output with the
-/// second, and returns its status: the bound that its stream passed, or its fault.
-pub(crate) fn status_of_ended<R: AllocGlobal + Eprint>(
+/// second, and returns its status: the bound that its stream passed, or its fault. A line about the
+/// stream comes after the label, if there is one.
+pub(crate) fn report_ended<R: AllocGlobal + Eprint>(
     rt: &R,
     ended: Ended,
+    label: Option<&str>,
     names: (&str, &str),
-) -> u8 {
+) -> u8
+    ensures excess { IfSome ended.excess (λ _. result ≡ REFUSED) }
+    ensures fine { ended.excess ≡ None → OnOk ended.answer (result ≡ FINE) }
+{
+    let is_about_stream = matches!(ended.answer, Err(ToolFault::Stream(_)));
+    if (ended.excess.is_some() || is_about_stream) && !ended.is_closed {
+        print_label(rt, label);
+    }
     match ended.excess {
         Some(excess) if !ended.is_closed => {
             let _ = eprintln!(rt; "{excess}");
@@ -227,6 +209,21 @@ pub(crate) fn status_of_ended<R: AllocGlobal + Eprint>(
         Some(_) => REFUSED,
         None => status_of(rt, ended.answer, names, ended.is_closed),
     }
+}
+
+/// Begins a line on standard error with this label, if there is one.
+pub(crate) fn print_label<R: Eprint>(rt: &R, label: Option<&str>) {
+    if let Some(label) = label {
+        let _ = eprint!(rt; "{label}:");
+    }
+}
+
+/// Reports that there are bounds that `--json` does not go with, and returns the status.
+pub(crate) fn no_json_bounds<R: Eprint>(rt: &R) -> u8
+    ensures { result ≡ FAILED }
+{
+    let _ = eprintln!(rt; "--json has no bounds of a whole stream");
+    FAILED
 }
 
 /// Reports how a call ended that read the input with the first name and wrote the output with the

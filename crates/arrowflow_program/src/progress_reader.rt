@@ -46,7 +46,7 @@ impl<'a, R: Clock + Eprint, I: Read + Drop> Read for ProgressReader<'a, R, I> {
 #[derive(Drop)]
 pub(crate) struct ProgressLine<'a, R: Clock + Eprint> {
     rt: &'a R,
-    command: &'static str,
+    command: &'a str,
     size: Option<u64>,
     read: u64,
     /// When the input was opened.
@@ -61,7 +61,7 @@ impl<'a, R: Clock + Eprint> ProgressLine<'a, R> {
     /// `None` if there is no clock.
     pub(crate) fn new(
         rt: &'a R,
-        command: &'static str,
+        command: &'a str,
         size: Option<u64>,
     ) -> Option<ProgressLine<'a, R>> {
         match Instant::now(rt) {

@@ -1,24 +1,17 @@
 //! The commands that read any number of files, one after the other.
 
-ghost use Rattle.std.specs.Prelude.{◌≡◌};
-
-use crate::calls::{Ended, Ends, JsonLines, open_ends};
-use crate::ends::{input_name, open};
+use crate::calls::{Ended, JsonLines, open_ends};
+use crate::ends::{input_name, open, open_watched};
+use crate::host::Host;
 use crate::labelled::Labelled;
-use crate::progress_reader::ProgressReader;
-use crate::terminals::Terminals;
 use crate::{
-    Bounds, FAILED, FINE, REFUSED, named_or_standard, out_of_memory, print_lines, progress_of,
-    report,
+    Bounds, FINE, named_or_standard, no_json_bounds, print_label, print_lines, report, report_ended,
 };
 use arrow_types::Limits;
-use arrowflow_input::{Bounded, Excess, ToolFault};
+use arrowflow_input::{Bounded, ToolFault};
 use arrowflow_line::Files as FileNames;
 use arrowflow_text::{check_quietly_within, schema_text};
 use std::io;
-use std::io::Input;
-use std::rt::Files;
-use std::time::Clock;
 
 /// What is printed for each file.
 #[derive(Clone, Copy)]
@@ -40,6 +33,15 @@ pub(crate) struct Named<'a> {
 }
 
 impl<'a> Named<'a> {
+    /// One of the files that a command reads.
+    fn of(name: &'a str, files: &FileNames) -> Named<'a> {
+        Named {
+            name,
+            is_labelled: files.with_filename || files.names.len() > 1,
+            json: files.json,
+        }
+    }
+
     /// The name that its lines have.
     fn label(self) -> Option<&'a str> {
         if self.is_labelled {
@@ -52,73 +54,38 @@ impl<'a> Named<'a> {
 
 /// Reads files, or standard input if none is named, and returns the worst exit status. If there are
 /// several, their lines begin with their names.
-pub(crate) fn read_files<R>(
+pub(crate) fn read_files<R: Host>(
     rt: &R,
     reading: FileReading,
     files: &FileNames,
     bounds: Bounds<'_>,
-) -> u8
-where
-    R: AllocGlobal + Files + Input + Print + Eprint + Clock + Terminals,
-    R::File: Drop,
-{
-    let names = &files.names;
-    let is_labelled = files.with_filename || names.len() > 1;
-    let json = files.json;
-    if json && bounds.are_some() {
-        let _ = eprintln!(rt; "--json has no bounds of a whole stream");
-        return FAILED;
+) -> u8 {
+    if files.json && bounds.are_some() {
+        return no_json_bounds(rt);
     }
-    if names.is_empty() {
-        let name = match named_or_standard(rt, None) {
-            Ok(name) => name,
-            Err(status) => return status,
+    if files.names.is_empty() {
+        return match named_or_standard(rt, None) {
+            Ok(name) => read_file(rt, reading, Named::of(name, files), bounds),
+            Err(status) => status,
         };
-        let named = Named {
-            name,
-            is_labelled,
-            json,
-        };
-        return read_file(rt, reading, named, bounds);
     }
     let mut worst = FINE;
-    for name in names {
-        let named = Named {
-            name,
-            is_labelled,
-            json,
-        };
-        worst = worst.max(read_file(rt, reading, named, bounds));
+    for name in &files.names {
+        worst = worst.max(read_file(rt, reading, Named::of(name, files), bounds));
     }
     worst
 }
 
 /// Reads one file, and returns the exit status.
-fn read_file<R>(rt: &R, reading: FileReading, named: Named<'_>, bounds: Bounds<'_>) -> u8
-where
-    R: AllocGlobal + Files + Input + Print + Eprint + Clock + Terminals,
-    R::File: Drop,
-{
+fn read_file<R: Host>(rt: &R, reading: FileReading, named: Named<'_>, bounds: Bounds<'_>) -> u8 {
     let limits = bounds.limits;
     match reading {
         FileReading::Schema if named.json => {
-            print_objects(
-                rt,
-                "check",
-                named,
-                JsonLines::Columns(named.label()),
-                limits,
-            )
+            print_objects(rt, "check", named, JsonLines::Columns, limits)
         }
         FileReading::Schema => print_schema(rt, named, limits),
         FileReading::Messages if named.json => {
-            print_objects(
-                rt,
-                "check",
-                named,
-                JsonLines::Messages(named.label()),
-                limits,
-            )
+            print_objects(rt, "check", named, JsonLines::Messages, limits)
         }
         FileReading::Messages => print_messages(rt, named, bounds),
         FileReading::Nothing => check_file(rt, named, bounds),
@@ -126,11 +93,7 @@ where
 }
 
 /// Prints the schema of the stream in a file.
-fn print_schema<R>(rt: &R, named: Named<'_>, limits: &Limits) -> u8
-where
-    R: AllocGlobal + Files + Input + Print + Eprint,
-    R::File: Drop,
-{
+fn print_schema<R: Host>(rt: &R, named: Named<'_>, limits: &Limits) -> u8 {
     let mut file = match open(rt, 0, named.name) {
         Ok(file) => file,
         Err(fault) => return report_of(rt, &fault, named),
@@ -142,57 +105,40 @@ where
 }
 
 /// Prints a line for each message of the stream in a file.
-fn print_messages<R>(rt: &R, named: Named<'_>, bounds: Bounds<'_>) -> u8
-where
-    R: AllocGlobal + Files + Input + Print + Eprint + Clock + Terminals,
-    R::File: Drop,
-{
-    let file = match open(rt, 0, named.name) {
-        Ok(file) => file,
-        Err(fault) => return report_of(rt, &fault, named),
-    };
-    let input = ProgressReader::new(file, progress_of(rt, "check", named.name, true));
+fn print_messages<R: Host>(rt: &R, named: Named<'_>, bounds: Bounds<'_>) -> u8 {
     let output = Labelled::new(io::writer(rt), named.label());
-    let Ok(ends) = Ends::new(rt.alloc(), input, output) else {
-        return out_of_memory(rt);
+    let ends = match open_ends(rt, "check", named.name, output) {
+        Ok(ends) => ends,
+        Err(fault) => return report_of(rt, &fault, named),
     };
     let (input, ended) = ends.check(rt.alloc(), bounds.limits, bounds.whole);
     input.clear();
-    report_ended(rt, ended, named)
+    report_ended(rt, ended, named.label(), (named.name, "-"))
 }
 
 /// Prints JSON objects about the stream in a file, one on each line.
-pub(crate) fn print_objects<R>(
-    rt: &R,
-    command: &'static str,
+pub(crate) fn print_objects<'a, R: Host>(
+    rt: &'a R,
+    command: &'a str,
     named: Named<'_>,
-    lines: JsonLines<'_>,
+    lines: JsonLines,
     limits: &Limits,
-) -> u8
-where
-    R: AllocGlobal + Files + Input + Print + Eprint + Clock + Terminals,
-    R::File: Drop,
-{
+) -> u8 {
     let ends = match open_ends(rt, command, named.name, io::writer(rt)) {
         Ok(ends) => ends,
         Err(fault) => return report_of(rt, &fault, named),
     };
-    let (input, ended) = ends.json(rt.alloc(), lines, limits);
+    let (input, ended) = ends.json(rt.alloc(), lines, named.label(), limits);
     input.clear();
-    report_ended(rt, ended, named)
+    report_ended(rt, ended, named.label(), (named.name, "-"))
 }
 
 /// Reads the stream in a file, and prints only the line of its fault.
-fn check_file<R>(rt: &R, named: Named<'_>, bounds: Bounds<'_>) -> u8
-where
-    R: AllocGlobal + Files + Input + Eprint + Clock + Terminals,
-    R::File: Drop,
-{
-    let file = match open(rt, 0, named.name) {
-        Ok(file) => file,
+fn check_file<R: Host>(rt: &R, named: Named<'_>, bounds: Bounds<'_>) -> u8 {
+    let input = match open_watched(rt, "check", named.name, false) {
+        Ok(input) => input,
         Err(fault) => return report_of(rt, &fault, named),
     };
-    let input = ProgressReader::new(file, progress_of(rt, "check", named.name, false));
     let mut input = Bounded::new(input, bounds.whole);
     let answer = check_quietly_within(rt.alloc(), &mut input, bounds.limits);
     let ended = Ended {
@@ -201,36 +147,13 @@ where
         is_closed: false,
     };
     input.into_inner().clear();
-    report_ended(rt, ended, named)
-}
-
-/// Reports how a call over a file ended, and returns its status: the bound that its stream passed,
-/// or its fault.
-fn report_ended<R: AllocGlobal + Eprint>(rt: &R, ended: Ended, named: Named<'_>) -> u8 {
-    match (ended.excess, ended.answer) {
-        (Some(_), _) if ended.is_closed => REFUSED,
-        (Some(excess), _) => report_excess(rt, excess, named),
-        (None, Ok(())) => FINE,
-        (None, Err(fault)) if ended.is_closed => fault.status(),
-        (None, Err(fault)) => report_of(rt, &fault, named),
-    }
+    report_ended(rt, ended, named.label(), (named.name, "-"))
 }
 
 /// Prints the line of a fault, after the name of a labelled file if the line does not have it.
 fn report_of<R: AllocGlobal + Eprint>(rt: &R, fault: &ToolFault, named: Named<'_>) -> u8 {
-    if let (Some(label), ToolFault::Stream(_)) = (named.label(), fault) {
-        let _ = eprint!(rt; "{label}:");
+    if let ToolFault::Stream(_) = fault {
+        print_label(rt, named.label());
     }
     report(rt, fault, named.name, "-")
-}
-
-/// Prints the line of a bound that the stream in a file passes, after the name of a labelled file.
-fn report_excess<R: Eprint>(rt: &R, excess: Excess, named: Named<'_>) -> u8
-    ensures { result ≡ REFUSED }
-{
-    if let Some(label) = named.label() {
-        let _ = eprint!(rt; "{label}:");
-    }
-    let _ = eprintln!(rt; "{excess}");
-    REFUSED
 }

@@ -3,27 +3,22 @@
 ghost use Rattle.std.specs.Prelude.{◌≡◌};
 
 use crate::calls::{JsonLines, open_ends};
+use crate::host::Host;
 use crate::reading::{Named, print_objects};
-use crate::terminals::Terminals;
-use crate::{Bounds, FAILED, named_or_standard, out_of_memory, report, status_of_ended};
+use crate::{
+    Bounds, FAILED, named_or_standard, no_json_bounds, out_of_memory, report, report_ended,
+};
 use arrowflow_line::ShowOptions;
 use arrowflow_text::{Layout, Selection};
 use std::io;
-use std::io::Input;
-use std::rt::Files;
-use std::time::Clock;
 
 /// Prints the rows of the stream in the file with this name, or on standard input.
-pub(crate) fn show_file<R>(
+pub(crate) fn show_file<R: Host>(
     rt: &R,
     name: &Option<String>,
     options: &ShowOptions,
     bounds: Bounds<'_>,
-) -> u8
-where
-    R: AllocGlobal + Files + Input + Print + Eprint + Clock + Terminals,
-    R::File: Drop,
-{
+) -> u8 {
     let name = match named_or_standard(rt, name.as_ref().map(|name| name.as_str())) {
         Ok(name) => name,
         Err(status) => return status,
@@ -38,8 +33,7 @@ where
         return FAILED;
     }
     if bounds.are_some() {
-        let _ = eprintln!(rt; "--json has no bounds of a whole stream");
-        return FAILED;
+        return no_json_bounds(rt);
     }
     let named = Named {
         name,
@@ -50,11 +44,7 @@ where
 }
 
 /// Prints the requested rows of the stream in the file with this name.
-fn print_rows<R>(rt: &R, name: &str, options: &ShowOptions, bounds: Bounds<'_>) -> u8
-where
-    R: AllocGlobal + Files + Input + Print + Eprint + Clock + Terminals,
-    R::File: Drop,
-{
+fn print_rows<R: Host>(rt: &R, name: &str, options: &ShowOptions, bounds: Bounds<'_>) -> u8 {
     let asked = options
         .columns
         .as_ref()
@@ -84,7 +74,7 @@ where
     let (input, ended) = ends.show(rt.alloc(), &selection, bounds.limits, bounds.whole);
     input.clear();
     match ended {
-        Ok(ended) => status_of_ended(rt, ended, (name, "-")),
+        Ok(ended) => report_ended(rt, ended, None, (name, "-")),
         Err(place) => no_column(rt, names.get(place)),
     }
 }

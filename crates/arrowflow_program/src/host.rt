@@ -1,9 +1,12 @@
-//! Which of the standard streams are terminals.
+//! What the program uses of its system.
 
-use std::io::IsTerminal;
+use std::io::{Input, IsTerminal};
+use std::rt::{Env, Files};
+use std::time::Clock;
 
-/// A runtime that knows which of its standard streams are terminals.
-pub(crate) trait Terminals {
+/// A runtime with all that the commands use, which knows which of its standard streams are
+/// terminals.
+pub(crate) trait Host: AllocGlobal + Env + Files + Input + Print + Eprint + Clock {
     /// Whether standard input is one.
     fn reads_terminal(&self) -> bool;
 
@@ -14,7 +17,7 @@ pub(crate) trait Terminals {
     fn reports_on_terminal(&self) -> bool;
 }
 
-impl Terminals for HostRuntime {
+impl Host for HostRuntime {
     fn reads_terminal(&self) -> bool {
         self.stdin().is_terminal()
     }
