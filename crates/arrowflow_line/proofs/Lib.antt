@@ -1,3 +1,5 @@
 pub mod Sized
 mod Asked
 mod Named
+mod Steps
+mod Program

@@ -1,6 +1,6 @@
 -- What the words of a command line ask for, in clap's terms: what clap reads from a command, and what it finds in
 -- words.
-use Rattle.std.specs.Prelude.{◌≡◌, ◌≤◌, ◌-◌, ◌^◌, ◌⊎◌, ℕ, List, [], ◌∷◌, Bool, true, false, codes, ◌==◌, map, option_map, if◌then◌else◌, Option, None, Some, is_some, is_none, Result, Ok, Err, ⊤, string_bytes, unwrap_or}
+use Rattle.std.specs.Prelude.{fold, ◌++◌, ◌≡◌, ◌≤◌, ◌-◌, ◌^◌, ◌⊎◌, ℕ, List, [], ◌∷◌, Bool, true, false, codes, ◌==◌, map, option_map, if◌then◌else◌, Option, None, Some, is_some, is_none, Result, Ok, Err, ⊤, string_bytes, unwrap_or}
 use Rattle.std.specs.List.{slice_split}
 use Rattle.std.specs.Str.{bytes_eq}
 use Rattle.std.specs.Str.Parse.{digits_value, without_leading_plus}
@@ -24,6 +24,9 @@ use Rattle.clap.specs.Simple.{on_top}
 use Rattle.clap.specs.Walk.{Rule}
 use Rattle.clap.specs.Words.{App, HasKind, Row, Text, all_of, fault_of, first_of, new_app, new_rule, one_of, subcommand_of, with_rule, with_subcommand}
 use Rattle.arrowflow_line.specs.Sizes.{IsSizeIn, LacksSize}
+use Rattle.arrowflow_line.specs.declared.arguments.Argument.{Argument}
+use Rattle.arrowflow_line.specs.declared.arguments.Role.{Role}
+use Rattle.arrowflow_line.specs.declared.arguments.Role.TheVariants as roles
 use Rattle.arrowflow_line.specs.declared.fault.ArgFault.{ArgFault}
 use Rattle.arrowflow_line.specs.declared.fault.ArgFault.TheVariants.{Line, Misused, Memory}
 use Rattle.arrowflow_line.specs.declared.fault.Misuse.{Misuse}
@@ -36,6 +39,7 @@ use Rattle.arrowflow_line.specs.declared.plans.Files.{Files}
 use Rattle.arrowflow_line.specs.declared.plans.ShowOptions.{ShowOptions}
 use Rattle.arrowflow_line.specs.declared.plans.Task.{Task}
 use Rattle.arrowflow_line.specs.declared.plans.Totals.{Totals}
+use Rattle.arrowflow_line.specs.declared.arguments.CommandRow.{CommandRow}
 use Rattle.arrowflow_line.specs.declared.plans.Task.TheVariants.{Schema, Check, Show, Explain, Copy, Drill}
 
 -- no argument of the command is also one of its subcommands'
@@ -96,15 +100,6 @@ limit name ceiling default = record (option name (parsers.Unsigned 0 ceiling) de
 abbrev pub size : Text → Text → Rule
 size name default = record (option name parsers.String default) { value_names = 1 }
 
--- a command with the options for its limits
-abbrev pub with_limits : App → App
-with_limits app =
-    with_rule (with_rule (with_rule app (size (codes "limit-metadata") (codes "67108864"))) (size (codes "limit-body") (codes "68719476736"))) (limit (codes "limit-rows") 2147483647 (codes "2147483647"))
-
--- a command with the options for the bounds of a complete stream
-abbrev pub with_totals : App → App
-with_totals app = with_rule (with_rule (with_rule app (number (codes "limit-total-rows"))) (number (codes "limit-messages"))) (text (codes "limit-bytes"))
-
 -- the words one of which a value has to be
 abbrev pub Choices : Type 0
 Choices = Bor (List (Bor Text))
@@ -113,88 +108,87 @@ Choices = Bor (List (Bor Text))
 abbrev pub words_of : Choices → List Text
 words_of choices = map (λ w. w.now) choices.now
 
--- a command with the options for how a stream is written
-abbrev pub with_options : App → Choices → Choices → App
-with_options app updates aligns =
-    with_rule (with_rule app (option (codes "updates") (parsers.Names updates) (codes "delta"))) (option (codes "align") (parsers.Names aligns) (codes "64"))
+-- what clap reads for an argument in a role
+abbrev pub rule_in_role : Text → Role → Rule
+rule_in_role name roles.Name = needed name
+rule_in_role name roles.Names = needed_some name
+rule_in_role name roles.NameIfAny = maybe name
+rule_in_role name roles.NamesIfAny = maybe_some name
+rule_in_role name roles.Flag = flag name
+rule_in_role name (roles.Text word) = text name
+rule_in_role name roles.Number = number name
+rule_in_role name (roles.Size default) = size name default.now
+rule_in_role name (roles.Limit ceiling default) = limit name ceiling default.now
+rule_in_role name (roles.OneOf words default) = option name (parsers.Names words) default.now
 
--- a command with the option for the sets of types
-abbrev pub with_types : App → Choices → App
-with_types app types = with_rule app (option (codes "types") (parsers.Names types) (codes "core"))
+-- what clap reads for an argument of the tables
+abbrev pub rule_by : Argument → Rule
+rule_by a = record (rule_in_role a.0.now a.2) { short = a.1 }
 
--- a command with this name that takes one file, or none
-abbrev pub file_app : Text → App
-file_app name = with_rule (new_app name) (maybe (codes "FILE"))
+-- the command of a row of the tables
+abbrev pub app_by : CommandRow → App
+app_by row = fold (λ app group. fold with_rule app (map rule_by group.now)) (new_app row.name.now) row.groups.now
 
--- a command with this name that takes any number of files, and may name each in its lines, or print JSON
-abbrev pub files_app : Text → App
-files_app name = with_rule (with_rule (with_rule (new_app name) (maybe_some (codes "FILE"))) (lettered 72 (flag (codes "with-filename")))) (flag (codes "json"))
+-- the options for the limits of a message
+abbrev pub limits : List Rule
+limits = size (codes "limit-metadata") (codes "67108864") ∷ size (codes "limit-body") (codes "68719476736") ∷ limit (codes "limit-rows") 2147483647 (codes "2147483647") ∷ []
+
+-- the options for the bounds of a complete stream
+abbrev pub totals : List Rule
+totals = number (codes "limit-total-rows") ∷ number (codes "limit-messages") ∷ text (codes "limit-bytes") ∷ []
+
+-- the options for how a stream is written
+abbrev pub writing : Choices → Choices → List Rule
+writing updates aligns = option (codes "updates") (parsers.Names updates) (codes "delta") ∷ option (codes "align") (parsers.Names aligns) (codes "64") ∷ []
+
+-- the option for the sets of types
+abbrev pub types_of : Choices → List Rule
+types_of types = option (codes "types") (parsers.Names types) (codes "core") ∷ []
+
+-- any number of files, each of which lines may name, and lines of JSON
+abbrev pub files : List Rule
+files = maybe_some (codes "FILE") ∷ lettered 72 (flag (codes "with-filename")) ∷ flag (codes "json") ∷ []
+
+-- which rows are printed, and how
+abbrev pub shown : List Rule
+shown =
+    lettered 99 (text (codes "columns")) ∷ number (codes "batch") ∷ number (codes "skip") ∷ lettered 110 (number (codes "rows")) ∷ text (codes "null") ∷ flag (codes "no-batch") ∷ flag (codes "json") ∷ []
+
+-- what is copied where, and how the output is treated
+abbrev pub copied : List Rule
+copied = needed (codes "IN") ∷ maybe (codes "OUT") ∷ flag (codes "atomic") ∷ flag (codes "in-place") ∷ flag (codes "no-clobber") ∷ flag (codes "fail-downstream") ∷ []
+
+-- the streams of connections, and what is delivered of each
+abbrev pub delivered : List Rule
+delivered = needed_some (codes "FILE") ∷ size (codes "bytes") (codes "4611686018427387904") ∷ size (codes "piece") (codes "65536") ∷ []
+
+-- a command with this name and these arguments
+abbrev pub with_rules : Text → List Rule → App
+with_rules name rules = fold with_rule (new_app name) rules
 
 -- the command that prints schemas
 abbrev pub schema_app : Choices → App
-schema_app types = with_types (with_limits (files_app (codes "schema"))) types
+schema_app types = with_rules (codes "schema") (files ++ limits ++ types_of types)
 
 -- the command that checks
 abbrev pub check_app : Choices → App
-check_app types = with_types (with_limits (with_totals (with_rule (files_app (codes "check")) (lettered 113 (flag (codes "quiet")))))) types
-
--- a command with the options for which columns are printed, and of which batch
-abbrev pub with_choice : App → App
-with_choice app = with_rule (with_rule app (lettered 99 (text (codes "columns")))) (number (codes "batch"))
-
--- a command with the options for which rows are printed
-abbrev pub with_window : App → App
-with_window app = with_rule (with_rule app (number (codes "skip"))) (lettered 110 (number (codes "rows")))
-
--- a command with the options for how rows are written
-abbrev pub with_layout : App → App
-with_layout app = with_rule (with_rule (with_rule app (text (codes "null"))) (flag (codes "no-batch"))) (flag (codes "json"))
+check_app types = with_rules (codes "check") (files ++ lettered 113 (flag (codes "quiet")) ∷ totals ++ limits ++ types_of types)
 
 -- the command that prints rows
 abbrev pub show_app : Choices → App
-show_app types = with_types (with_limits (with_totals (with_layout (with_window (with_choice (file_app (codes "show"))))))) types
+show_app types = with_rules (codes "show") (maybe (codes "FILE") ∷ shown ++ totals ++ limits ++ types_of types)
 
 -- the command that reports why a stream is rejected
 abbrev pub explain_app : Choices → App
-explain_app types = with_types (with_limits (file_app (codes "explain"))) types
-
--- a command with the options for how its output is treated
-abbrev pub with_care : App → App
-with_care app = with_rule (with_rule (with_rule (with_rule app (flag (codes "atomic"))) (flag (codes "in-place"))) (flag (codes "no-clobber"))) (flag (codes "fail-downstream"))
-
--- the command that copies, only with the options for how its output is treated and for the bounds of a complete
--- stream
-abbrev pub careful_copy : App
-careful_copy = with_totals (with_care (with_rule (with_rule (new_app (codes "copy")) (needed (codes "IN"))) (maybe (codes "OUT"))))
-
--- the command that copies, without the option for the sets of types
-abbrev pub limited_copy : Choices → Choices → App
-limited_copy updates aligns = with_limits (with_options careful_copy updates aligns)
+explain_app types = with_rules (codes "explain") (maybe (codes "FILE") ∷ limits ++ types_of types)
 
 -- the command that copies
 abbrev pub copy_app : Choices → Choices → Choices → App
-copy_app updates aligns types = with_types (limited_copy updates aligns) types
-
--- a command with the options for what is delivered of a connection
-abbrev pub with_delivery : App → App
-with_delivery app =
-    with_rule (with_rule app (size (codes "bytes") (codes "4611686018427387904"))) (size (codes "piece") (codes "65536"))
-
--- the command that drills, without the option for the sets of types
-abbrev pub limited_drill : Choices → Choices → App
-limited_drill updates aligns = with_limits (with_options (with_delivery (with_rule (new_app (codes "drill")) (needed_some (codes "FILE")))) updates aligns)
+copy_app updates aligns types = with_rules (codes "copy") (copied ++ totals ++ writing updates aligns ++ limits ++ types_of types)
 
 -- the command that drills
 abbrev pub drill_app : Choices → Choices → Choices → App
-drill_app updates aligns types = with_types (limited_drill updates aligns) types
-
--- a command with such options: updates are sent as deltas or again, and the alignment is 8 or 64
-pub record Offers (command : Choices → Choices → App) (app : App) : Type 0 where
-  pub updates : Choices
-  pub aligns : Choices
-  pub updates_are : words_of updates ≡ codes "delta" ∷ codes "resend" ∷ []
-  pub aligns_are : words_of aligns ≡ codes "8" ∷ codes "64" ∷ []
-  pub is : app ≡ command updates aligns
+drill_app updates aligns types = with_rules (codes "drill") (delivered ++ writing updates aligns ++ limits ++ types_of types)
 
 -- a command with the option for the sets of types: the core, or all
 pub record Takes (command : Choices → App) (app : App) : Type 0 where
@@ -202,7 +196,7 @@ pub record Takes (command : Choices → App) (app : App) : Type 0 where
   pub types_are : words_of types ≡ codes "core" ∷ codes "all" ∷ []
   pub is : app ≡ command types
 
--- a command with such options and the one for the sets of types
+-- a command that writes streams too: updates are sent as deltas or again, and the alignment is 8 or 64
 pub record Sends (command : Choices → Choices → Choices → App) (app : App) : Type 0 where
   pub updates : Choices
   pub aligns : Choices
@@ -215,6 +209,10 @@ pub record Sends (command : Choices → Choices → Choices → App) (app : App)
 -- a command line with one more command
 abbrev pub with_command : App → App → App
 with_command app command = with_subcommand app command.top
+
+-- a command line with the commands of these rows of the table
+unfoldable pub with_rows : App → List CommandRow → App
+with_rows app rows = fold with_command app (map app_by rows)
 
 -- the commands that only read
 abbrev pub reading_app : App → App → App → App → App

@@ -154,7 +154,7 @@ pub(crate) const LINES_OF_JSON: &str = "Print each line as a JSON object";
 
 /// The help for `--updates`.
 pub(crate) const UPDATES: &str = "\
-RefusedItem is sent of a dictionary that grew: the new
+What is sent of a dictionary that grew: the new
 values, or all\n";
 
 /// The help for `--align`.

@@ -13,12 +13,14 @@
 //! | sizes with units | `specs/Sizes.antt`: `IsSize`, `units` |
 #![tactic(auto)]
 
+mod arguments;
 mod command_line;
 mod fault;
 mod help;
 mod plans;
 mod reading;
 mod sizes;
+mod tables;
 
 pub use command_line::plan;
 pub use fault::{ArgFault, Misuse, SizeOption};

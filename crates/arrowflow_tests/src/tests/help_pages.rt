@@ -198,7 +198,7 @@ Options:
       --limit-total-rows <N>  The most rows of a whole stream
       --limit-messages <N>    The most messages of a whole stream
       --limit-bytes <N>       The most bytes of a whole stream, as 64K or 1MiB
-      --updates <updates>     RefusedItem is sent of a dictionary that grew: the new
+      --updates <updates>     What is sent of a dictionary that grew: the new
                               values, or all
                                [default: delta] [possible values: delta, resend]
       --align <align>         To how many bytes each buffer is padded
@@ -240,7 +240,7 @@ Options:
                              [default: 4611686018427387904]
       --piece <N>           How many bytes are delivered at once
                              [default: 65536]
-      --updates <updates>   RefusedItem is sent of a dictionary that grew: the new
+      --updates <updates>   What is sent of a dictionary that grew: the new
                             values, or all
                              [default: delta] [possible values: delta, resend]
       --align <align>       To how many bytes each buffer is padded
