@@ -147,9 +147,10 @@ def crate_sum(name, crates=None):
 
 
 class Kept:
-    """What runs on this machine found: one line of text for each item, under the hash of everything that it depends on. The files
-    are in a folder next to what `rt ci` keeps, or in the folder that the variable KEPT names, never in the repository. Each
-    line is written as soon as it is known, so a run that is interrupted loses none. With `anew` nothing is read."""
+    """What runs on this machine found or built, in any checkout: one line of text or one file for each item, under the hash of
+    everything that it depends on. The files are in a folder next to what `rt ci` keeps, or in the folder that the variable KEPT
+    names, never in the repository. Each is written as soon as it is known, so a run that is interrupted loses none. With `anew`
+    nothing is read."""
 
     def __init__(self, what, anew=False):
         place = os.environ.get("KEPT") or f"{os.path.dirname(KIT)}/rattle-kept"
@@ -180,6 +181,29 @@ class Kept:
         try:
             with open(new, "w", encoding="utf-8") as it:
                 json.dump({"key": key, "seen": seen}, it)
+            os.replace(new, f"{self.folder}/{key}")
+        except OSError:
+            pass
+
+    def take(self, key, file):
+        """Copies the file that is kept under this key to this place, and returns whether there is one."""
+        if self.anew or not self.folder:
+            return False
+        try:
+            shutil.copy(f"{self.folder}/{key}", f"{file}.new")
+            os.replace(f"{file}.new", file)
+            os.utime(f"{self.folder}/{key}")
+            return True
+        except OSError:
+            return False
+
+    def keep(self, key, file):
+        """Keeps a copy of this file. If it cannot be written, the next checkout builds it again."""
+        if not self.folder:
+            return
+        new = f"{self.folder}/new-{os.getpid()}-{key}"
+        try:
+            shutil.copy(file, new)
             os.replace(new, f"{self.folder}/{key}")
         except OSError:
             pass

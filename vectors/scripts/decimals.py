@@ -175,7 +175,7 @@ def batches():
         "decimals": (STANDARD, "1.25, a null and -0.50", ONE.held()),
         "cents": (STANDARD, "decimals of 32 bits with two digits after the point",
             of_width(32, batch(decimal32([5, None, -50, 0, 100])))),
-        "thousands": (STANDARD, "decimals of 64 bits with three zeros behind their digits",
+        "thousands": (STANDARD, "decimals of 64 bits with three zeros after their digits",
             of_width(64, batch(decimal64([12, None, -1, 0])))),
         "whole_decimals": (STANDARD, "decimals of 128 bits without a digit after the point",
             of_width(128, batch(decimal128([7, None, -70, 0])))),

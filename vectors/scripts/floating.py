@@ -142,7 +142,7 @@ def batches():
         "null_count_not_told": (OWN, "a number of null doubles of -1", ONE.changed({f"{NODE}.null_count": "ff" * 8})),
         "no_validity_and_a_null": (OWN, "doubles without a validity, and a null count of 1", ONE.changed({f"{VALIDITY}.length": "00"})),
         "doubles_cut_off": (MALFORMED, "a batch of doubles without its last byte", SD + BD[:-1]),
-        "doubles_without_an_end_marker": (STANDARD, "doubles in a stream that ends behind its batch", SD + BD),
+        "doubles_without_an_end_marker": (STANDARD, "doubles in a stream that ends after its batch", SD + BD),
     }
 
 
@@ -253,7 +253,7 @@ def of_kinds():
         hidden = column([(len(its), len(its) // 2)], bytes([0x55] * 2 + [0xfd]), of(precision)(its).buffers[1] + b"w")
         found[f"edges_of_{many}"] = (STANDARD, f"{many} at all edges, and nulls between them", of_precision(precision,
             batch(of(precision)(its)), batch(of(precision)([it for edge in its for it in (edge, None)]))))
-        found[f"hidden_in_{many}"] = (STANDARD, f"{many} under nulls and behind the last", of_precision(precision, batch(hidden)))
+        found[f"hidden_in_{many}"] = (STANDARD, f"{many} under nulls and after the last", of_precision(precision, batch(hidden)))
     return found
 
 

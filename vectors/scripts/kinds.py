@@ -121,7 +121,7 @@ def untold_vectors():
     plain = schema(*(field(it.name, *it.kind) for it in KINDS))
     encoded = schema(*(field(it.name, *it.kind, encoding=dictionary(at, *INDICES[at % 8])) for at, it in enumerate(KINDS)))
     values = [dictionary_batch(at, it.nine.column) for at, it in enumerate(KINDS)]
-    about = "of nine slots, whose numbers of nulls are not told, whose validities stand far before the body, and of no slots"
+    about = "of nine slots, whose null counts are not given, whose validities are far before the body, and of no slots"
     return {
         "each_type_untold": (f"a column of each type {about}", stream(plain, *untold([it.nine for it in KINDS]))),
         "each_type_by_a_dictionary_untold": (f"a column by a dictionary of each type {about}", stream(encoded, *values,

@@ -221,13 +221,13 @@ def skipped():
 def places():
     """The places of buffers, and how many bytes there are in each part."""
     return {
-        "body_of_the_schema": ("a body behind the schema, which is skipped",
+        "body_of_the_schema": ("a body after the schema, which is skipped",
             ONE.changed({"schema.body_length": "08"})[:len(ONE_COLUMN)] + b"skipped." + ONE_BATCH + END_MARKER),
-        "empty_buffer_outside": ("an empty validity that stands behind the body", in_one((f"{VALIDITY}.length", "00"),
+        "empty_buffer_outside": ("an empty validity past the end of the body", in_one((f"{VALIDITY}.length", "00"),
             (f"{VALIDITY}.offset", "ff" * 7 + "7f"), (f"{NODE}.null_count", "00"))),
-        "empty_buffer_before_the_body": ("an empty validity that stands before the body", in_one((f"{VALIDITY}.length", "00"),
+        "empty_buffer_before_the_body": ("an empty validity before the body", in_one((f"{VALIDITY}.length", "00"),
             (f"{VALIDITY}.offset", FF), (f"{NODE}.null_count", "00"))),
-        "buffers_not_aligned": ("values that stand at a place that is no multiple of 8", stream(INT32S,
+        "buffers_not_aligned": ("values whose offset is no multiple of 8", stream(INT32S,
             raw_batch(2, [(2, 1)], [(0, 1), (1, 8)], b"\x02" + i32(7, 9) + bytes(7)))),
         "buffers_that_overlap": ("a validity in the bytes of the values",
             stream(INT32S, raw_batch(2, [(2, 0)], [(0, 1), (0, 8)], i32(7, 9)))),

@@ -1,5 +1,5 @@
 """The streams of the file ROWS: frames with changes, for which the model gives a reader's answers, but which are not vectors of
-their own. They go only to the program in crates/arrow_vectors_walk."""
+their own. They go only to the program in crates/arrow_conformance."""
 import pathlib
 import re
 
@@ -110,7 +110,7 @@ def texts():
         elif word == "ends":
             its, family = Family(rest), f"{name}.changes"
             found[name] = text("what the changes below it are of", its.held)
-            found[family] = f"changes of which the end is told\nbase {name}\n".encode(), b""
+            found[family] = f"changes with the expected end\nbase {name}\n".encode(), b""
         elif word == "copied":
             way, _, names = rest.partition(": ")
             found[f"{last}.copy{way}"] = b"", joined(names)

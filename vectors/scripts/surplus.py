@@ -24,17 +24,17 @@ def of_one_buffer():
     least = i32(-2 ** 31, 2 ** 31 - 1, 0x55555555, -1, 0, 7, 256) + b"w"
     triples = bytes([0, 1, 255, 97, 98, 99, 255, 255, 255, 238, 238, 238, 102])
     return {
-        "hidden_in_truths": ("truth values of each number of bits at the edge of a byte and of a word, with bits behind them",
+        "hidden_in_truths": ("truth values of each number of bits at the edge of a byte and of a word, with bits after them",
             batches([BOOL], column([(4, 1)], b"\xfb", b"\xed"), column([(0, 0)], b"", b""), column([(1, 1)], b"\xfe\xff", b"\xff"),
             column([(7, 0)], b"", b"\xc9"), column([(8, 2)], b"\x7e\xff", b"\xc9"), column([(9, 9)], b"\x00\xfe\xff", b"\xff\xff"),
             column([(63, 1)], full[:7] + b"\xbf\xff", half), column([(64, 1)], b"\xfe" + full[:8], half),
             column([(65, 3)], b"\xfe\xff\xff\x7f\xff\xff\xff\xff\xfe\xff", half + b"\xff"))),
-        "hidden_in_numbers": ("numbers under nulls and behind the last, and a validity of no nulls", batches([INT32],
+        "hidden_in_numbers": ("numbers under nulls and after the last, and a validity of no nulls", batches([INT32],
             column([(3, 1)], b"\x05", i32(1, 2, 3)), column([(3, 1)], b"\x05", i32(1, 9, 3)), column([(2, 0)], b"\xff", i32(1, 2)),
             column([(7, 2)], b"\xdb\xff", least))),
         "hidden_in_durations": ("durations under nulls", batches([duration(0)],
             column([(5, 2)], b"\xee\xff", i64(1, -2 ** 63, 2 ** 63 - 1, -1, 0x5555)))),
-        "hidden_in_fixed_bytes": ("byte strings of three bytes and of none, with bytes under nulls and behind the last",
+        "hidden_in_fixed_bytes": ("byte strings of three bytes and of none, with bytes under nulls and after the last",
             side_by_side([field("f", fixed_size_binary(3)), field("e", fixed_size_binary(0))],
             [column([(4, 2)], b"\xf5\xff", triples), column([(4, 1)], b"\xfd\xff", b"f")])),
         "hidden_beside_nulls": ("nulls, and a number under a null beside them", side_by_side([field("z", NULL), field("n", INT32)],
@@ -46,7 +46,7 @@ def of_offsets():
     """Texts and byte strings."""
     late = i32(2, 5, 6, 11, 11, 17, 20), "??hidaé€hiddenend!".encode()
     return {
-        "hidden_in_texts": ("texts that begin behind the first byte, with bytes under nulls and behind the last", batches([UTF8],
+        "hidden_in_texts": ("texts that begin after the first byte, with bytes under nulls and after the last", batches([UTF8],
             column([(3, 1)], b"\x05", i32(0, 1, 1, 3), b"abc"), column([(0, 0)], b"", i32(0), b""),
             column([(2, 1)], b"\x01", i32(0, 1, 2), b"ax"), column([(2, 1)], b"\xfd", i32(0, 1, 4), b"axyz"),
             column([(6, 2)], b"\xee\xff", *late))),
@@ -64,14 +64,14 @@ def of_lists():
     items = i32(9, 1, 2, 9, 5, 4, 8, 8, 9) + b"w"
     words = i32(2, 4, 5, 8, 10, 12, 12, 14), b"??zzahidzzbczz!"
     return {
-        "hidden_in_lists": ("lists with items before the first, under a null and behind the last, and lists of all items",
+        "hidden_in_lists": ("lists with items before the first, under a null and after the last, and lists of all items",
             batches([LIST, [ITEM]], column([(3, 1), (2, 0)], b"\x05", i32(0, 2, 2, 2), b"", i32(1, 2)),
             column([(3, 1), (4, 0)], b"\x05", i32(0, 2, 3, 4), b"", i32(1, 2, 7, 3)),
             column([(2, 0), (4, 0)], b"", i32(1, 3, 4), b"", i32(9, 1, 2, 3)),
             column([(2, 0), (4, 0)], b"", i32(0, 2, 3), b"", i32(1, 2, 3, 9)),
             column([(0, 0), (2, 0)], b"", i32(0), b"", i32(1, 2)),
             column([(5, 2), (9, 1)], b"\xed\xff", i32(1, 3, 4, 4, 6, 8), b"\xef\xff\xff", items))),
-        "hidden_in_large_lists": ("large lists of texts with texts before the first, under a null and behind the last",
+        "hidden_in_large_lists": ("large lists of texts with texts before the first, under a null and after the last",
             batches([LARGE_LIST, [field("item", UTF8)]],
             column([(4, 1), (7, 1)], b"\xfb\xff", i64(1, 3, 3, 4, 6), b"\xfb\xff", *words))),
         "lists_of_whole_structs": ("lists of structs, of which no item is hidden", batches(
@@ -91,7 +91,7 @@ def of_structs():
             column([(2, 1), (2, 0)], b"\x01", b"", i32(5, 6)))),
         "hidden_in_structs_of_texts": ("structs with a text under a null", batches([STRUCT, [field("t", UTF8)]],
             column([(2, 1), (2, 0)], b"\x01", b"", i32(0, 1, 2), b"ab"))),
-        "hidden_behind_structs": ("structs with a slot behind the last of the second field", batches([STRUCT, pair],
+        "hidden_behind_structs": ("structs with a slot after the last of the second field", batches([STRUCT, pair],
             column([(2, 0), (2, 0), (3, 0)], b"", b"", i32(1, 2), b"", i32(3, 4, 9)))),
         "hidden_in_structs_of_structs": ("structs with a struct, whose fields all have more slots", batches(
             [STRUCT, [field("n", INT32), inner]], column([(6, 2), (7, 1), (7, 2), (8, 1), (8, 0)], b"\xf9\xff", b"\xf7\xff",

@@ -159,8 +159,8 @@ EXAMPLES = {
     "one falling pair of offsets, at each place": (["arrow_bits_tests/bits"], {
         "falling_offsets.changes": ["batch.body.1[516] at * -> batches 0 rows 0 end Layout at *"], "falling_large_offsets.changes":
         ["batch.body.1[1032] at * -> batches 0 rows 0 end Layout at *"]}),
-    "texts loaded, of which none is copied": (["growths/loading"], {}),
-    "metadata read into a tree once": (["growths/decoding"], {}),
+    "texts loaded, of which none is copied": (["alloc_failures/loading"], {}),
+    "metadata read into a tree once": (["alloc_failures/decoding"], {}),
     "zeros of each number of bits": (["arrow_bits_tests/bits"],
         {"null_counts.changes": ["* := 6400000000000000 -> batches 1 rows 200 end clean"]}),
     "dictionaries of several segments": (["arrow_data_tests/dictionaries", "arrow_dict_tests/trackers", "arrow_body_tests/stored",
@@ -169,8 +169,8 @@ EXAMPLES = {
             *CLEAN],
         "dictionary_of_70_pieces": ["take * dictionary 0 of 70", *rows('0 -> "a"', '1 -> "b"', '25 -> "z"', '26 -> "aa"', '*', '*',
             '*', '69 -> "rrr"')]}),
-    "each allocation failing in turn": (["growths/reading", "growths/writing", "growths/reporting", "growths/copying", "growths/decoding",
-        "growths/storing"], {"growing_dictionary": ["end clean"], "int32_column": ["end clean"]}),
+    "each allocation failing in turn": ([f"alloc_failures/{it}" for it in ("reading", "writing", "reporting", "copying", "decoding",
+        "storing")], {"growing_dictionary": ["end clean"], "int32_column": ["end clean"]}),
     "sinks and inputs that fail": (["arrowflow_session_tests/broken"], {
         "cut_off_in_the_first_dictionary": ["take 200 schema", "take 200 nothing", "hold 200", "end Truncated at 200"],
             "growing_dictionary_cut.changes": CUT}),
@@ -447,8 +447,8 @@ def table():
 
 
 def tests():
-    """The files of the tests that the table names: a module of a crate, or a program of growths/."""
+    """The files of the tests that the table names: a module of a crate, or a program of alloc_failures/."""
     found = set()
     for crate, module in (it.split("/") for its, _ in EXAMPLES.values() for it in its):
-        found.add(f"growths/{module}.rt.txt" if crate == "growths" else f"crates/{crate}/src/tests/{module}.rt")
+        found.add(f"alloc_failures/{module}.rt.txt" if crate == "alloc_failures" else f"crates/{crate}/src/tests/{module}.rt")
     return found
