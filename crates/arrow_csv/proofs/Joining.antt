@@ -10,6 +10,7 @@ use Rattle.arrow_data.specs.Column.{Column, AreOf, resolved_row_of, values_from}
 use Rattle.arrow_data.specs.Shown.{ListsItems}
 use Rattle.arrow_data.proofs.Sameness.{length-values_from}
 use Rattle.arrow_csv.specs.Floats.{IsNumberText}
+use Rattle.arrow_csv.specs.Made.{separator}
 use Rattle.arrow_csv.specs.Texts.{Appends, ArePartTexts, AreItemTexts, Each, IsItemText, IsListOf, IsStructOf, IsText, after, joined}
 
 -- one more text, after others that each come after a semicolon
@@ -18,11 +19,6 @@ after_next [] y = append-nil (codes ";" ++ y)
 after_next (x ∷ xs) y =
     let a = codes ";" ++ x in
     ap (λ t. a ++ t) (after_next xs y) ∙ sym (append_assoc a (after xs ++ codes ";") y) ∙ ap (λ t. t ++ y) (sym (append_assoc a (after xs) (codes ";")))
-
--- the separator before text k
-abbrev pub separator : ℕ → List ℕ
-separator zero = []
-separator (suc k) = codes ";"
 
 -- there is none before the first text
 pub separator_first : (k : ℕ) → k ≡ 0 → separator k ≡ []

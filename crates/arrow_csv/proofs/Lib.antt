@@ -9,5 +9,6 @@ mod WideNumbers
 mod UnitTexts
 mod FloatTexts
 mod Making
+mod Nested
 pub mod Naming
 pub mod Some

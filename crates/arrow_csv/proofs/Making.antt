@@ -1,16 +1,18 @@
 -- Fields of a dictionary's values, made one by one.
-use Rattle.std.proofs.Common.{◌≡◌, ◌<◌, ◌≤◌, ◌+◌, ◌-◌, ℕ, List, [], ◌∷◌, ◌++◌, zero, suc, refl, Some, inl, inr, length, take, get_or, slice_range, sym, ap, ◌∙◌, subst, arith}
+use Rattle.std.proofs.Common.{◌≡◌, ◌<◌, ◌≤◌, ◌+◌, ◌-◌, ℕ, List, [], ◌∷◌, ◌++◌, zero, suc, refl, inl, inr, length, take, get_or, slice_range, sym, ap, ◌∙◌, subst, arith}
 use Rattle.std.proofs.Math.Seq.{take-append_seam, drop-append_seam, get_or-append_seam}
 use Rattle.std.proofs.lemmas.Bool.{cases_lt}
 use Rattle.std.proofs.lemmas.List.{get_or_append_left, length-append, take_all}
 use Rattle.bytes.proofs.Ranges.{slice_range_front}
 use Rattle.arrow_types.specs.Schema.{has_encoding}
-use Rattle.arrow_data.specs.Column.{Column, HasValue, IsColumn, IsValueList, ValueList}
+use Rattle.arrow_data.specs.Column.{Column, HasDictionary, HasValue, IsColumn, IsValueList, ValueList}
 use Rattle.arrow_layout.specs.PlainValue.{value_at}
 use Rattle.arrow_data.specs.View.{RefersTo}
-use Rattle.arrow_csv.specs.Made.{AreFirst, HasFields, IsEntryField, IsField}
+use Rattle.arrow_csv.specs.Made.{AreFirst, IsEntryField, IsField, IsPreparedBy, IsPreparedFor}
 use Rattle.arrow_csv.specs.Texts.{Appends, IsFieldOf, IsSomeField}
 use Rattle.arrow_csv.specs.declared.column_text.DictionaryTexts.{DictionaryTexts}
+use Rattle.arrow_csv.specs.declared.column_text.Prepared.{Prepared}
+use Rattle.arrow_csv.specs.declared.column_text.Prepared.TheVariants.{Nothing, Entries, Items, Parts}
 
 -- a field that was there is still there after more was appended
 kept : (d : ValueList) (bytes places field : List ℕ) (place n : ℕ) → n + 1 < length places → IsField d bytes places n → IsField d (bytes ++ field) (places ++ place ∷ []) n
@@ -75,7 +77,7 @@ at_place (x ∷ xs) zero a b h = refl
 at_place (x ∷ xs) (suc n) a b h = at_place xs n a b (omega (arith, h))
 
 -- the field made of the value to which a slot refers is a field of the slot
-pub copied_field : (null : List ℕ) (c : Column) (fields : DictionaryTexts) (i n from to : ℕ) (old bytes new : List ℕ) → HasFields c (Some fields) → RefersTo c i n
+pub copied_field : (null : List ℕ) (c : Column) (fields : DictionaryTexts) (i n from to : ℕ) (old bytes new : List ℕ) → IsPreparedFor c (Entries fields) → RefersTo c i n
     → from ≡ get_or fields.places.items n from → to ≡ get_or fields.places.items (n + 1) to → bytes ≡ fields.bytes.items → new ≡ old ++ slice_range bytes from to → Appends (IsFieldOf null c.data_type (value_at c.resolved i)) old new
 copied_field null c fields i n from to old bytes new has refers first last same all =
     let d = has.0 in
@@ -88,3 +90,10 @@ copied_field null c fields i n from to old bytes new has refers first last same 
     let is : slice_range fields.bytes.items (get_or places n 0) (get_or places (n + 1) 0) ≡ text = ap (λ k. slice_range fields.bytes.items k (get_or places (n + 1) 0)) start ∙ ap (λ k. slice_range fields.bytes.items from k) end ∙ ap (λ b. slice_range b from to) (sym same) in
     let typed = subst (λ type. IsFieldOf null type (value_at d.values n) text) has.1.typed (subst (IsFieldOf null d.data_type (value_at d.values n)) is field) in
     (text, subst (λ v. IsFieldOf null c.data_type v text) (sym value.1) typed, all)
+
+-- what was made for a column's dictionary is made for the column
+pub prepared_by : (c : Column) (d : ValueList) (made : Prepared) → HasDictionary c d → IsPreparedBy d made → IsPreparedFor c made
+prepared_by c d Nothing has is = tt
+prepared_by c d (Entries fields) has is = (d, has, is)
+prepared_by c d (Items lists) has is = absurd is
+prepared_by c d (Parts structs) has is = absurd is

@@ -6,12 +6,14 @@ ghost use Rattle.arrow_layout.specs.PlainValue.{value_at};
 ghost use Rattle.arrow_csv.specs.Layouts.{null_by};
 ghost use Rattle.arrow_data.specs.Shown.{HoldsValue};
 ghost use Rattle.arrow_data.specs.declared.array.SlotValue.TheVariants.{Null};
-ghost use Rattle.arrow_csv.specs.Made.{AreFieldsOf};
+ghost use Rattle.arrow_csv.specs.Made.{AreFieldsOf, IsPreparedBy, IsPreparedFor};
 ghost use Rattle.arrow_csv.specs.Texts.{Appends, IsFieldOf, IsSomeField};
 
 use crate::fields::{push_field_text, push_null, quote_from};
 use crate::floats::push_int;
 use crate::intervals::push_binary;
+use crate::list_text::ListText;
+use crate::struct_text::StructText;
 use crate::texts::{push_items, push_parts};
 use arrow_data::{Array, Dictionary, SlotValue, Slots};
 use std::alloc::{AllocError, Global};
@@ -56,12 +58,59 @@ impl DictionaryTexts {
     }
 }
 
-/// A column whose slots become fields of records. If its dictionary has few values compared with
-/// the rows, the field of each value is made once, and copied for each row that refers to it.
+/// What is looked up or made once for the values of a column, before the rows.
+#[derive(Drop)]
+pub(crate) enum Prepared<'a> {
+    /// Nothing: each value is read and written on its own.
+    Nothing,
+    /// The field of each value of the dictionary, to be copied for each row that refers to it.
+    Entries(DictionaryTexts),
+    /// Where the items of the lists lie.
+    Items(ListText<'a>),
+    /// The text before each field's value, and where the values lie.
+    Parts(StructText<'a>),
+}
+
+impl<'a> Prepared<'a> {
+    /// What is looked up or made for this column.
+    fn of(alloc: Global, column: &'a Array) -> Result<Prepared<'a>, AllocError>
+        ensures { IfOk result (λ made. IsPreparedFor column.now made) }
+    {
+        if let Some(dictionary) = column.dictionary() {
+            return Prepared::of_entries(alloc, dictionary, column.len());
+        }
+        if let Some(list) = ListText::of(column) {
+            return Ok(Prepared::Items(list));
+        }
+        match StructText::of(alloc, column)? {
+            Some(parts) => Ok(Prepared::Parts(parts)),
+            None => Ok(Prepared::Nothing),
+        }
+    }
+
+    /// The fields of a dictionary's values, if there are few values compared with this many rows.
+    fn of_entries(
+        alloc: Global,
+        dictionary: &Dictionary,
+        rows: usize,
+    ) -> Result<Prepared<'a>, AllocError>
+        ensures { IfOk result (λ made. IsPreparedBy dictionary.now made) }
+    {
+        if dictionary.len() > rows / 2 {
+            return Ok(Prepared::Nothing);
+        }
+        match DictionaryTexts::of(alloc, dictionary)? {
+            Some(entries) => Ok(Prepared::Entries(entries)),
+            None => Ok(Prepared::Nothing),
+        }
+    }
+}
+
+/// A column whose slots become fields of records.
 #[derive(Drop)]
 pub(crate) struct ColumnText<'a> {
     slots: Slots<'a>,
-    entries: Option<DictionaryTexts>,
+    prepared: Prepared<'a>,
 }
 
 impl<'a> Model for ColumnText<'a> {
@@ -71,11 +120,11 @@ impl<'a> Model for ColumnText<'a> {
 
     ghost coded = { column_code };
 
-    ghost use Rattle.arrow_csv.specs.Made.{HasFields};
+    ghost use Rattle.arrow_csv.specs.Made.{IsPreparedFor};
 
     ghost view = { λ t. t.slots };
 
-    ghost invariant = { λ t. HasFields t.slots t.entries };
+    ghost invariant = { λ t. IsPreparedFor t.slots t.prepared };
 }
 
 impl<'a> ColumnText<'a> {
@@ -83,15 +132,9 @@ impl<'a> ColumnText<'a> {
     pub(crate) fn new(alloc: Global, column: &'a Array) -> Result<ColumnText<'a>, AllocError>
         ensures { IfOk result (λ text. text ≡ column.now) }
     {
-        let entries = match column.dictionary() {
-            Some(dictionary) if dictionary.len() <= column.len() / 2 => {
-                DictionaryTexts::of(alloc, dictionary)?
-            }
-            Some(_) | None => None,
-        };
         Ok(ColumnText {
             slots: column.slots(),
-            entries,
+            prepared: Prepared::of(alloc, column)?,
         })
     }
 
@@ -107,18 +150,20 @@ impl<'a> ColumnText<'a> {
         ensures { OnOk result (Appends (IsFieldOf (null_by null.entry) self.now.data_type
             (value_at self.now.resolved i)) out.old.items out.new.items) }
     {
-        match &self.entries {
-            Some(fields) => match self.slots.entry(i) {
+        match &self.prepared {
+            Prepared::Nothing => match self.slots.slot(i) {
+                SlotValue::Null => push_null(out, null),
+                value => push_field(out, self.slots.array(), i, value),
+            },
+            Prepared::Entries(fields) => match self.slots.entry(i) {
                 Some(n) => {
                     let field = &fields.bytes[fields.places[n]..fields.places[n + 1]];
                     out.extend_from_slice(field)
                 }
                 None => push_null(out, null),
             },
-            None => match self.slots.slot(i) {
-                SlotValue::Null => push_null(out, null),
-                value => push_field(out, self.slots.array(), i, value),
-            },
+            Prepared::Items(lists) => lists.push(out, i, null),
+            Prepared::Parts(structs) => structs.push(out, i, null),
         }
     }
 }
@@ -148,7 +193,7 @@ fn push_field(
         SlotValue::Text(text) => push_field_text(out, text.as_bytes()),
         SlotValue::List(start, end, items) => {
             let place = out.len();
-            push_items(out, items, start, end)?;
+            push_items(out, &items.slots(), start, end)?;
             quote_from(out, place)
         }
         SlotValue::Struct(children, place) => {

@@ -20,9 +20,10 @@
 //! every batch. The standard gives no such text; this one is the project's own, and there is no
 //! claim that a complete text can be parsed again.
 //!
-//! A caller that writes the rows of a batch in parts keeps its [`BatchRows`]: where each column's
-//! values lie is looked up once, and if a dictionary has few values compared with the rows, the
-//! field of each value is made once.
+//! A caller that writes the rows of a batch in parts keeps its [`BatchRows`]: where the values of
+//! each column, of a struct's fields and of a list's items lie is looked up once. The text before
+//! each value of a struct is made once, and if a dictionary has few values compared with the rows,
+//! so is the field of each value.
 //!
 //! | Notion | Definition |
 //! |---|---|
@@ -34,7 +35,7 @@
 //! | records of a batch, of a stream | `specs/Records.antt`: `AreBatchRows`, `IsStreamText` |
 //! | columns chosen by their names | `specs/Named.antt`: `chosen`, `chosen_shape`, `lacking` |
 //! | the text of a null, records with or without a number | `specs/Layouts.antt`: `Form`, `form_by` |
-//! | fields of a dictionary's values, made before the rows | `specs/Made.antt`: `AreFieldsOf` |
+//! | what is looked up or made before the rows | `specs/Made.antt`: `IsPreparedFor` |
 //! | bytes that need no quotes, checked by chunks | `specs/Chunks.antt`: `AreAllPlain`, `is_mark` |
 #![tactic(auto)]
 
@@ -46,8 +47,10 @@ mod fields;
 mod floats;
 mod intervals;
 mod layout;
+mod list_text;
 mod named;
 mod records;
+mod struct_text;
 mod texts;
 mod wide;
 

@@ -6,4 +6,5 @@ mod decimals;
 mod dictionaries;
 mod intervals;
 mod nested;
+mod nested_columns;
 mod records;

@@ -4,7 +4,7 @@ use Rattle.std.proofs.lemmas.Result.{on_ok_weaker}
 use Rattle.arrow_data.specs.Column.{Column}
 use Rattle.arrow_layout.specs.PlainValue.{value_at}
 use Rattle.arrow_csv.specs.Layouts.{null_by}
-use Rattle.arrow_csv.specs.Made.{HasFields}
+use Rattle.arrow_csv.specs.Made.{IsPreparedFor}
 use Rattle.arrow_csv.specs.Texts.{Appends, IsFieldOf, IsSomeField}
 use Rattle.arrow_csv.proofs.Joining.{appends_weaker}
 use Rattle.arrow_csv.proofs.Making.{copied_field}
@@ -12,14 +12,14 @@ use Rattle.arrow_csv.proofs.Written.{on_appended}
 use Rattle.arrow_csv.proofs.column_text.ColumnText.push.Goals as goal
 
 -- the field of the value that the slot refers to was copied
-pub returns-in-Some-entry : goal.returns-in-Some-entry
-returns-in-Some-entry c =
+pub returns-in-Some : goal.returns-in-Some
+returns-in-Some c =
     let slots = c.self.inside.slots in
     let old = c.args.out.now.items in
-    let has = subst (HasFields slots) c.in-Some.is c.self.invariant in
+    let has = subst (IsPreparedFor slots) c.in-Entries.is c.self.invariant in
     subst (λ (k : Column). OnOk c.extend_from_slice.result (Appends (IsFieldOf (null_by c.args.null) k.data_type (value_at k.resolved c.args.i)) old c.extend_from_slice.new.self.items)) c.self.view_is
     (on_appended c.extend_from_slice.result old _ _ c.extend_from_slice.ensures.items
-    (copied_field (null_by c.args.null) slots c.in-Some.fields c.args.i c.in-Some-entry.n _ _ old _ _ has c.in-Some-entry.ensures c.index.ensures c.index-in-Some-entry.ensures c.deref.ensures.value))
+    (copied_field (null_by c.args.null) slots c.in-Entries.fields c.args.i c.in-Some.n _ _ old _ _ has c.in-Some.ensures c.index.ensures c.index-in-Some.ensures c.deref.ensures.value))
 
 -- the value that was read from the slot
 pub returns-in_default : goal.returns-in_default
