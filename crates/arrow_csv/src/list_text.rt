@@ -41,6 +41,8 @@ impl<'a> ListText<'a> {
     pub(crate) fn of(column: &'a Array) -> Option<ListText<'a>>
         ensures { IfSome result (λ text. text ≡ column.now) }
     {
+        // Most columns have no items, and need not look up their buffers.
+        column.items()?;
         let Buffers::Lists {
             form,
             validity,

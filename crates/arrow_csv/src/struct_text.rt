@@ -95,6 +95,10 @@ impl<'a> StructText<'a> {
     pub(crate) fn of(alloc: Global, column: &'a Array) -> Result<Option<StructText<'a>>, AllocError>
         ensures { IfOk result (λ made. IfSome made (λ text. text ≡ column.now)) }
     {
+        // Most columns have no fields, and need not look up their buffers.
+        if column.fields().is_none() {
+            return Ok(None);
+        }
         let Buffers::Structs { validity, children } = column.buffers() else {
             return Ok(None);
         };

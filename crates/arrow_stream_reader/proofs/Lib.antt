@@ -8,4 +8,5 @@ pub mod Holdings
 pub mod Decoding
 pub mod Beginnings
 pub mod Streams
+pub mod BodyReading
 pub mod Whole

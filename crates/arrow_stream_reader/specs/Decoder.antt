@@ -1,5 +1,5 @@
 -- The state of the decoder of messages, and what a step of it does.
-use Rattle.std.specs.Prelude.{◌≡◌, ℕ, ◌+◌, ◌^◌, ◌<◌, ◌≤◌, ◌⊎◌, List, [], ◌++◌, length, take, drop, Result, Ok, Err}
+use Rattle.std.specs.Prelude.{◌≡◌, ℕ, ◌+◌, ◌^◌, ◌<◌, ◌≤◌, ◌⊎◌, List, [], ◌++◌, length, take, drop, Option, Result, Ok, Err}
 use Rattle.arrow_types.specs.Limits.{LimitNumbers}
 use Rattle.arrow_stream_reader.specs.declared.kind.Rejection.{Rejection}
 use Rattle.arrow_stream_reader.specs.declared.item.Item.{Item}
@@ -15,6 +15,7 @@ use Rattle.arrow_stream_reader.specs.declared.reader.Verdict.{Verdict}
 use Rattle.arrow_stream_reader.specs.declared.reader.Verdict.TheVariants.{Open, Done, Bad}
 use Rattle.arrow_stream_reader.specs.Message.{Message}
 use Rattle.arrow_stream_reader.specs.State.{StreamState, Given}
+use Rattle.arrow_stream_reader.specs.BodyRead.{OneRead}
 use Rattle.arrow_stream_reader.specs.Frame.{HasPrefix, HasMetadata, HasBody, Outcome, First, whole, marker, refused, waits}
 use Rattle.arrow_stream_reader.specs.Views.{IsFit, plain, given, message_of}
 
@@ -127,6 +128,18 @@ Finishes old b m message (Err (Refused k)) new =
     NotApplied old new × HasBody old.limits (plain old.state) old.place b m message (Err k)
 Finishes old b m message (Err Memory) new =
     NotApplied old new × ((left : StreamState × Given) × HasBody old.limits (plain old.state) old.place b m message (Ok left))
+
+-- bytes that were read from an input were added to those held, and the message is not complete
+pub record HasRead (old : Decoder) (had left : Option (List ℕ)) (n : ℕ) (new : Decoder) : Type 0 where
+  pub piece : List ℕ
+  pub read : OneRead had left n piece
+  pub waited : Waited old (old.held.items ++ piece) new
+
+-- nothing changed
+pub record Unchanged (old new : Decoder) : Type 0 where
+  pub same : SameBut old new
+  pub held : new.held.items ≡ old.held.items
+  pub phase : new.phase ≡ old.phase
 
 -- only the first `count` bytes are still held
 pub record Rewound (old : Decoder) (count : ℕ) (new : Decoder) : Type 0 where

@@ -8,8 +8,9 @@ pub mod Front
 pub mod Laws
 pub mod Held
 pub mod Views
-pub mod Decoder
 pub mod Stream
+pub mod BodyRead
+pub mod Decoder
 pub mod Stored
 pub mod Inside
 pub mod Tables

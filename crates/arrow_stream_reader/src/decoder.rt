@@ -1,14 +1,20 @@
 //! A decoder of messages, one at a time, from bytes that come in pieces.
 
-ghost use Rattle.std.specs.Prelude.{◌≡◌, ◌+◌, ◌^◌, ◌<◌, ◌≤◌, ◌⊎◌, [], ◌++◌, length, Ok};
+ghost use Rattle.std.specs.Prelude.{◌≡◌, ◌+◌, ◌^◌, ◌<◌, ◌≤◌, ◌⊎◌, [], ◌++◌, length, Ok, Err};
+ghost use Rattle.std.specs.Prelude.{IfOk, IfSome, None, OnErr};
+ghost use Rattle.std.specs.Io.KnownBytes.{Keeps};
 ghost use Rattle.arrow_stream_reader.specs.declared.prefix.Prefix.TheVariants as prefixes;
 ghost use Rattle.arrow_stream_reader.specs.Frame.{HasPrefix, HasMetadata};
 ghost use Rattle.arrow_stream_reader.specs.State.{nothing_yet};
 ghost use Rattle.arrow_stream_reader.specs.Views.{IsFit, plain, message_of};
 ghost use Rattle.arrow_stream_reader.specs.declared.decoder.Phase.TheVariants as phases;
-ghost use Rattle.arrow_stream_reader.specs.Decoder.{Finishes, IsAt, Works, Rewound};
+ghost use Rattle.arrow_stream_reader.specs.Decoder.{Finishes, HasRead, IsAt, Unchanged, Works};
+ghost use Rattle.arrow_stream_reader.specs.Decoder.{Rewound};
+ghost use Rattle.arrow_stream_reader.specs.declared.input.BodyReadFault.TheVariants.{Input as Unread};
+ghost use Rattle.arrow_stream_reader.specs.declared.input.BodyReadFault.TheVariants.{Memory};
 
 use crate::decode_error::DecodeError;
+use crate::input::{BodyReadFault, Input, PIECE};
 use crate::item::Item;
 use crate::kind::Rejection;
 use crate::message::Message;
@@ -172,6 +178,31 @@ impl Decoder {
                 Err(stop)
             }
         }
+    }
+
+    /// Reads bytes of the body from an input, with one read, straight into the memory where they
+    /// stay, if more of them are missing than one read asks for; then it returns how many it read.
+    pub(crate) fn read_from<I: Input>(
+        &mut self,
+        input: &mut I,
+    ) -> Result<Option<usize>, BodyReadFault>
+        requires at { IsAt self.old }
+        ensures read { IfOk result (λ taken. IfSome taken (λ n. HasRead self.old
+            (I.remaining input.old) (I.remaining input.new) n self.new)) }
+        ensures none { result ≡ Ok None → Unchanged self.old self.new × (input.new ≡ input.old) }
+        ensures unchanged { OnErr result (Unchanged self.old self.new
+            × Keeps (I.remaining input.old) (I.remaining input.new)) }
+        ensures failed { result ≡ Err Unread → I.has_failed input.new }
+        ensures memory { result ≡ Err Memory → input.new ≡ input.old }
+    {
+        let Phase::Body(size, message) = &self.phase else {
+            return Ok(None);
+        };
+        let whole = 8 + *size as usize + message.body_len as usize;
+        if whole - self.held.len() <= PIECE {
+            return Ok(None);
+        }
+        self.held.fill_from(input, whole - 1)
     }
 
     /// Goes back to the first `count` of the bytes held.

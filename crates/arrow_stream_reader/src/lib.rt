@@ -38,6 +38,7 @@ mod body;
 mod decode_error;
 mod decoder;
 mod fault;
+mod input;
 mod item;
 mod kind;
 pub mod laws;
@@ -51,6 +52,7 @@ mod state;
 mod stream_schema;
 
 pub use fault::Fault;
+pub use input::{BodyReadFault, Input, PIECE, ReadFailed};
 pub use item::Item;
 pub use kind::Kind;
 pub use prefix::CONTINUATION;

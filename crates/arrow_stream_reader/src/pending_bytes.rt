@@ -1,11 +1,16 @@
 //! The held bytes of the current message.
 
 ghost use Rattle.std.specs.Prelude.{◌≡◌, ◌≤◌, ◌<◌, ◌+◌, ◌^◌, ◌++◌, ◌⊎◌, [], length, take, drop};
-ghost use Rattle.std.specs.Prelude.{IfOk, OnErr};
+ghost use Rattle.std.specs.Prelude.{IfOk, IfSome, OnErr, OnOk, Ok, Err, None};
 ghost use Rattle.arrow_stream_reader.specs.Decoder.{Filled};
+ghost use Rattle.arrow_stream_reader.specs.BodyRead.{ReadsInto};
+ghost use Rattle.std.specs.Io.KnownBytes.{Keeps};
+ghost use Rattle.arrow_stream_reader.specs.declared.input.BodyReadFault.TheVariants.{Input as Unread};
+ghost use Rattle.arrow_stream_reader.specs.declared.input.BodyReadFault.TheVariants.{Memory};
 
 use crate::body::Body;
-use bytes::Bytes;
+use crate::input::{BodyReadFault, Input, PIECE};
+use bytes::{Bytes, BytesMut};
 use std::alloc::{AllocError, AllocFailed, Global};
 use std::marker::Model;
 use std::mem;
@@ -30,7 +35,7 @@ pub(crate) struct PendingBytes {
 #[derive(Drop)]
 pub(crate) enum Storage {
     /// In memory that can take more of them.
-    Growing(Vec<u8>),
+    Growing(BytesMut),
     /// In memory that columns may share.
     Whole(Bytes),
 }
@@ -50,7 +55,7 @@ impl PendingBytes {
     {
         PendingBytes {
             alloc,
-            storage: Storage::Growing(Vec::new(alloc)),
+            storage: Storage::Growing(BytesMut::new(alloc)),
             room: 0,
             recycled: None,
         }
@@ -90,15 +95,39 @@ impl PendingBytes {
     {
         match &mut self.storage {
             Storage::Growing(bytes) => {
-                take_back(self.alloc, bytes, &mut self.recycled);
+                take_back(bytes, &mut self.recycled);
                 append(bytes, piece, target, self.room)
             }
             Storage::Whole(bytes) => {
-                let mut copy = Vec::from_slice(self.alloc, bytes.as_slice())?;
+                let mut copy = BytesMut::copy_from_slice(self.alloc, bytes.as_slice())?;
                 let taken = append(&mut copy, piece, target, self.room)?;
                 self.storage = Storage::Growing(copy);
                 Ok(taken)
             }
+        }
+    }
+
+    /// Reads bytes from an input until `target` bytes are held at most, with one read of
+    /// [`PIECE`] bytes at most, straight into the memory where they stay, and returns how many
+    /// they are. After an error nothing has changed. Shared bytes are left as they are: then it
+    /// reads nothing.
+    pub(crate) fn fill_from<I: Input>(
+        &mut self,
+        input: &mut I,
+        target: usize,
+    ) -> Result<Option<usize>, BodyReadFault>
+        requires room { length self.old.items < target }
+        ensures read { IfOk result (λ taken. IfSome taken (λ n. ReadsInto self.old.items target
+            (I.remaining input.old) (I.remaining input.new) n self.new.items)) }
+        ensures none { result ≡ Ok None → (self.new ≡ self.old) × (input.new ≡ input.old) }
+        ensures unchanged { OnErr result ((self.new.items ≡ self.old.items)
+            × Keeps (I.remaining input.old) (I.remaining input.new)) }
+        ensures failed { result ≡ Err Unread → I.has_failed input.new }
+        ensures memory { result ≡ Err Memory → input.new ≡ input.old }
+    {
+        match &mut self.storage {
+            Storage::Growing(bytes) => { Ok(Some(read_into(bytes, input, target, self.room)?)) }
+            Storage::Whole(_) => Ok(None),
         }
     }
 
@@ -116,7 +145,7 @@ impl PendingBytes {
         if body_len < SHARED || body_len < room / 2 {
             return Ok(());
         }
-        match Bytes::from_vec(mem::replace(bytes, Vec::new(self.alloc))) {
+        match mem::replace(bytes, BytesMut::new(self.alloc)).freeze() {
             Ok(message) => {
                 self.storage = Storage::Whole(message);
                 self.room = room.max(self.room);
@@ -169,7 +198,7 @@ impl PendingBytes {
     fn part_with_shared(&mut self)
         ensures items { self.new.items ≡ [] }
     {
-        let none = Storage::Growing(Vec::new(self.alloc));
+        let none = Storage::Growing(BytesMut::new(self.alloc));
         if let Storage::Whole(message) = mem::replace(&mut self.storage, none) {
             self.recycled = Some(message);
         }
@@ -178,38 +207,22 @@ impl PendingBytes {
 
 /// If there are no bytes, gives them the memory of a message that was shared, provided no column
 /// uses it any more.
-fn take_back(alloc: Global, bytes: &mut Vec<u8>, shared: &mut Option<Bytes>)
+fn take_back(bytes: &mut BytesMut, shared: &mut Option<Bytes>)
     ensures same { bytes.new.items ≡ bytes.old.items }
 {
     if !bytes.is_empty() {
         return;
     }
-    if let Some(message) = shared.take() {
-        *bytes = room_of(alloc, message);
-    }
-}
-
-/// The memory of a message with no bytes in it, if no column uses it any more; else no memory.
-fn room_of(alloc: Global, message: Bytes) -> Vec<u8>
-    ensures none { result.items ≡ [] }
-{
-    let Some(mut room) = message.reclaim() else {
-        return Vec::new(alloc);
-    };
-    room.clear();
-    match room.into_vec() {
-        Ok(bytes) => bytes,
-        Err(_) => Vec::new(alloc),
+    if let Some(mut room) = shared.take().and_then(Bytes::reclaim) {
+        room.clear();
+        *bytes = room;
     }
 }
 
 /// Takes bytes of a piece until there are `target` of them or the piece ends, and returns how many it
 /// took. After `AllocError` nothing has changed.
-///
-/// If the capacity is too small, it grows to twice its size, or to `room` bytes, but to no more
-/// than `target`: so it grows with the bytes received, and a message that is shared fills its memory.
 fn append(
-    bytes: &mut Vec<u8>,
+    bytes: &mut BytesMut,
     piece: &[u8],
     target: usize,
     room: usize,
@@ -218,12 +231,56 @@ fn append(
     ensures filled { IfOk result (λ n. Filled bytes.old.items piece.now target n bytes.new.items) }
     ensures unchanged { OnErr result (bytes.new.items ≡ bytes.old.items) }
 {
-    let missing = target - bytes.len();
-    let count = piece.len().min(missing);
-    if count > bytes.capacity() - bytes.len() {
-        let more = bytes.capacity().max(room).min(missing);
-        bytes.reserve_exact(more.max(count))?;
-    }
+    let count = piece.len().min(target - bytes.len());
+    grow(bytes, count, target, room)?;
     bytes.extend_from_slice(&piece[..count])?;
     Ok(count)
+}
+
+/// Reads bytes from an input, with one read, into the memory after those that are there.
+fn read_into<I: Input>(
+    bytes: &mut BytesMut,
+    input: &mut I,
+    target: usize,
+    room: usize,
+) -> Result<usize, BodyReadFault>
+    requires room { length bytes.old.items < target }
+    ensures read { IfOk result (λ n. ReadsInto bytes.old.items target
+        (I.remaining input.old) (I.remaining input.new) n bytes.new.items) }
+    ensures unchanged { OnErr result ((bytes.new.items ≡ bytes.old.items)
+        × Keeps (I.remaining input.old) (I.remaining input.new)) }
+    ensures failed { result ≡ Err Unread → I.has_failed input.new }
+    ensures memory { result ≡ Err Memory → input.new ≡ input.old }
+{
+    let start = bytes.len();
+    let wanted = PIECE.min(target - start);
+    grow(bytes, wanted, target, room)?;
+    bytes.advance_mut(wanted);
+    match input.read_piece(&mut bytes.as_mut_slice()[start..]) {
+        Ok(count) => {
+            bytes.truncate(start + count);
+            Ok(count)
+        }
+        Err(_) => {
+            bytes.truncate(start);
+            Err(BodyReadFault::Input)
+        }
+    }
+}
+
+/// Makes room for `count` more bytes.
+///
+/// If there is none, the room grows to twice its size, or to `room` bytes, but to no more than
+/// `target` asks for: so it grows with the bytes received, and a message that is shared fills its
+/// memory.
+fn grow(bytes: &mut BytesMut, count: usize, target: usize, room: usize) -> Result<(), AllocError>
+    requires some { length bytes.old.items + count ≤ target }
+    ensures same { bytes.new.items ≡ bytes.old.items }
+    ensures spare { OnOk result (count ≤ bytes.new.spare) }
+{
+    if count <= bytes.capacity() - bytes.len() {
+        return Ok(());
+    }
+    let more = bytes.capacity().max(room).min(target - bytes.len());
+    bytes.reserve(more.max(count))
 }

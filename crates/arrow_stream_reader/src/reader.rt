@@ -1,16 +1,21 @@
 //! The reader of a stream that comes in pieces.
 
 ghost use Rattle.std.specs.Prelude.{◌≡◌, ◌+◌, ◌≤◌, [], length, option_map, Ok, Err, None, IfOk};
-ghost use Rattle.std.specs.Prelude.{IfErr};
+ghost use Rattle.std.specs.Prelude.{IfErr, IfSome, OnErr};
+ghost use Rattle.std.specs.Io.KnownBytes.{Keeps};
 ghost use Rattle.arrow_stream_reader.specs.declared.reader.Verdict.TheVariants.{Open, Done, Bad};
 ghost use Rattle.arrow_stream_reader.specs.declared.kind.Rejection.{Rejection as Refused};
 ghost use Rattle.arrow_stream_reader.specs.Kind.{kind_of};
 ghost use Rattle.arrow_stream_reader.specs.Stream.{FailsFor, GoesOn, ReadsOn, IsReaderAt, TakesPiece};
 ghost use Rattle.arrow_stream_reader.specs.Stream.{MemoryAlone, ended_so, fresh};
+ghost use Rattle.arrow_stream_reader.specs.BodyRead.{ReadsBody};
+ghost use Rattle.arrow_stream_reader.specs.declared.input.BodyReadFault.TheVariants.{Input as Unread};
+ghost use Rattle.arrow_stream_reader.specs.declared.input.BodyReadFault.TheVariants.{Memory};
 
 use crate::decode_error::DecodeError;
 use crate::decoder::{Decoder, Phase, Step};
 use crate::fault::Fault;
+use crate::input::{BodyReadFault, Input};
 use crate::item::Item;
 use crate::kind::{Kind, Rejection};
 use crate::pending_bytes::PendingBytes;
@@ -174,6 +179,31 @@ impl StreamReader {
                     place,
                 })
             }
+        }
+    }
+
+    /// Reads bytes of a long body from an input straight into the memory where they stay, and
+    /// returns how many: 0 only at the end of the input, else at most [`PIECE`](crate::PIECE). They
+    /// are then taken, as by [`StreamReader::read`], and complete no message.
+    ///
+    /// This is for a caller that reads an input piece by piece, in place of a read into a buffer and
+    /// a call of `read`: it spares the copy of the bytes. `None` if the next bytes are not those of
+    /// a body of which more than [`PIECE`](crate::PIECE) bytes are missing: then nothing was read
+    /// and nothing has changed. After a fault nothing was taken and nothing has changed either, and
+    /// the same call may be made again.
+    pub fn read_body<I: Input>(&mut self, input: &mut I) -> Result<Option<usize>, BodyReadFault>
+        ensures reads { IfOk result (λ taken. IfSome taken (λ n. ReadsBody self.old
+            (I.remaining input.old) (I.remaining input.new) n self.new)) }
+        ensures none { result ≡ Ok None → (self.new ≡ self.old) × (input.new ≡ input.old) }
+        ensures unchanged { OnErr result ((self.new ≡ self.old)
+            × Keeps (I.remaining input.old) (I.remaining input.new)) }
+        ensures failed { result ≡ Err Unread → I.has_failed input.new }
+        ensures memory { result ≡ Err Memory → input.new ≡ input.old }
+        ensures limits { self.new.limits ≡ self.old.limits }
+    {
+        match self.verdict() {
+            Verdict::Open => self.decoder.read_from(input),
+            Verdict::Done | Verdict::Bad(_) => Ok(None),
         }
     }
 

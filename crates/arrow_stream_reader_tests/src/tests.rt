@@ -10,5 +10,6 @@ mod deciding;
 mod declared;
 mod kinds;
 mod limits;
+mod long_bodies;
 mod single_bytes;
 mod sizes;

@@ -7,9 +7,8 @@ ghost use Rattle.arrowflow_input.specs.declared.bounds.Excess.{Excess};
 
 use crate::bounds::{Excess, Measure, WholeLimits};
 use crate::capped::Capped;
-use crate::input::Input;
 use crate::tool_fault::ToolFault;
-use arrow_stream_reader::StreamReader;
+use arrow_stream_reader::{Input, StreamReader};
 
 /// An input whose stream has bounds, for the calls that take one, such as
 /// [`check_within`](crate::check_within): each such input is for one call.

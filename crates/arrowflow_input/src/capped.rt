@@ -4,7 +4,7 @@ ghost use Rattle.std.specs.Prelude.{◌≡◌, ◌⊎◌, None, OnErr, true};
 ghost use Rattle.std.specs.Io.KnownBytes.{prepend_known};
 ghost use Rattle.arrowflow_input.specs.Capped.{LooksOn, is_longer_by, waiting};
 
-use crate::input::{Input, ReadFailed};
+use arrow_stream_reader::{Input, ReadFailed};
 
 /// An input that fails after a given number of bytes, if it has more. The byte after them, which
 /// shows that it has more, waits.

@@ -10,10 +10,9 @@ ghost use Rattle.arrowflow_input.specs.Session.{IsReaderAfter};
 ghost use Rattle.arrowflow_input.specs.declared.driver.Progress.TheVariants.{GoesOn, Marker};
 
 use crate::consumer::Consumer;
-use crate::input::Input;
-use crate::pieces::room_for_a_piece;
+use crate::pieces::{Piece, read_piece, room_for_a_piece};
 use crate::tool_fault::ToolFault;
-use arrow_stream_reader::{Item, StreamReader};
+use arrow_stream_reader::{Input, Item, StreamReader};
 use std::alloc::Global;
 use std::ops::ControlFlow;
 
@@ -30,8 +29,8 @@ pub enum Progress {
 
 /// Reads a stream from its beginning, passes its messages to a consumer, and returns the consumer.
 ///
-/// The reader is restarted. The input is read in pieces of 65,536 bytes up to an end marker, to its
-/// end, or to the piece with which the consumer has enough. Nothing after an end marker, or after
+/// The reader is restarted. The input is read in pieces of 65,536 bytes, those of a long body straight
+/// into the reader, up to an end marker, to its end, or to the piece with which the consumer has enough. Nothing after an end marker, or after
 /// the consumer's last message, is parsed.
 ///
 /// The answer is the consumer's, if it stopped or the stream ended well; `Stream` if the stream is
@@ -74,16 +73,15 @@ fn drive_pieces<R: Input, C: Consumer>(
     ensures blameless { IfErr result.1 (BlamesOnly (R.has_failed input.new)) }
 {
     loop {
-        let count = match input.read_piece(room) {
-            Ok(count) => count,
-            Err(_) => return (consumer, Err(ToolFault::Input(0))),
-        };
-        if count == 0 {
-            return match reader.end() {
+        let count = match read_piece(reader, input, room) {
+            Ok(Piece::InBuffer(count)) => count,
+            Ok(Piece::InReader) => continue,
+            Ok(Piece::End) => return match reader.end() {
                 Ok(()) => consumer.end(reader, false),
                 Err(fault) => (consumer, Err(ToolFault::from(fault))),
-            };
-        }
+            },
+            Err(fault) => return (consumer, Err(fault)),
+        };
         let (next, progress) = take_piece(reader, consumer, &room[..count]);
         match progress {
             Ok(Progress::GoesOn) => consumer = next,

@@ -9,9 +9,8 @@ use crate::bounded::Bounded;
 use crate::consumer::Consumer;
 use crate::counting::Counting;
 use crate::driver::drive;
-use crate::input::Input;
 use crate::tool_fault::ToolFault;
-use arrow_stream_reader::StreamReader;
+use arrow_stream_reader::{Input, StreamReader};
 use std::alloc::Global;
 
 /// Reads a stream as [`drive`](crate::drive) does, and passes its messages to a consumer, as long
