@@ -1,7 +1,7 @@
 -- Every list of bytes has a `Front`, in the form of a double negation. No definition decides whether a tree lies in
 -- bytes, or whether a body is laid out as its fields need; but to refute that something is missing, both cases may be
 -- considered (`apart`).
-use Rattle.std.proofs.Common.{◌≡◌, ℕ, ℤ, ◌+◌, ◌<◌, Bool, true, false, List, [], ◌∷◌, length, take, drop, Option, Some, None, Result, Ok, Err, refl, ap, arith, inl, inr, is_some, length-drop, zero, suc}
+use Rattle.std.proofs.Common.{◌≡◌, ℕ, ℤ, ◌+◌, ◌<◌, Bool, true, false, List, [], ◌∷◌, length, take, drop, Option, Some, None, Result, Ok, Err, refl, arith, inl, inr, is_some, length-drop, zero, suc}
 use Rattle.std.specs.Prelude.{not}
 use Rattle.std.proofs.lemmas.Bool.{cases_lt}
 use Rattle.arrow_types.specs.Limits.{LimitNumbers}

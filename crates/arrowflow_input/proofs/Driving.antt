@@ -28,7 +28,7 @@ use Rattle.arrowflow_input.specs.Endings.{EndsBadly, EndsWell}
 use Rattle.arrowflow_input.specs.Session.{IsReaderAfter}
 use Rattle.arrowflow_input.specs.declared.driver.Progress.TheVariants.{GoesOn, Marker, Stopped}
 use Rattle.arrowflow_input.specs.declared.tool_fault.ToolFault.{ToolFault}
-use Rattle.arrowflow_input.specs.declared.tool_fault.ToolFault.TheVariants.{Input, Stream}
+use Rattle.arrowflow_input.specs.declared.tool_fault.ToolFault.TheVariants.{Input, Memory, Stream}
 use Rattle.arrowflow_input.proofs.Feeding.{ended_same, taken_all}
 use Rattle.arrowflow_input.proofs.First.{state_stays}
 use Rattle.arrowflow_input.proofs.Needing.{reported_refusal}
@@ -299,9 +299,10 @@ module _ (keeps : OfMessages) (answers : OfInput) (bytes : List ℕ) (left : Opt
     given = g;
   }))
 
-  -- a read failed
-  pub read_failed : AreGiven keeps bytes r → r.at.verdict ≡ Open → Driven keeps answers bytes left r (Err (Input 0))
-  read_failed g open_still = inr (inr (inl (record { reported = refl; is_open = open_still; given = g })))
+  -- a read failed, or an allocation for it
+  pub not_read : (fault : ToolFault) → (fault ≡ Input 0) ⊎ (fault ≡ Memory) → AreGiven keeps bytes r → r.at.verdict ≡ Open → Driven keeps answers bytes left r (Err fault)
+  not_read fault (inl failed) g open_still = inr (inr (inl (record { reported = failed; is_open = open_still; given = g })))
+  not_read fault (inr memory) g open_still = inr (inr (inr (record { is_memory = memory; taken = bytes; rest = []; whole = append-nil bytes; given = g })))
 
   -- the consumer failed on a piece, or the reader did
   pub piece_ended : (fault : ToolFault) → PieceTaken keeps answers bytes r (Err fault) → Driven keeps answers bytes left r (Err fault)

@@ -1,4 +1,4 @@
-use Rattle.std.proofs.Common.{◌≡◌, ◌+◌, ◌≤◌, ◌<◌, ◌++◌, length, take, sym, ap, ◌∙◌, arith, length-take, length-drop, length-append}
+use Rattle.std.proofs.Common.{◌≡◌, ◌+◌, length, take, sym, ap, ◌∙◌, arith, length-take, length-drop, length-append}
 use Rattle.arrow_stream_reader.proofs.BodyReading.{read_added}
 use Rattle.arrow_stream_reader.proofs.pending_bytes.read_into.Goals as goal
 
