@@ -1,4 +1,4 @@
-//! Columns of structs and of lists beside each other, in all their rows.
+//! Columns of structs and of lists in one batch, in all their rows.
 
 use super::columns::{
     MEMORY, are_records, builder, field, finished, push, records_of, schema, schema_of,
