@@ -1,5 +1,5 @@
 -- Prefixes of texts that are sent one after the other.
-use Rattle.std.proofs.Common.{◌≡◌, ◌≤◌, ◌+◌, ℕ, List, [], ◌++◌, length, take, Option, sym, subst, arith}
+use Rattle.std.proofs.Common.{◌+◌, ℕ, List, ◌++◌, length, take, Option, sym, subst, arith}
 use Rattle.std.specs.Io.KnownBytes.{Appends}
 use Rattle.std.proofs.KnownBytes.{Appends-nil, Appends-trans}
 use Rattle.std.proofs.Math.Seq.{take-append-add}

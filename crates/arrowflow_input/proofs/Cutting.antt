@@ -1,5 +1,5 @@
 -- A stream that is counted, and passed to a consumer as long as it keeps its bounds.
-use Rattle.std.proofs.Common.{◌≡◌, ℕ, ◌+◌, ◌<◌, ◌≤◌, List, [], ◌∷◌, ◌++◌, length, take, drop, true, Option, None, Some, Result, Ok, Err, ◌⊎◌, inl, inr, refl, sym, ap, ◌∙◌, subst, arith, append_assoc, append-nil, take-append-drop}
+use Rattle.std.proofs.Common.{◌≡◌, ℕ, ◌+◌, ◌≤◌, List, [], ◌∷◌, ◌++◌, length, take, drop, true, Option, None, Some, Result, Ok, Err, inl, inr, refl, sym, ap, ◌∙◌, subst, arith, append_assoc, append-nil, take-append-drop}
 use Rattle.std.specs.Prelude.{IfErr}
 use Rattle.std.specs.Io.KnownBytes.{Consumes, prepend_known}
 use Rattle.arrow_types.specs.Limits.{LimitNumbers}
@@ -7,13 +7,12 @@ use Rattle.arrow_stream_reader.specs.declared.item.Item.{Item}
 use Rattle.arrow_stream_reader.specs.Front.{Entry, Snapshot, Front, FrontOf, rests, fails, closes, goes_on}
 use Rattle.arrow_stream_reader.specs.State.{StreamState, ended}
 use Rattle.arrow_stream_reader.specs.Stream.{ReaderView, IsReaderAt}
-use Rattle.arrow_stream_reader.specs.Views.{given}
 use Rattle.arrowflow_input.specs.Blame.{BlamesNone}
 use Rattle.arrowflow_input.specs.Bounds.{AreWithin, IsKept, IsLongerSo, IsPassed, Pass, end_in, messages_by, messages_in, rows_by, rows_in}
 use Rattle.arrowflow_input.specs.Capped.{is_longer_by, waiting}
-use Rattle.arrowflow_input.specs.Consumer.{Comes, HasEnded, OfInput, OfMessages, Took, entry_of}
+use Rattle.arrowflow_input.specs.Consumer.{Comes, OfInput, OfMessages, Took, entry_of}
 use Rattle.arrowflow_input.specs.Counted.{AreCounted, GoesOn, HasCounted, HasCountedOn, IsCounting, IsCutBy, IsCutIn, IsReaderWithin}
-use Rattle.arrowflow_input.specs.Driver.{AreGiven, CallForMore, Driven}
+use Rattle.arrowflow_input.specs.Driver.{AreGiven, Driven}
 use Rattle.arrowflow_input.specs.Reads.{IsReadWhile}
 use Rattle.arrowflow_input.specs.Within.{DrivenWithin}
 use Rattle.arrowflow_input.specs.declared.bounds.Excess.{Excess}
@@ -23,8 +22,8 @@ use Rattle.std.specs.declared.ops.ControlFlow.{ControlFlow}
 use Rattle.std.specs.declared.ops.ControlFlow.TheVariants.{Continue, Break}
 use Rattle.arrowflow_input.specs.declared.counting.Counts.{Counts}
 use Rattle.arrowflow_input.specs.declared.tool_fault.ToolFault.{ToolFault}
-use Rattle.arrowflow_input.specs.declared.tool_fault.ToolFault.TheVariants.{Input, Stream, Memory}
-use Rattle.arrowflow_input.proofs.Driving.{read_while_so, snapshot_of}
+use Rattle.arrowflow_input.specs.declared.tool_fault.ToolFault.TheVariants.{Input}
+use Rattle.arrowflow_input.proofs.Driving.{snapshot_of}
 use Rattle.arrowflow_input.proofs.Reading.{reached_is}
 
 none_first : (n : ℕ) → 0 + n ≡ n

@@ -1,4 +1,4 @@
-use Rattle.std.proofs.Common.{◌≡◌, ◌<◌, ◌≤◌, ◌++◌, [], take, length, Ok, Err, refl, sym, ap, ◌∙◌, subst, append-nil, arith, rules, length-take-le}
+use Rattle.std.proofs.Common.{◌≡◌, ◌++◌, [], take, Ok, Err, refl, sym, ap, ◌∙◌, subst, append-nil, arith, rules, length-take-le}
 use Rattle.std.specs.Io.KnownBytes.{Consumes}
 use Rattle.std.proofs.KnownBytes.{Consumes-kept, Consumes-nil, Consumes-trans}
 use Rattle.arrow_stream_reader.specs.Stream.{ended_so}

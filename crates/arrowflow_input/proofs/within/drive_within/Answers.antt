@@ -1,4 +1,4 @@
-use Rattle.std.proofs.Common.{◌≡◌, ℕ, List, [], Option, None, Some, Ok, Err, refl, sym, ap, subst, ◌∙◌}
+use Rattle.std.proofs.Common.{◌≡◌, [], None, Some, Err, sym, subst, ◌∙◌}
 use Rattle.arrow_stream_reader.specs.State.{nothing_yet}
 use Rattle.arrowflow_input.specs.Driver.{CallForMore}
 use Rattle.arrowflow_input.specs.Within.{DrivenWithin, left_of}

@@ -1,4 +1,4 @@
-use Rattle.std.proofs.Common.{refl, sym, subst, ◌++◌, ◌∷◌, []}
+use Rattle.std.proofs.Common.{refl, subst, ◌++◌, ◌∷◌, []}
 use Rattle.arrowflow_input.specs.Bounds.{Pass}
 use Rattle.arrowflow_input.specs.Consumer.{entry_of}
 use Rattle.arrowflow_input.specs.Counted.{AreCounted}
