@@ -8,7 +8,8 @@
 //! stream: the frame around the metadata, the offset of a message, the order of messages, and what
 //! was read before.
 //!
-//! [`StreamReader`] keeps the bytes of one unfinished message and none that it took before. It is
+//! [`StreamReader`] keeps the bytes of one unfinished message and none that it took before. A caller
+//! passes pieces to it, or has it read bytes of a long body from an [`Input`] itself. It is
 //! specified by a relation over complete lists of bytes: `First` (`specs/Frame.antt`) says what is
 //! at the start of a list, one message, the end marker, an error or less than that, and `Front`
 //! (`specs/Front.antt`) says the same of all messages, one after the other; the meaning of a
@@ -24,14 +25,15 @@
 //! | the meaning of a batch's body | `specs/Batch.antt`: `Loads`, `batch_left`, `dictionary_left` |
 //! | the state of a stream, and its items | `specs/State.antt`: `StreamState`, `Given`; `specs/Tables.antt`: `tables_of` |
 //! | the view of a reader, the results of its calls | `specs/Stream.antt`: `ReaderView`, `IsReaderAt`, `Answers` |
+//! | what a stream is read from, and bytes of a body that are read from it | [`Input`]; `specs/BodyRead.antt`: `ReadsBody` |
 //! | the kinds of faults, their numbers and names | `specs/Kind.antt`: `kind_of`, `number_and_name` |
 //! | a reader's decoder, and the bytes that it holds | `specs/Decoder.antt`, `specs/Held.antt`, `specs/Views.antt`, `specs/Inside.antt` |
 //! | the laws | `specs/Laws.antt`: `OneFront`, `NoneWithoutFront`, `MoreBytes`, `SameSnapshot`, `LessWaits` |
 //!
 //! Of the proofs, `Firsts` is about one message and `Fronts` about all, `Always` shows that no
 //! bytes are without a `Front`, `Meanings` and `Holdings` connect these to the layers below,
-//! `States` and `Decoding` are about the steps, and `Streams` carries them over to the bytes at
-//! which a reader is. `Whole` is for the crates above.
+//! `States`, `Decoding` and `BodyReading` are about the steps, and `Streams` carries them over to the
+//! bytes at which a reader is. `Whole` is for the crates above.
 #![tactic(auto)]
 
 mod body;
