@@ -17,6 +17,7 @@
 //! | how a stream ends; what is sent of a text | `specs/Endings.antt`: `EndsWell`, `EndsBadly`, `IsOpenAt`; `SendsText` |
 //! | batches that are kept | `specs/Kept.antt`: `HasKept` |
 //! | what is received from bytes | `specs/Session.antt`: `Receives`; `specs/Pieces.antt`: `Feeds` |
+//! | what one read of an input gives, and whether the reader has taken it | `specs/Pieces.antt`: `Reads` |
 //! | what a check that writes nothing says of an input | `specs/Quiet.antt`: `ChecksInput` |
 //! | the bounds of a whole stream, what comes of an input with them | `specs/Bounds.antt`: `AreWithin`, `Pass`; `specs/Counted.antt`: `HasExcess`; `specs/Within.antt`: `Within`, `DrivesWithin` |
 //! | how far an input is read; when it is said to have failed | `specs/Reads.antt`: `IsReadWhile`; `specs/Blame.antt`: `BlamesOnly`; `has_failed` of [`Input`] |
