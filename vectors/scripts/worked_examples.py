@@ -182,7 +182,7 @@ EXAMPLES = {
     "one batch, each byte set": (["arrow_stream_reader_tests/single_bytes"], {
         "int32_column_bytes.changes": ["schema.version[0] at 28 := 00..02 -> batches 0 rows 0 end Version at 0",
             f"{FIELD}.name.bytes at 120 := 00..6d -> batches 1 rows 3 end clean"]}),
-    "a batch's metadata, byte by byte": (["arrow_stream_reader_tests/declared"], {
+    "a batch's metadata, byte by byte": (["arrow_stream_reader_tests/declared", "arrow_stream_reader_tests/long_bodies"], {
         "root_outside": rejected("Metadata", 152), "vtable_too_long": rejected("Metadata", 152),
             "too_many_buffers": rejected("Metadata", 152),
         "most_negative_rows": rejected("Rows", 152), "rows_of_the_batch_and_of_its_node": rejected("Layout", 152),
