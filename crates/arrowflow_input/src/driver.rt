@@ -29,9 +29,10 @@ pub enum Progress {
 
 /// Reads a stream from its beginning, passes its messages to a consumer, and returns the consumer.
 ///
-/// The reader is restarted. The input is read in pieces of 65,536 bytes, those of a long body straight
-/// into the reader, up to an end marker, to its end, or to the piece with which the consumer has enough. Nothing after an end marker, or after
-/// the consumer's last message, is parsed.
+/// The reader is restarted. The input is read in pieces of 65,536 bytes, those of a long body
+/// straight into the reader, up to an end marker, to its end, or to the piece with which the
+/// consumer has enough. Nothing after an end marker, or after the consumer's last message, is
+/// parsed.
 ///
 /// The answer is the consumer's, if it stopped or the stream ended well; `Stream` if the stream is
 /// rejected, or if it ends without being at the end of a message after its schema; `Input(0)` if a
