@@ -43,8 +43,8 @@ IsPreparedBy d (Parts structs) = ⊥
 abbrev pub IsPreparedFor : Column → Prepared → Type 0
 IsPreparedFor c Nothing = ⊤
 IsPreparedFor c (Entries fields) = (d : ValueList) × HasDictionary c d × AreFieldsOf d fields
-IsPreparedFor c (Items lists) = lists ≡ c
-IsPreparedFor c (Parts structs) = structs ≡ c
+IsPreparedFor c (Items lists) = lists.value ≡ c
+IsPreparedFor c (Parts structs) = structs.value ≡ c
 
 -- ---- lists
 

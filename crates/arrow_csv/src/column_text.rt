@@ -58,7 +58,8 @@ impl DictionaryTexts {
     }
 }
 
-/// What is looked up or made once for the values of a column, before the rows.
+/// What is looked up or made once for the values of a column, before the rows. What only lists or
+/// structs need is boxed, so that it takes no place in the columns of other types.
 #[derive(Drop)]
 pub(crate) enum Prepared<'a> {
     /// Nothing: each value is read and written on its own.
@@ -66,9 +67,9 @@ pub(crate) enum Prepared<'a> {
     /// The field of each value of the dictionary, to be copied for each row that refers to it.
     Entries(DictionaryTexts),
     /// Where the items of the lists lie.
-    Items(ListText<'a>),
+    Items(Box<ListText<'a>>),
     /// The text before each field's value, and where the values lie.
-    Parts(StructText<'a>),
+    Parts(Box<StructText<'a>>),
 }
 
 impl<'a> Prepared<'a> {
@@ -80,10 +81,10 @@ impl<'a> Prepared<'a> {
             return Prepared::of_entries(alloc, dictionary, column.len());
         }
         if let Some(list) = ListText::of(column) {
-            return Ok(Prepared::Items(list));
+            return Ok(Prepared::Items(Box::new(alloc, list)?));
         }
         match StructText::of(alloc, column)? {
-            Some(parts) => Ok(Prepared::Parts(parts)),
+            Some(parts) => Ok(Prepared::Parts(Box::new(alloc, parts)?)),
             None => Ok(Prepared::Nothing),
         }
     }
@@ -193,7 +194,7 @@ fn push_field(
         SlotValue::Text(text) => push_field_text(out, text.as_bytes()),
         SlotValue::List(start, end, items) => {
             let place = out.len();
-            push_items(out, &items.slots(), start, end)?;
+            push_items(out, items, start, end)?;
             quote_from(out, place)
         }
         SlotValue::Struct(children, place) => {

@@ -1,12 +1,13 @@
 //! A column of lists that is being written as text.
 
-ghost use Rattle.std.specs.Prelude.{◌≡◌, ◌<◌, IfSome, OnOk, length};
+ghost use Rattle.std.specs.Prelude.{◌≡◌, ◌≤◌, ◌<◌, IfSome, OnOk, length};
+ghost use Rattle.arrow_data.specs.Column.{values_from};
 ghost use Rattle.arrow_layout.specs.PlainValue.{value_at};
 ghost use Rattle.arrow_csv.specs.Layouts.{null_by};
-ghost use Rattle.arrow_csv.specs.Texts.{Appends, IsFieldOf};
+ghost use Rattle.arrow_csv.specs.Texts.{Appends, IsFieldOf, IsListOf};
 
 use crate::fields::{push_null, quote_from};
-use crate::texts::push_items;
+use crate::texts::push_value;
 use arrow_data::{Array, Buffers, Slots};
 use arrow_layout::ItemPlaces;
 use std::alloc::AllocError;
@@ -82,7 +83,33 @@ impl<'a> ListText<'a> {
             return push_null(out, null);
         };
         let place = out.len();
-        push_items(out, &self.items, start, end)?;
+        push_listed(out, &self.items, start, end)?;
         quote_from(out, place)
     }
+}
+
+/// Appends the text of a list whose items are in a range of slots that were looked up before.
+#[inline(always)]
+fn push_listed(
+    out: &mut Vec<u8>,
+    items: &Slots<'_>,
+    start: usize,
+    end: usize,
+) -> Result<(), AllocError>
+    requires order { start ≤ end }
+    requires inside { end ≤ length items.now.raw }
+    requires long { length items.now.resolved ≡ length items.now.raw }
+    ensures { OnOk result (Appends
+        (IsListOf items.now.data_type (values_from items.now.resolved start end))
+        out.old.items out.new.items) }
+{
+    out.push(b'[')?;
+    for k in start..end {
+        if k > start {
+            out.push(b';')?;
+        }
+        push_value(out, items.array(), k, items.slot(k))?;
+    }
+    out.push(b']')?;
+    Ok(())
 }

@@ -259,9 +259,9 @@ fn shown(numbers: bool, number: u64) -> Option<u64>
 
 /// The columns of records, and the text of a null among their values.
 #[derive(Clone, Copy)]
-struct Columns<'a> {
-    texts: &'a [ColumnText<'a>],
-    null: Option<&'a str>,
+struct Columns<'r, 'a> {
+    texts: &'r [ColumnText<'a>],
+    null: Option<&'r str>,
 }
 
 /// Appends the records of these rows of these columns, each after the number of their batch, if it
@@ -269,7 +269,7 @@ struct Columns<'a> {
 fn push_records(
     out: &mut Vec<u8>,
     number: Option<u64>,
-    columns: Columns<'_>,
+    columns: Columns<'_, '_>,
     rows: Range<usize>,
 ) -> Result<(), AllocError>
     requires order { rows.start ≤ rows.end }
@@ -301,7 +301,7 @@ fn head_of(buffer: &mut Buffer, number: Option<u64>) -> Option<&[u8]>
 fn push_row(
     out: &mut Vec<u8>,
     head: Option<&[u8]>,
-    columns: Columns<'_>,
+    columns: Columns<'_, '_>,
     i: usize,
 ) -> Result<(), AllocError>
     requires { HaveSlot i columns.texts.now }
@@ -319,7 +319,7 @@ fn push_row(
 fn push_numbered(
     out: &mut Vec<u8>,
     head: &[u8],
-    columns: Columns<'_>,
+    columns: Columns<'_, '_>,
     i: usize,
 ) -> Result<(), AllocError>
     requires { HaveSlot i columns.texts.now }
@@ -334,7 +334,7 @@ fn push_numbered(
 }
 
 /// Appends a record of only the columns' fields: if it would have no byte, two quotes.
-fn push_bare(out: &mut Vec<u8>, columns: Columns<'_>, i: usize) -> Result<(), AllocError>
+fn push_bare(out: &mut Vec<u8>, columns: Columns<'_, '_>, i: usize) -> Result<(), AllocError>
     requires { HaveSlot i columns.texts.now }
     ensures { OnOk result (Appends
         (IsBareRow (null_by columns.entry.null) columns.entry.texts.now i)
@@ -350,7 +350,7 @@ fn push_bare(out: &mut Vec<u8>, columns: Columns<'_>, i: usize) -> Result<(), Al
 }
 
 /// Appends the fields of a row with commas between them.
-fn push_joined(out: &mut Vec<u8>, columns: Columns<'_>, i: usize) -> Result<(), AllocError>
+fn push_joined(out: &mut Vec<u8>, columns: Columns<'_, '_>, i: usize) -> Result<(), AllocError>
     requires { HaveSlot i columns.texts.now }
     ensures { OnOk result (Appends
         (AreFieldsJoined (null_by columns.entry.null) columns.entry.texts.now i)
@@ -370,7 +370,7 @@ fn push_joined(out: &mut Vec<u8>, columns: Columns<'_>, i: usize) -> Result<(), 
 /// Appends the fields of a row, each after a comma.
 #[inline(always)]
 #[tactic(auto, unfolding(csv::specs::Writing::fields_text))]
-fn push_fields(out: &mut Vec<u8>, columns: Columns<'_>, i: usize) -> Result<(), AllocError>
+fn push_fields(out: &mut Vec<u8>, columns: Columns<'_, '_>, i: usize) -> Result<(), AllocError>
     requires { HaveSlot i columns.texts.now }
     ensures { OnOk result (Appends
         (AreFieldsAfter (null_by columns.entry.null) columns.entry.texts.now i)

@@ -10,7 +10,7 @@ ghost use Rattle.arrow_csv.specs.Texts.{Appends, IsItemText, IsListOf, IsStructO
 
 use crate::floats::push_int;
 use crate::intervals::push_binary;
-use arrow_data::{Array, SlotValue, Slots};
+use arrow_data::{Array, SlotValue};
 use arrow_types::Field;
 use std::alloc::AllocError;
 
@@ -37,7 +37,7 @@ pub(crate) fn push_value(
         SlotValue::Int(number) => push_int(out, column.data_type(), number),
         SlotValue::Bytes(bytes) => push_binary(out, column.data_type(), bytes),
         SlotValue::Text(text) => out.extend_from_slice(text.as_bytes()),
-        SlotValue::List(start, end, items) => push_items(out, &items.slots(), start, end),
+        SlotValue::List(start, end, items) => push_items(out, items, start, end),
         SlotValue::Struct(children, place) => {
             push_parts(out, column.data_type().children(), children, place)
         }
@@ -49,7 +49,7 @@ pub(crate) fn push_value(
 #[inline(never)]
 pub(crate) fn push_items(
     out: &mut Vec<u8>,
-    items: &Slots<'_>,
+    items: &Array,
     start: usize,
     end: usize,
 ) -> Result<(), AllocError>
@@ -65,7 +65,7 @@ pub(crate) fn push_items(
         if k > start {
             out.push(b';')?;
         }
-        push_value(out, items.array(), k, items.slot(k))?;
+        push_value(out, items, k, items.slot(k))?;
     }
     out.push(b']')?;
     Ok(())

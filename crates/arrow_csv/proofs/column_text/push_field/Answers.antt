@@ -3,7 +3,7 @@ use Rattle.std.specs.Int.{w128}
 use Rattle.std.proofs.lemmas.Result.{on_ok_weaker}
 use Rattle.arrow_data.specs.Column.{resolved_row_of, values_from}
 use Rattle.arrow_layout.specs.PlainValue.{int_value, value_at}
-use Rattle.arrow_data.specs.Shown.{HoldsValue, ListsItems}
+use Rattle.arrow_data.specs.Shown.{HoldsValue}
 use Rattle.arrow_types.specs.View.{fields_view, type_view}
 use Rattle.arrow_csv.specs.Floats.{IsNumberText}
 use Rattle.arrow_csv.specs.Intervals.{bytes_text}
@@ -18,12 +18,11 @@ pub returns-in_ok-push_items-in-List : goal.returns-in_ok-push_items-in-List
 returns-in_ok-push_items-in-List c =
     let column = c.args.column.now in
     let list = c.in-List in
-    let items = c.slots.result in
+    let items = list.items.now in
     let value = value_at column.resolved c.args.i in
     let old = c.args.out.now.items in
     let whole = c.push_items.new.out.items in
-    let holds = subst (HoldsValue column c.args.i) list.is c.requires.holds in
-    let lists = subst (ListsItems column c.args.i list.start list.end) (sym c.slots.ensures) holds in
+    let lists = subst (HoldsValue column c.args.i) list.is c.requires.holds in
     let text = appends_weaker (IsListOf items.data_type (values_from items.resolved list.start list.end)) (IsSomeText column.data_type value) old whole
     (λ text is null. list_text column items c.args.i list.start list.end null text lists is) c.in_ok-push_items-in-List.ensures in
     on_ok_weaker c.quote_from.result (λ e. field_appended column.data_type value old whole _ c.len-place.result (omega (arith, c.len-place.ensures)) text e) c.quote_from.ensures

@@ -3,14 +3,14 @@ use Rattle.std.specs.Int.{w128}
 use Rattle.std.proofs.lemmas.Result.{on_ok_weaker}
 use Rattle.arrow_types.specs.declared.field.Field.{Field, the_lemmas}
 use Rattle.arrow_types.specs.View.{field_view, fields_view, type_view}
-use Rattle.arrow_data.specs.Column.{AreOf, Column, resolved_row_of, values_from}
+use Rattle.arrow_data.specs.Column.{AreOf, resolved_row_of, values_from}
 use Rattle.arrow_layout.specs.PlainValue.{int_value, value_at}
-use Rattle.arrow_data.specs.Shown.{HoldsValue, ListsItems}
+use Rattle.arrow_data.specs.Shown.{HoldsValue}
 use Rattle.arrow_data.proofs.Sameness.{child_smaller, parts_smaller}
 use Rattle.arrow_csv.specs.Floats.{IsNumberText}
 use Rattle.arrow_csv.specs.Intervals.{bytes_text}
 use Rattle.arrow_csv.specs.Made.{separator}
-use Rattle.arrow_csv.specs.Texts.{Appends, IsItemText, IsListOf, IsPlain, IsStructOf}
+use Rattle.arrow_csv.specs.Texts.{IsItemText, IsListOf, IsPlain, IsStructOf}
 use Rattle.arrow_csv.proofs.UnitTexts.{binary_text}
 use Rattle.arrow_csv.proofs.Joining.{appends_weaker, as_many, items_more, list_text, number_text, parts_done, parts_more, separator_first, separator_later, struct_text}
 use Rattle.arrow_csv.proofs.texts.+text.Goals as goal
@@ -19,9 +19,8 @@ use Rattle.arrow_csv.proofs.texts.+text.Goals.{push_items-then-k-start+in_ok-pus
 -- the items of a slot lie inside the child, which is smaller
 pub push_value-push_items-requires : goal.push_value-push_items-requires
 push_value-push_items-requires t c =
-    let of = subst (HoldsValue c.args.column.now c.args.i) c.in-List.is c.requires.holds in
-    let h = subst (ListsItems c.args.column.now c.args.i c.in-List.start c.in-List.end) (sym c.slots.ensures) of in
-    let m = child_smaller c.args.column.now c.slots.result h.typed in
+    let h = subst (HoldsValue c.args.column.now c.args.i) c.in-List.is c.requires.holds in
+    let m = child_smaller c.args.column.now c.in-List.items.now h.typed in
     (omega (arith, c.decreases, m), (h.ordered, (h.inside, h.long)))
 
 -- the columns of a struct are of its fields, have its slot and are smaller
@@ -36,9 +35,8 @@ push_value-push_parts-requires t c =
 pub push_value-returns-in-List : goal.push_value-returns-in-List
 push_value-returns-in-List t c =
     let column = c.args.column.now in
-    let items = c.slots.result in
-    let of = subst (HoldsValue column c.args.i) c.in-List.is c.requires.holds in
-    let h = subst (ListsItems column c.args.i c.in-List.start c.in-List.end) (sym c.slots.ensures) of in
+    let items = c.in-List.items.now in
+    let h = subst (HoldsValue column c.args.i) c.in-List.is c.requires.holds in
     on_ok_weaker c.push_items.result (appends_weaker (IsListOf items.data_type (values_from items.resolved c.in-List.start c.in-List.end)) (IsItemText column.data_type (value_at column.resolved c.args.i)) _ _
     (λ text is. list_text column items c.args.i c.in-List.start c.in-List.end (codes "null") text h is)) c.push_items.ensures
 
@@ -84,11 +82,10 @@ push_items-loop-k-preserved t c =
     let before : c.if-k-start.out.items ≡ c.loop-k.out.items ++ separator (k - start) = elim c.if-k-start.branch [
       | push_items-then-k-start+in_ok-push-2 w ↦ ap (λ v. v.items) w.out-is ∙ w.in_ok-push-2.ensures.items ∙ ap (λ s. c.loop-k.out.items ++ s) (sym (separator_later (k - start) (omega (arith, w.if-k-start.true))))
       | push_items-else-k-start w ↦ ap (λ v. v.items) w.out-is ∙ sym (append-nil c.loop-k.out.items) ∙ ap (λ s. c.loop-k.out.items ++ s) (sym (separator_first (k - start) (omega (arith, w.if-k-start.false))))
-    ] in
-    let text = subst (λ (x : Column). Appends (IsItemText x.data_type (value_at x.resolved k)) c.if-k-start.out.items c.push_value.new.out.items) c.array.ensures c.in_ok-push_value.ensures in (
+    ] in (
       omega (arith, l.0),
       omega (arith, c.loop-k-test.true),
-      items_more items.data_type items.resolved start k (c.args.out.now.items ++ codes "[") c.loop-k.out.items c.if-k-start.out.items _ l.0 (omega (arith, c.loop-k-test.true, c.requires.inside, c.requires.long)) l.2 before text,
+      items_more items.data_type items.resolved start k (c.args.out.now.items ++ codes "[") c.loop-k.out.items c.if-k-start.out.items _ l.0 (omega (arith, c.loop-k-test.true, c.requires.inside, c.requires.long)) l.2 before c.in_ok-push_value.ensures,
     )
 
 -- each column has its field
