@@ -1,5 +1,6 @@
 -- Fields of a dictionary's values, made one by one.
 use Rattle.std.proofs.Common.{◌≡◌, ◌<◌, ◌≤◌, ◌+◌, ◌-◌, ℕ, List, [], ◌∷◌, ◌++◌, zero, suc, refl, inl, inr, length, take, get_or, slice_range, sym, ap, ◌∙◌, subst, arith}
+use Rattle.std.specs.Global.{Box}
 use Rattle.std.proofs.Math.Seq.{take-append_seam, drop-append_seam, get_or-append_seam}
 use Rattle.std.proofs.lemmas.Bool.{cases_lt}
 use Rattle.std.proofs.lemmas.List.{get_or_append_left, length-append, take_all}
@@ -77,17 +78,17 @@ at_place (x ∷ xs) zero a b h = refl
 at_place (x ∷ xs) (suc n) a b h = at_place xs n a b (omega (arith, h))
 
 -- the field made of the value to which a slot refers is a field of the slot
-pub copied_field : (null : List ℕ) (c : Column) (fields : DictionaryTexts) (i n from to : ℕ) (old bytes new : List ℕ) → IsPreparedFor c (Entries fields) → RefersTo c i n
-    → from ≡ get_or fields.places.items n from → to ≡ get_or fields.places.items (n + 1) to → bytes ≡ fields.bytes.items → new ≡ old ++ slice_range bytes from to → Appends (IsFieldOf null c.data_type (value_at c.resolved i)) old new
+pub copied_field : (null : List ℕ) (c : Column) (fields : Box DictionaryTexts) (i n from to : ℕ) (old bytes new : List ℕ) → IsPreparedFor c (Entries fields) → RefersTo c i n
+    → from ≡ get_or fields.value.places.items n from → to ≡ get_or fields.value.places.items (n + 1) to → bytes ≡ fields.value.bytes.items → new ≡ old ++ slice_range bytes from to → Appends (IsFieldOf null c.data_type (value_at c.resolved i)) old new
 copied_field null c fields i n from to old bytes new has refers first last same all =
     let d = has.0 in
-    let places = fields.places.items in
+    let places = fields.value.places.items in
     let value = refers.2 d has.1 in
     let field = (has.2.each n value.0).same null in
     let start : get_or places n 0 ≡ from = at_place places n 0 from (omega (arith, has.2.long, value.0)) ∙ sym first in
     let end : get_or places (n + 1) 0 ≡ to = at_place places (n + 1) 0 to (omega (arith, has.2.long, value.0)) ∙ sym last in
     let text = slice_range bytes from to in
-    let is : slice_range fields.bytes.items (get_or places n 0) (get_or places (n + 1) 0) ≡ text = ap (λ k. slice_range fields.bytes.items k (get_or places (n + 1) 0)) start ∙ ap (λ k. slice_range fields.bytes.items from k) end ∙ ap (λ b. slice_range b from to) (sym same) in
+    let is : slice_range fields.value.bytes.items (get_or places n 0) (get_or places (n + 1) 0) ≡ text = ap (λ k. slice_range fields.value.bytes.items k (get_or places (n + 1) 0)) start ∙ ap (λ k. slice_range fields.value.bytes.items from k) end ∙ ap (λ b. slice_range b from to) (sym same) in
     let typed = subst (λ type. IsFieldOf null type (value_at d.values n) text) has.1.typed (subst (IsFieldOf null d.data_type (value_at d.values n)) is field) in
     (text, subst (λ v. IsFieldOf null c.data_type v text) (sym value.1) typed, all)
 

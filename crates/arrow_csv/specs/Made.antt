@@ -35,14 +35,14 @@ AreFieldsOf d fields = AreFirst d fields.bytes.items fields.places.items (length
 -- what was made for a column that refers to this dictionary: the fields of its values, or nothing
 abbrev pub IsPreparedBy : ValueList → Prepared → Type 0
 IsPreparedBy d Nothing = ⊤
-IsPreparedBy d (Entries fields) = AreFieldsOf d fields
+IsPreparedBy d (Entries fields) = AreFieldsOf d fields.value
 IsPreparedBy d (Items lists) = ⊥
 IsPreparedBy d (Parts structs) = ⊥
 
 -- what was looked up or made for a column
 abbrev pub IsPreparedFor : Column → Prepared → Type 0
 IsPreparedFor c Nothing = ⊤
-IsPreparedFor c (Entries fields) = (d : ValueList) × HasDictionary c d × AreFieldsOf d fields
+IsPreparedFor c (Entries fields) = (d : ValueList) × HasDictionary c d × AreFieldsOf d fields.value
 IsPreparedFor c (Items lists) = lists.value ≡ c
 IsPreparedFor c (Parts structs) = structs.value ≡ c
 

@@ -23,6 +23,10 @@ use std::marker::Model;
 /// rows.
 const MOST_BYTES: usize = 65_536;
 
+/// With fewer rows than this, the texts before the values of structs would be used too seldom to be
+/// made before.
+const FEW_ROWS: usize = 16;
+
 /// The fields of the values of a dictionary, one after another.
 #[derive(Drop)]
 pub(crate) struct DictionaryTexts {
@@ -58,14 +62,14 @@ impl DictionaryTexts {
     }
 }
 
-/// What is looked up or made once for the values of a column, before the rows. What only lists or
-/// structs need is boxed, so that it takes no place in the columns of other types.
+/// What is looked up or made once for the values of a column, before the rows. It is boxed, so that
+/// it takes no place in the columns that need none of it.
 #[derive(Drop)]
 pub(crate) enum Prepared<'a> {
     /// Nothing: each value is read and written on its own.
     Nothing,
     /// The field of each value of the dictionary, to be copied for each row that refers to it.
-    Entries(DictionaryTexts),
+    Entries(Box<DictionaryTexts>),
     /// Where the items of the lists lie.
     Items(Box<ListText<'a>>),
     /// The text before each field's value, and where the values lie.
@@ -73,8 +77,21 @@ pub(crate) enum Prepared<'a> {
 }
 
 impl<'a> Prepared<'a> {
-    /// What is looked up or made for this column.
+    /// What is looked up or made for this column. Most columns need nothing; what others need is
+    /// made apart, so that these take no steps for it.
+    #[inline(always)]
     fn of(alloc: Global, column: &'a Array) -> Result<Prepared<'a>, AllocError>
+        ensures { IfOk result (λ made. IsPreparedFor column.now made) }
+    {
+        if column.dictionary().is_none() && column.items().is_none() && column.fields().is_none() {
+            return Ok(Prepared::Nothing);
+        }
+        Prepared::made(alloc, column)
+    }
+
+    /// The same for columns that may need something.
+    #[inline(never)]
+    fn made(alloc: Global, column: &'a Array) -> Result<Prepared<'a>, AllocError>
         ensures { IfOk result (λ made. IsPreparedFor column.now made) }
     {
         if let Some(dictionary) = column.dictionary() {
@@ -82,6 +99,9 @@ impl<'a> Prepared<'a> {
         }
         if let Some(list) = ListText::of(column) {
             return Ok(Prepared::Items(Box::new(alloc, list)?));
+        }
+        if column.len() < FEW_ROWS {
+            return Ok(Prepared::Nothing);
         }
         match StructText::of(alloc, column)? {
             Some(parts) => Ok(Prepared::Parts(Box::new(alloc, parts)?)),
@@ -101,7 +121,7 @@ impl<'a> Prepared<'a> {
             return Ok(Prepared::Nothing);
         }
         match DictionaryTexts::of(alloc, dictionary)? {
-            Some(entries) => Ok(Prepared::Entries(entries)),
+            Some(entries) => Ok(Prepared::Entries(Box::new(alloc, entries)?)),
             None => Ok(Prepared::Nothing),
         }
     }
@@ -133,9 +153,10 @@ impl<'a> ColumnText<'a> {
     pub(crate) fn new(alloc: Global, column: &'a Array) -> Result<ColumnText<'a>, AllocError>
         ensures { IfOk result (λ text. text ≡ column.now) }
     {
+        let prepared = Prepared::of(alloc, column)?;
         Ok(ColumnText {
             slots: column.slots(),
-            prepared: Prepared::of(alloc, column)?,
+            prepared,
         })
     }
 

@@ -131,8 +131,9 @@ pub fn rows(
 /// The rows of a numbered batch, as a layout writes them, while they are being written as text.
 ///
 /// What is the same for all rows is looked up or made once, when it is created: where the values of
-/// each column, of a struct's fields and of a list's items lie, the text before each value of a
-/// struct, and, if a dictionary has few values compared with the rows, the field of each value.
+/// each column and of a list's items lie; if there are not too few rows, where the values of a
+/// struct's fields lie and the text before each of them; and, if a dictionary has few values
+/// compared with the rows, the field of each value.
 #[derive(Drop)]
 pub struct BatchRows<'a> {
     number: u64,

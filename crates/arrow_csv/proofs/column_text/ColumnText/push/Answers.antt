@@ -1,10 +1,11 @@
-use Rattle.std.proofs.Common.{subst, ◌∙◌}
+use Rattle.std.proofs.Common.{◌+◌, ap, get_or, subst, ◌∙◌}
 use Rattle.std.specs.Prelude.{OnOk}
 use Rattle.std.proofs.lemmas.Result.{on_ok_weaker}
 use Rattle.arrow_data.specs.Column.{Column}
 use Rattle.arrow_layout.specs.PlainValue.{value_at}
 use Rattle.arrow_csv.specs.Layouts.{null_by}
 use Rattle.arrow_csv.specs.Made.{IsPreparedFor}
+use Rattle.arrow_csv.specs.declared.column_text.DictionaryTexts.{DictionaryTexts}
 use Rattle.arrow_csv.specs.Texts.{Appends, IsFieldOf, IsSomeField}
 use Rattle.arrow_csv.proofs.Joining.{appends_weaker}
 use Rattle.arrow_csv.proofs.Making.{copied_field}
@@ -17,9 +18,15 @@ returns-in-Some c =
     let slots = c.self.inside.slots in
     let old = c.args.out.now.items in
     let has = subst (IsPreparedFor slots) c.in-Entries.is c.self.invariant in
+    let n = c.in-Some.n in
+    let from = c.index.result.now in
+    let to = c.index-in-Some.result.now in
+    let first = c.index.ensures ∙ ap (λ (f : DictionaryTexts). get_or f.places.items n from) c.deref-in-Some-2.ensures in
+    let last = c.index-in-Some.ensures ∙ ap (λ (f : DictionaryTexts). get_or f.places.items (n + 1) to) c.deref-in-Some-3.ensures in
+    let same = c.deref-in-Some.ensures.value ∙ ap (λ (f : DictionaryTexts). f.bytes.items) c.deref.ensures in
     subst (λ (k : Column). OnOk c.extend_from_slice.result (Appends (IsFieldOf (null_by c.args.null) k.data_type (value_at k.resolved c.args.i)) old c.extend_from_slice.new.self.items)) c.self.view_is
     (on_appended c.extend_from_slice.result old _ _ c.extend_from_slice.ensures.items
-    (copied_field (null_by c.args.null) slots c.in-Entries.fields c.args.i c.in-Some.n _ _ old _ _ has c.in-Some.ensures c.index.ensures c.index-in-Some.ensures c.deref.ensures.value))
+    (copied_field (null_by c.args.null) slots c.in-Entries.fields c.args.i n _ _ old _ _ has c.in-Some.ensures first last same))
 
 -- the value that was read from the slot
 pub returns-in_default : goal.returns-in_default
