@@ -23,6 +23,7 @@ use crate::metadata::{Position, read_message};
 use crate::pending_bytes::PendingBytes;
 use crate::prefix::{Prefix, read_prefix};
 use crate::state::{State, handle_message};
+use arrow_meta_reader::RecordBatch;
 use arrow_types::Limits;
 use std::alloc::Global;
 use std::mem;
@@ -136,12 +137,13 @@ impl Decoder {
         ensures works { Works self.old piece.now result self.new }
     {
         let (head, rest) = piece.split_at(8 + size as usize);
+        let memory = mem::replace(&mut self.state.last, RecordBatch::new(self.alloc));
         let start = Position {
             limits: &self.limits,
             state: &self.state,
             place: self.place + 8,
         };
-        let message = read_message(self.alloc, &start, &head[8..])?;
+        let message = read_message(self.alloc, &start, &head[8..], memory)?;
         let body_len = message.body_len as usize;
         if body_len > rest.len() {
             self.held.fill(head, head.len())?;
@@ -171,13 +173,14 @@ impl Decoder {
         if self.held.len() < whole {
             return Ok(Step::Short);
         }
+        let memory = mem::replace(&mut self.state.last, RecordBatch::new(self.alloc));
         let start = Position {
             limits: &self.limits,
             state: &self.state,
             place: self.place + 8,
         };
         let metadata = &self.held.as_slice()[8..];
-        let message = read_message(self.alloc, &start, metadata)?;
+        let message = read_message(self.alloc, &start, metadata, memory)?;
         self.read_body(size, message, &piece[taken..])
     }
 

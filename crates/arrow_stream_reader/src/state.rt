@@ -31,6 +31,8 @@ pub(crate) struct State {
     pub(crate) schema: Option<StreamSchema>,
     /// The current dictionaries.
     pub(crate) dictionaries: Store,
+    /// The nodes and buffers of the last batch. Their memory is used for those of the next one.
+    pub(crate) last: RecordBatch,
 }
 
 impl State {
@@ -42,6 +44,7 @@ impl State {
         State {
             schema: None,
             dictionaries: Store::new(alloc),
+            last: RecordBatch::new(alloc),
         }
     }
 
@@ -203,13 +206,22 @@ pub(crate) fn handle_message(
                 is_delta,
                 record_batch: &record_batch,
             };
-            let updated = state.update(alloc, &dictionary_batch, body);
-            updated.map_err(|stop| (stop, MessageBody::Dictionary(id, is_delta, record_batch)))?;
-            Ok(Item::Dictionary(id))
+            match state.update(alloc, &dictionary_batch, body) {
+                Ok(()) => {
+                    state.last = record_batch;
+                    Ok(Item::Dictionary(id))
+                }
+                Err(stop) => Err((stop, MessageBody::Dictionary(id, is_delta, record_batch))),
+            }
         }
         MessageBody::Batch(record_batch) => {
-            let read = state.batch(alloc, &record_batch, body);
-            Ok(Item::Batch(read.map_err(|stop| (stop, MessageBody::Batch(record_batch)))?))
+            match state.batch(alloc, &record_batch, body) {
+                Ok(batch) => {
+                    state.last = record_batch;
+                    Ok(Item::Batch(batch))
+                }
+                Err(stop) => Err((stop, MessageBody::Batch(record_batch))),
+            }
         }
     }
 }
