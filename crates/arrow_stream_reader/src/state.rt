@@ -214,14 +214,29 @@ pub(crate) fn handle_message(
                 Err(stop) => Err((stop, MessageBody::Dictionary(id, is_delta, record_batch))),
             }
         }
-        MessageBody::Batch(record_batch) => {
-            match state.batch(alloc, &record_batch, body) {
-                Ok(batch) => {
-                    state.last = record_batch;
-                    Ok(Item::Batch(batch))
-                }
-                Err(stop) => Err((stop, MessageBody::Batch(record_batch))),
-            }
+        MessageBody::Batch(record_batch) => handle_batch(state, alloc, record_batch, body),
+    }
+}
+
+/// Applies a record batch whose body is complete. The nodes and buffers stay in the state, or are
+/// returned.
+fn handle_batch(
+    state: &mut State,
+    alloc: Global,
+    record_batch: RecordBatch,
+    body: &Body,
+) -> Result<Item, (DecodeError, MessageBody)>
+    requires ready { Ready (plain state.old) (batch (batch_view record_batch)) }
+    requires fit { IsFit (plain state.old) }
+    ensures applies { Applies (plain state.old) (batch (batch_view record_batch)) body.now
+        result (plain state.new) }
+    ensures fit { IsFit (plain state.new) }
+{
+    match state.batch(alloc, &record_batch, body) {
+        Ok(rows) => {
+            state.last = record_batch;
+            Ok(Item::Batch(rows))
         }
+        Err(stop) => Err((stop, MessageBody::Batch(record_batch))),
     }
 }
