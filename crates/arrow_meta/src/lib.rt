@@ -9,7 +9,7 @@
 pub mod laws;
 
 pub use arrow_meta_reader::{
-    Header, Message, MetadataVersion, RecordBatch, decode, decode_counted, judge,
+    Header, Message, MetadataVersion, RecordBatch, decode, decode_counted, decode_into, judge,
 };
 pub use arrow_meta_schema as schema_tables;
 pub use arrow_meta_tree as tables;

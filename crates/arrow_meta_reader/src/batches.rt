@@ -18,11 +18,11 @@ use arrow_flatbuf::{Root, Table, Vector};
 use arrow_meta_tree::codes::{HeaderKind, header_kind};
 use arrow_meta_tree::{PAIR, slots};
 use arrow_types::{Buffer, FieldNode, Limits};
-use std::alloc::{AllocError, Global};
+use std::alloc::AllocError;
 
 /// The message if the metadata are those of a batch that has no fault, None if they are not, or if
-/// an allocation fails.
-pub(crate) fn batch_message(alloc: Global, bytes: &[u8], limits: &Limits) -> Option<Message>
+/// an allocation fails. The batch is put into the memory of another one.
+pub(crate) fn batch_message(bytes: &[u8], limits: &Limits, memory: RecordBatch) -> Option<Message>
     ensures means { IfSome result (λ m. MeansBare limits.now bytes.now (message_view m)) }
     ensures length { IfSome result (λ m. m.body_len ≤ limits.now.max_body) }
 {
@@ -39,25 +39,25 @@ pub(crate) fn batch_message(alloc: Global, bytes: &[u8], limits: &Limits) -> Opt
     };
     Some(Message {
         version,
-        header: batch_header(alloc, code, &inner)?,
+        header: batch_header(code, &inner, memory)?,
         body_len,
     })
 }
 
 /// The header that this code opens, if it is a batch.
-fn batch_header(alloc: Global, code: u64, table: &Table) -> Option<Header>
+fn batch_header(code: u64, table: &Table, memory: RecordBatch) -> Option<Header>
     ensures { IfSome result (λ h. (kind : Kind) × (header_kind code ≡ Some kind)
         × IsHeader kind table.now (header_view h)) }
 {
     match header_kind(code) {
-        Some(HeaderKind::RecordBatch) => Some(Header::Batch(batch_in(alloc, table)?)),
-        Some(HeaderKind::DictionaryBatch) => dictionary_in(alloc, table),
+        Some(HeaderKind::RecordBatch) => Some(Header::Batch(batch_in(table, memory)?)),
+        Some(HeaderKind::DictionaryBatch) => dictionary_in(table, memory),
         Some(HeaderKind::Schema) | None => None,
     }
 }
 
 /// The dictionary batch that a DictionaryBatch table describes.
-fn dictionary_in(alloc: Global, table: &Table) -> Option<Header>
+fn dictionary_in(table: &Table, memory: RecordBatch) -> Option<Header>
     ensures { IfSome result (λ h. IsHeader headers.DictionaryBatch table.now (header_view h)) }
 {
     let id = number_in(table, slots::dictionary_batch::ID, 8)?.cast_signed();
@@ -65,11 +65,11 @@ fn dictionary_in(alloc: Global, table: &Table) -> Option<Header>
     let Ok(Some(data)) = table.table(slots::dictionary_batch::DATA) else {
         return None;
     };
-    Some(Header::Dictionary(id, is_delta, batch_in(alloc, &data)?))
+    Some(Header::Dictionary(id, is_delta, batch_in(&data, memory)?))
 }
 
 /// The record batch that a RecordBatch table describes, if it is not compressed.
-fn batch_in(alloc: Global, table: &Table) -> Option<RecordBatch>
+fn batch_in(table: &Table, memory: RecordBatch) -> Option<RecordBatch>
     ensures { IfSome result
         (λ b. IsHeader headers.RecordBatch table.now (batch (batch_view b))) }
 {
@@ -77,8 +77,8 @@ fn batch_in(alloc: Global, table: &Table) -> Option<RecordBatch>
         return None;
     }
     let length = number_in(table, slots::record_batch::LENGTH, 8)?.cast_signed();
-    let nodes = nodes_in(alloc, table)?;
-    let buffers = buffers_in(alloc, table)?;
+    let nodes = nodes_in(table, memory.nodes)?;
+    let buffers = buffers_in(table, memory.buffers)?;
     Some(RecordBatch {
         length,
         nodes,
@@ -101,38 +101,46 @@ fn number_in(table: &Table, field: u16, width: usize) -> Option<u64>
 }
 
 /// The field nodes of a RecordBatch table.
-fn nodes_in(alloc: Global, table: &Table) -> Option<Vec<FieldNode>>
+fn nodes_in(table: &Table, mut memory: Vec<FieldNode>) -> Option<Vec<FieldNode>>
     ensures { IfSome result
         (λ v. (ps : List (ℕ × ℕ)) × HasPairs table.now slots.record_batch_nodes ps
         × (v.items ≡ map node_of ps)) }
 {
     match table.vector(slots::record_batch::NODES, PAIR) {
-        Ok(Some(vector)) => nodes_of(alloc, &vector).ok(),
-        Ok(None) => Some(Vec::new(alloc)),
+        Ok(Some(vector)) => nodes_of(&vector, memory).ok(),
+        Ok(None) => {
+            memory.clear();
+            Some(memory)
+        }
         Err(_) => None,
     }
 }
 
 /// The buffers of a RecordBatch table.
-fn buffers_in(alloc: Global, table: &Table) -> Option<Vec<Buffer>>
+fn buffers_in(table: &Table, mut memory: Vec<Buffer>) -> Option<Vec<Buffer>>
     ensures { IfSome result
         (λ v. (ps : List (ℕ × ℕ)) × HasPairs table.now slots.record_batch_buffers ps
         × (v.items ≡ map buffer_of ps)) }
 {
     match table.vector(slots::record_batch::BUFFERS, PAIR) {
-        Ok(Some(vector)) => buffers_of(alloc, &vector).ok(),
-        Ok(None) => Some(Vec::new(alloc)),
+        Ok(Some(vector)) => buffers_of(&vector, memory).ok(),
+        Ok(None) => {
+            memory.clear();
+            Some(memory)
+        }
         Err(_) => None,
     }
 }
 
 /// The field nodes of a vector of pairs of numbers.
-fn nodes_of(alloc: Global, vector: &Vector) -> Result<Vec<FieldNode>, AllocError>
+fn nodes_of(vector: &Vector, memory: Vec<FieldNode>) -> Result<Vec<FieldNode>, AllocError>
     requires pairs { vector.now.size ≡ 16 }
     ensures nodes { IfOk result (λ v. v.items
         ≡ map node_of (pairs_from vector.now.bytes vector.now.place vector.now.count)) }
 {
-    let mut nodes = Vec::with_capacity(alloc, vector.len())?;
+    let mut nodes = memory;
+    nodes.clear();
+    nodes.reserve(vector.len())?;
     for index in 0..vector.len() {
         let (length, null_count) = vector.pair(index);
         nodes.push(FieldNode {
@@ -144,12 +152,14 @@ fn nodes_of(alloc: Global, vector: &Vector) -> Result<Vec<FieldNode>, AllocError
 }
 
 /// The buffers of a vector of pairs of numbers.
-fn buffers_of(alloc: Global, vector: &Vector) -> Result<Vec<Buffer>, AllocError>
+fn buffers_of(vector: &Vector, memory: Vec<Buffer>) -> Result<Vec<Buffer>, AllocError>
     requires pairs { vector.now.size ≡ 16 }
     ensures buffers { IfOk result (λ v. v.items
         ≡ map buffer_of (pairs_from vector.now.bytes vector.now.place vector.now.count)) }
 {
-    let mut buffers = Vec::with_capacity(alloc, vector.len())?;
+    let mut buffers = memory;
+    buffers.clear();
+    buffers.reserve(vector.len())?;
     for index in 0..vector.len() {
         let (offset, length) = vector.pair(index);
         buffers.push(Buffer {

@@ -15,7 +15,7 @@ ghost use Rattle.arrow_meta_tree.specs.Views.{plain, plain_all};
 ghost use Rattle.arrow_types.specs.Schema.{dictionary_fields, is_nested, types_differ};
 
 use crate::batches::batch_message;
-use crate::message::{Message, MetadataVersion};
+use crate::message::{Message, MetadataVersion, RecordBatch};
 use crate::to_schema::message;
 use crate::versions::metadata_version;
 use arrow_meta_schema::conditions::{Test, any, any_in};
@@ -42,6 +42,23 @@ pub fn decode(alloc: Global, bytes: &[u8], limits: &Limits) -> Result<Message, M
     decode_counted(alloc, bytes, limits, &mut work)
 }
 
+/// The result of [`decode`], for a caller that has read another batch before: a batch is put into
+/// the memory of that one, if it is large enough, so that nothing is allocated.
+pub fn decode_into(
+    alloc: Global,
+    bytes: &[u8],
+    limits: &Limits,
+    memory: RecordBatch,
+) -> Result<Message, MetaFault>
+    ensures decoded { Decodes result limits.now bytes.now }
+    ensures length { LengthFits result limits.now.max_body }
+{
+    match batch_message(bytes, limits, memory) {
+        Some(message) => Ok(message),
+        None => decode(alloc, bytes, limits),
+    }
+}
+
 /// The result of [`decode`], with the work that it took.
 ///
 /// The work is first set to 0, whatever it was. Then it rises by one for each Field table and each
@@ -64,7 +81,7 @@ pub fn decode_counted(
     ensures ends { IfErr result (λ e. CountsFailed limits.now bytes.now e work.new) }
 {
     *work = DecodeCost::NONE;
-    match batch_message(alloc, bytes, limits) {
+    match batch_message(bytes, limits, RecordBatch::new(alloc)) {
         Some(message) => Ok(message),
         None => judge(alloc, tree_counted(alloc, bytes, limits, work)?, limits),
     }

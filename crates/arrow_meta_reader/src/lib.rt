@@ -8,7 +8,8 @@
 //!   of those that hold. What the tables of a schema mean is in `arrow_meta_schema`.
 //!
 //! [`decode`] does one after the other, except for batches without a fault, which nearly all
-//! messages of a stream are: it makes these straight from their tables, without a tree.
+//! messages of a stream are: it makes these straight from their tables, without a tree, and
+//! [`decode_into`] makes them in the memory of another batch.
 //! [`decode_counted`] reports the work of reading, whatever it returns.
 //!
 //! Each result is specified in both directions: a fault is returned exactly if its condition holds
@@ -35,5 +36,5 @@ mod message;
 mod to_schema;
 mod versions;
 
-pub use judging::{decode, decode_counted, judge};
+pub use judging::{decode, decode_counted, decode_into, judge};
 pub use message::{Header, Message, MetadataVersion, RecordBatch};

@@ -1,8 +1,8 @@
 -- Lemmas for the steps of reading: sizes that passed the checks are small, and the bytes held show their parts.
-use Rattle.std.proofs.Common.{◌≡◌, ℕ, ◌+◌, ◌-◌, ◌^◌, ◌<◌, ◌≤◌, inl, inr, Bool, true, false, cond, ltb, eqb, List, [], ◌++◌, length, take, drop, refl, sym, ap, ◌∙◌, subst, arith, Option, Some, None, Result, Ok, Err, length-append, length-drop, length-take}
+use Rattle.std.proofs.Common.{◌≡◌, ℕ, ◌+◌, ◌-◌, ◌^◌, ◌<◌, ◌≤◌, inl, inr, Bool, true, false, cond, ltb, eqb, List, [], ◌++◌, length, take, drop, refl, sym, ap, ◌∙◌, subst, arith, Option, Some, None, Result, Ok, Err, length-drop, length-take, length-take-le}
 use Rattle.std.specs.Prelude.{is_some, not}
 use Rattle.std.proofs.lemmas.Bool.{ltb-false}
-use Rattle.std.proofs.lemmas.List.{append_assoc, take_all}
+use Rattle.std.proofs.lemmas.List.{take_all}
 use Rattle.arrow_types.specs.Limits.{LimitNumbers}
 use Rattle.arrow_meta_tree.specs.declared.fault.MetaFault.{MetaFault}
 use Rattle.arrow_stream_reader.specs.declared.kind.Rejection.{Rejection}
@@ -26,8 +26,8 @@ use Rattle.arrow_stream_reader.specs.declared.decoder.Phase.TheVariants as phase
 use Rattle.arrow_stream_reader.specs.declared.decoder.Step.{Step}
 use Rattle.arrow_stream_reader.specs.declared.decoder.Step.TheVariants as steps
 use Rattle.arrow_stream_reader.specs.Held.{HeldBytes}
-use Rattle.arrow_stream_reader.specs.Decoder.{Filled, Finishes, IsAt, NotApplied, Shown, Stopped, Works, verdict_of}
-use Rattle.arrow_stream_reader.proofs.Firsts.{HasMetadata-append, metadata_held, body_held}
+use Rattle.arrow_stream_reader.specs.Decoder.{Filled, Finishes, IsAt, NotApplied, SameBut, Shown, Stopped, Works, verdict_of}
+use Rattle.arrow_stream_reader.proofs.Firsts.{HasPrefix-take, prefix_held, metadata_held, body_held}
 use Rattle.arrow_stream_reader.proofs.Meanings.{meaning_small}
 
 -- if the tests of a prefix return a size, both limits were kept
@@ -151,6 +151,21 @@ module _ {l : LimitNumbers} {s : StreamState} {p : ℕ} where
     says = ap (prefix_says l (is_some s.schema) p) (take_all 8 h (omega arith) ∙ sym e) ∙ ap (λ x. prefix_says l x p d) (sym k) ∙ sym says;
   }
 
+  -- a prefix that was read from the first bytes
+  pub prefix_there : {b : List ℕ} {r : Result Prefix Rejection} (d rest : List ℕ) (seen : Bool) → b ≡ d ++ rest →
+      seen ≡ is_some s.schema → length d ≡ 8 → r ≡ prefix_says l seen p d → HasPrefix l s p b r
+  prefix_there d rest seen e k n says = prefix_held _ rest e (prefix_read d seen refl k n says)
+
+  -- metadata that were read from the first bytes
+  pub metadata_there : {b : List ℕ} {m : ℕ} {r : Result Message Rejection} (d rest : List ℕ) → d ≡ take (8 + m) b → b ≡ d ++ rest →
+      HasPrefix l s p b (Ok (prefixes.Metadata m)) → 8 + m ≤ length b →
+      MetadataSays l s (p + 8) (take (length d - 8) (drop 8 d)) r → HasMetadata l s p d m r × HasMetadata l s p b m r
+  metadata_there {b} {m} {r} d rest first e g n says =
+      let size : length d ≡ 8 + m = ap length first ∙ length-take-le (8 + m) b n in
+      let begun = subst (λ x. HasPrefix l s p x (Ok (prefixes.Metadata m))) (sym first) (HasPrefix-take (8 + m) (omega arith) n g) in
+      let read = metadata_read d refl begun size says in
+      (read, metadata_held b rest e read)
+
 -- no more bytes are held than one message may have, and none of a stream that is not open
 pub held_small : (l : LimitNumbers) (s : StreamState) (p : ℕ) (h : List ℕ) (f : Phase) → (verdict_of f ≡ Open → Shown l s p h f) →
     ((verdict_of f ≡ Open → ⊥) → h ≡ []) → length h ≤ 8 + l.max_metadata + l.max_body
@@ -190,6 +205,16 @@ module _ {old piece : List ℕ} {target n : ℕ} {new : List ℕ} where
   pub filled : Filled old piece target n new → target ≤ length new → length new ≡ target
   filled f h = elim f.enough [ inl e ↦ e | inr w ↦ absurd (omega arith) ]
 
+-- all bytes were taken, after none
+pub filled_by : {old piece : List ℕ} {n : ℕ} {new : List ℕ} → old ≡ [] → Filled old piece (length piece) n new → new ≡ piece
+filled_by {old} {piece} {n} {new} none f = elim f.enough [
+  | inl e ↦
+      let took = f.took ∙ ap (λ h. h ++ take n piece) none in
+      let size : length piece ≤ n = omega (arith, ap length took, e, length-take-le n piece f.within) in
+      took ∙ take_all n piece size
+  | inr w ↦ w.1 ∙ ap (λ h. h ++ piece) none
+]
+
 -- the decoder when all bytes of a message are held, in a state and with a message that was returned
 abbrev handed_back : Decoder → State → ℕ → HeldContent → ℕ → Decoder
 handed_back old st m c n = record {
@@ -201,9 +226,9 @@ handed_back old st m c n = record {
   phase = phases.Body m (record { content = c; body_len = n });
 }
 
-module _ (old : Decoder) (st : State) (m : ℕ) (t : HeldMessage) (c : HeldContent) (rest : List ℕ)
+module _ (old : Decoder) (st : State) (m : ℕ) (t : HeldMessage) (c : HeldContent)
     (known : HasMetadata old.limits (plain old.state) old.place old.held.items m (Ok (message_of t)))
-    (whole : length old.held.items + length rest ≡ 8 + m + t.body_len) where
+    (whole : length old.held.items ≡ 8 + m + t.body_len) where
   not_applied : old.limits.max_rows ≤ 2147483647 → IsFit (plain st) → plain st ≡ plain old.state → content_of c ≡ content_of t.content →
       NotApplied old (handed_back old st m c t.body_len)
   not_applied few fit e f = record {
@@ -222,13 +247,13 @@ module _ (old : Decoder) (st : State) (m : ℕ) (t : HeldMessage) (c : HeldConte
   }
 
   -- a message that is not applied stops the decoder at its old offset
-  pub not_finished : (body : List ℕ) (stop : DecodeError) → body ≡ drop (8 + m) (old.held.items ++ rest) → old.limits.max_rows ≤ 2147483647 → IsFit (plain st) →
+  pub not_finished : (body : List ℕ) (stop : DecodeError) → body ≡ drop (8 + m) old.held.items → old.limits.max_rows ≤ 2147483647 → IsFit (plain st) →
       Applies (plain old.state) (content_of t.content) body (Err (stop, c)) (plain st) →
-      Finishes old (old.held.items ++ rest) m (message_of t) (Err stop) (handed_back old st m c t.body_len)
+      Finishes old m (message_of t) (Err stop) (handed_back old st m c t.body_len)
   not_finished body (Refused k) e few fit a =
-      (not_applied few fit a.1 a.2, body_said body e (HasMetadata-append rest known) (length-append old.held.items rest ∙ whole) a.0)
+      (not_applied few fit a.1 a.2, body_said body e known whole a.0)
   not_finished body Memory e few fit a =
-      (not_applied few fit a.1 a.2, (a.0.0, body_said body e (HasMetadata-append rest known) (length-append old.held.items rest ∙ whole) a.0.1))
+      (not_applied few fit a.1 a.2, (a.0.0, body_said body e known whole a.0.1))
 
 -- the result for the message is what the decoder's step does
 module _ (old : Decoder) (h : HeldBytes) (f : Phase) (new : Decoder) where
@@ -244,22 +269,54 @@ module _ (old : Decoder) (h : HeldBytes) (f : Phase) (new : Decoder) where
     at = not.at;
   }
 
-  -- b begins with the message, whose first bytes are held
-  pub finish_works : (b rest more : List ℕ) (m : ℕ) (t : Message) (r : Result Step DecodeError) → (h.items ++ rest) ++ more ≡ b →
-      length old.held.items ≤ length h.items → length (h.items ++ rest) ≡ 8 + m + t.body_len →
-      Finishes filled_up (h.items ++ rest) m t r new → Works old b r new
-  finish_works b rest more m t (Ok steps.Short) e covers whole x = absurd x
-  finish_works b rest more m t (Ok steps.EndMarker) e covers whole x = absurd x
-  finish_works b rest more m t (Ok (steps.Whole item)) e covers whole x = record {
+  -- b begins with the message, whose bytes are held
+  pub finish_works : (b more : List ℕ) (m : ℕ) (t : Message) (r : Result Step DecodeError) → h.items ++ more ≡ b →
+      length old.held.items ≤ length h.items → length h.items ≡ 8 + m + t.body_len →
+      Finishes filled_up m t r new → Works old b r new
+  finish_works b more m t (Ok steps.Short) e covers whole x = absurd x
+  finish_works b more m t (Ok steps.EndMarker) e covers whole x = absurd x
+  finish_works b more m t (Ok (steps.Whole item)) e covers whole x = record {
     size = 8 + m + t.body_len;
     limits = x.limits;
     place = x.place ∙ ap (λ n. old.place + n) whole;
-    covers = omega (arith, length-append h.items rest);
+    covers = omega arith;
     held = x.held;
     at = x.at;
     first = message_comes (body_held b more e x.body);
   }
-  finish_works b rest more m t (Err (Refused k)) e covers whole x =
-      record { stopped = stopped_at b (rest ++ more) (sym (append_assoc h.items rest more) ∙ e) covers x.0; first = bad_body (body_held b more e x.1) }
-  finish_works b rest more m t (Err Memory) e covers whole x =
-      stopped_at b (rest ++ more) (sym (append_assoc h.items rest more) ∙ e) covers x.0
+  finish_works b more m t (Err (Refused k)) e covers whole x =
+      record { stopped = stopped_at b more e covers x.0; first = bad_body (body_held b more e x.1) }
+  finish_works b more m t (Err Memory) e covers whole x =
+      stopped_at b more e covers x.0
+
+-- nothing was taken, and nothing is held
+pub unmoved : {old new : Decoder} {b : List ℕ} → SameBut old new → old.held.items ≡ [] → new.held.items ≡ [] → new.phase ≡ phases.Prefix →
+    new.place ≤ 2 ^ 62 → IsFit (plain new.state) → Stopped old b new
+unmoved {old} {new} {b} same before none first near fit = record {
+  same = same;
+  more = b;
+  held = ap (λ h. h ++ b) (sym none);
+  covers = omega (arith, ap length before);
+  at = record {
+    shown = subst (λ f. Shown new.limits (plain new.state) new.place new.held.items f) (sym first) (omega (arith, ap length none));
+    near = near;
+    fit = fit;
+  };
+}
+
+-- a message that begins with the bytes b, which have all of it
+module _ (old : Decoder) (b : List ℕ) (m : ℕ) (t : HeldMessage)
+    (known : HasMetadata old.limits (plain old.state) old.place b m (Ok (message_of t))) (whole : 8 + m + t.body_len ≤ length b) where
+  pub body_there : {r : Result (StreamState × Given) Rejection} (body : List ℕ) → body ≡ take t.body_len (drop (8 + m) b) →
+      BodySays (plain old.state) (content_of t.content) body r → HasBody old.limits (plain old.state) old.place b m (message_of t) r
+  body_there {r} body e says = record { metadata = known; within = whole; says = subst (λ x. BodySays (plain old.state) (content_of t.content) x r) e says }
+
+  -- the state is kept if the message is not applied
+  pub state_kept : (s' : StreamState) (body : List ℕ) (stop : DecodeError) (c : HeldContent) → Applies (plain old.state) (content_of t.content) body (Err (stop, c)) s' → s' ≡ plain old.state
+  state_kept s' body (Refused k) c a = a.1
+  state_kept s' body Memory c a = a.1
+
+  pub stops_there : {new : Decoder} (s' : StreamState) (body : List ℕ) (stop : DecodeError) (c : HeldContent) → body ≡ take t.body_len (drop (8 + m) b) →
+      Applies (plain old.state) (content_of t.content) body (Err (stop, c)) s' → Stopped old b new → Works old b (Err stop) new
+  stops_there s' body (Refused k) c e a x = record { stopped = x; first = bad_body (body_there body e a.0) }
+  stops_there s' body Memory c e a x = x

@@ -1,8 +1,8 @@
 -- The result of the layer below for a body is what the body holds.
-use Rattle.std.proofs.Common.{◌≡◌, ◌↔◌, ℕ, ℤ, List, Result, MatchResult, refl, sym, subst, Ok, Err}
+use Rattle.std.proofs.Common.{◌≡◌, ◌↔◌, ℕ, ℤ, List, Result, MatchResult, refl, sym, ap, ◌∙◌, subst, Ok, Err}
 use Rattle.std.specs.List.{AllByRecursion}
 use Rattle.arrow_types.specs.Field.{FieldTree}
-use Rattle.arrow_data.specs.Column.{Column, ValueList}
+use Rattle.arrow_data.specs.Column.{Column, ValueList, counts_of}
 use Rattle.arrow_body_reader.specs.Held.{count_of}
 use Rattle.arrow_body_reader.specs.Sound.{Explains, IsSound, columns_of, lengths_of}
 use Rattle.arrow_body_reader.specs.declared.body.BodyFault.{BodyFault}
@@ -10,6 +10,7 @@ use Rattle.arrow_body_reader.specs.declared.body.BodyFault.TheVariants as bodies
 use Rattle.arrow_types.specs.declared.node.FieldNode.{FieldNode}
 use Rattle.arrow_types.specs.declared.node.Buffer.{Buffer}
 use Rattle.arrow_meta_reader.specs.Means.{PlainBatch}
+use Rattle.arrow_body_reader.proofs.Columns.{columns_long}
 use Rattle.arrow_stream_reader.specs.declared.kind.Rejection.TheVariants.{Layout, Text, Index}
 use Rattle.arrow_stream_reader.specs.Batch.{AreLong, Loads, columns, bad_layout, bad_text, bad_index}
 use Rattle.arrow_stream_reader.specs.Views.{HasNoColumns, LoadsSome, body_error}
@@ -21,6 +22,14 @@ are_long fields record_batch ns n e f = (
   λ h. subst (λ x. AllByRecursion (λ (k : ℕ). k ≡ x) (lengths_of fields record_batch.nodes)) f (subst (λ x. AllByRecursion (λ (k : ℕ). k ≡ n) (lengths_of fields x)) e h),
   λ h. subst (λ x. AllByRecursion (λ (k : ℕ). k ≡ n) (lengths_of fields x)) (sym e) (subst (λ x. AllByRecursion (λ (k : ℕ). k ≡ x) (lengths_of fields record_batch.nodes)) (sym f) h),
 )
+
+-- so have the columns that its body holds
+pub rows_long : (body : List ℕ) (ds : List (ℤ × ValueList)) (fields : FieldTree) (record_batch : PlainBatch) (cs : List Column) (n : ℕ) → n ≡ count_of record_batch.length →
+    cs ≡ columns_of body ds fields record_batch.nodes record_batch.buffers → AllByRecursion (λ (k : ℕ). k ≡ n) (counts_of cs) ↔ AreLong fields record_batch
+rows_long body ds fields record_batch cs n f e =
+    let same : counts_of cs ≡ lengths_of fields record_batch.nodes = ap counts_of e ∙ columns_long body ds fields record_batch.nodes record_batch.buffers in
+    let long = are_long fields record_batch record_batch.nodes n refl f in
+    (λ h. long.0 (subst (AllByRecursion (λ (k : ℕ). k ≡ n)) same h), λ h. subst (AllByRecursion (λ (k : ℕ). k ≡ n)) (sym same) (long.1 h))
 
 -- an explanation of a fault carries over to equal bodies, nodes and buffers
 pub explains_of : (k : BodyFault) (body body' : List ℕ) (ds : List (ℤ × ValueList)) (fields : FieldTree) (record_batch : PlainBatch) (ns : List FieldNode) (bs : List Buffer) →

@@ -104,13 +104,13 @@ Works old b (Ok (steps.Whole item)) new = Gave old b item new
 Works old b (Err (Refused k)) new = Failed old b k new
 Works old b (Err Memory) new = Stopped old b new
 
--- A message that consists of all the bytes b was applied.
-pub record Applied (old : Decoder) (b : List ℕ) (m : ℕ) (message : Message) (item : Item) (new : Decoder) : Type 0 where
+-- A message that consists of the bytes held was applied.
+pub record Applied (old : Decoder) (m : ℕ) (message : Message) (item : Item) (new : Decoder) : Type 0 where
   pub limits : new.limits ≡ old.limits
-  pub place : new.place ≡ old.place + length b
+  pub place : new.place ≡ old.place + length old.held.items
   pub held : new.held.items ≡ []
   pub at : IsAt new
-  pub body : HasBody old.limits (plain old.state) old.place b m message (Ok (plain new.state, given item))
+  pub body : HasBody old.limits (plain old.state) old.place old.held.items m message (Ok (plain new.state, given item))
 
 -- it was not applied, and only the phase changed
 pub record NotApplied (old new : Decoder) : Type 0 where
@@ -118,16 +118,15 @@ pub record NotApplied (old new : Decoder) : Type 0 where
   pub held : new.held.items ≡ old.held.items
   pub at : IsAt new
 
--- The result for a message that consists of all the bytes b, the first of them held. An allocation may fail if its
--- body is not rejected.
-abbrev pub Finishes : Decoder → List ℕ → ℕ → Message → Result Step DecodeError → Decoder → Type 0
-Finishes old b m message (Ok steps.Short) new = ⊥
-Finishes old b m message (Ok steps.EndMarker) new = ⊥
-Finishes old b m message (Ok (steps.Whole item)) new = Applied old b m message item new
-Finishes old b m message (Err (Refused k)) new =
-    NotApplied old new × HasBody old.limits (plain old.state) old.place b m message (Err k)
-Finishes old b m message (Err Memory) new =
-    NotApplied old new × ((left : StreamState × Given) × HasBody old.limits (plain old.state) old.place b m message (Ok left))
+-- The result for a message that consists of the bytes held. An allocation may fail if its body is not rejected.
+abbrev pub Finishes : Decoder → ℕ → Message → Result Step DecodeError → Decoder → Type 0
+Finishes old m message (Ok steps.Short) new = ⊥
+Finishes old m message (Ok steps.EndMarker) new = ⊥
+Finishes old m message (Ok (steps.Whole item)) new = Applied old m message item new
+Finishes old m message (Err (Refused k)) new =
+    NotApplied old new × HasBody old.limits (plain old.state) old.place old.held.items m message (Err k)
+Finishes old m message (Err Memory) new =
+    NotApplied old new × ((left : StreamState × Given) × HasBody old.limits (plain old.state) old.place old.held.items m message (Ok left))
 
 -- bytes that were read from an input were added to those held, and the message is not complete
 pub record HasRead (old : Decoder) (had left : Option (List ℕ)) (n : ℕ) (new : Decoder) : Type 0 where

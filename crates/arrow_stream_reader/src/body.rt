@@ -1,6 +1,8 @@
 //! The body of a message, and the columns that it holds.
 
-ghost use Rattle.std.specs.Prelude.{◌≡◌, ◌≤◌, ◌≤ℤ◌, pos, length, drop, IfOk, MatchResult, Ok};
+ghost use Rattle.std.specs.Prelude.{◌≡◌, ◌≤◌, ◌≤ℤ◌, ◌↔◌, pos, length, drop, IfOk, IsTrue, MatchResult, Ok};
+ghost use Rattle.std.specs.List.{AllByRecursion};
+ghost use Rattle.arrow_data.specs.Column.{counts_of};
 ghost use Rattle.arrow_layout.specs.Shared.{node_types};
 ghost use Rattle.arrow_types.specs.View.{fields_view};
 ghost use Rattle.arrow_body_reader.specs.Held.{count_of};
@@ -127,14 +129,27 @@ pub(crate) fn load_columns(
         (λ stop. HasNoColumns body.now schema.now.dictionaries.now (fields_view schema.now.fields.now)
         (batch_view record_batch.now) stop) }
 {
-    if !check_row_count(schema.fields, &record_batch.nodes, row_count(record_batch)) {
-        return Err(DecodeError::Refused(Rejection::Layout));
+    let (rows, nodes) = (row_count(record_batch), record_batch.nodes.as_slice());
+    match columns_in(alloc, schema, record_batch, body) {
+        Ok(columns) if have_rows(&columns, rows) => Ok(columns),
+        Err(fault) if check_row_count(schema.fields, nodes, rows) => Err(fault.into()),
+        _ => Err(DecodeError::Refused(Rejection::Layout)),
     }
-    let columns = columns_in(alloc, schema, record_batch, body)?;
-    Ok(columns)
 }
 
-/// The same, whatever the number of rows is; if the allocation for the copy of the body fails, a
+/// Whether each column has this many rows.
+fn have_rows(columns: &[Array], rows: usize) -> bool
+    ensures { IsTrue result ↔ AllByRecursion (λ n. n ≡ rows) (counts_of columns.now) }
+{
+    for column in columns {
+        if column.len() != rows {
+            return false;
+        }
+    }
+    true
+}
+
+/// The columns, whatever the number of rows is; if the allocation for the copy of the body fails, a
 /// fault of the body is still reported first.
 fn columns_in(
     alloc: Global,

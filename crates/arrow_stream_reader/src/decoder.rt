@@ -1,6 +1,6 @@
 //! A decoder of messages, one at a time, from bytes that come in pieces.
 
-ghost use Rattle.std.specs.Prelude.{◌≡◌, ◌+◌, ◌^◌, ◌<◌, ◌≤◌, ◌⊎◌, [], ◌++◌, length, Ok, Err};
+ghost use Rattle.std.specs.Prelude.{◌≡◌, ◌+◌, ◌^◌, ◌<◌, ◌≤◌, [], ◌++◌, length, Ok, Err};
 ghost use Rattle.std.specs.Prelude.{IfOk, IfSome, None, OnErr};
 ghost use Rattle.std.specs.Io.KnownBytes.{Keeps};
 ghost use Rattle.arrow_stream_reader.specs.declared.prefix.Prefix.TheVariants as prefixes;
@@ -13,6 +13,7 @@ ghost use Rattle.arrow_stream_reader.specs.Decoder.{Rewound};
 ghost use Rattle.arrow_stream_reader.specs.declared.input.BodyReadFault.TheVariants.{Input as Unread};
 ghost use Rattle.arrow_stream_reader.specs.declared.input.BodyReadFault.TheVariants.{Memory};
 
+use crate::body::Body;
 use crate::decode_error::DecodeError;
 use crate::input::{BodyReadFault, Input, PIECE};
 use crate::item::Item;
@@ -22,6 +23,7 @@ use crate::metadata::{Position, read_message};
 use crate::pending_bytes::PendingBytes;
 use crate::prefix::{Prefix, read_prefix};
 use crate::state::{State, handle_message};
+use arrow_meta_reader::RecordBatch;
 use arrow_types::Limits;
 use std::alloc::Global;
 use std::mem;
@@ -86,6 +88,9 @@ impl Decoder {
         ensures works { Works self.old (self.old.held.items ++ piece.now) result self.new }
     {
         self.phase = Phase::Prefix;
+        if self.held.len() == 0 && piece.len() >= 8 {
+            return self.read_in_place(piece);
+        }
         let taken = self.held.fill(piece, 8)?;
         if self.held.len() < 8 {
             return Ok(Step::Short);
@@ -94,6 +99,63 @@ impl Decoder {
         match read_prefix(&self.limits, has_schema, self.place, self.held.as_slice())? {
             Prefix::Metadata(size) => self.read_metadata(size, &piece[taken..]),
             Prefix::EndMarker => Ok(Step::EndMarker),
+        }
+    }
+
+    /// Reads a message that begins with the piece, of which the piece has the first eight bytes at
+    /// least. Only what is cut off by its end is held.
+    fn read_in_place(&mut self, piece: &[u8]) -> Result<Step, DecodeError>
+        requires whole { 8 ≤ length piece.now }
+        requires none { self.old.held.items ≡ [] }
+        requires open { self.old.phase ≡ phases.Prefix }
+        requires near { self.old.place ≤ 2 ^ 62 }
+        requires fit { IsFit (plain self.old.state) }
+        ensures works { Works self.old piece.now result self.new }
+    {
+        let (prefix, rest) = piece.split_at(8);
+        let has_schema = self.state.schema.is_some();
+        match read_prefix(&self.limits, has_schema, self.place, prefix)? {
+            Prefix::Metadata(size) if size as usize <= rest.len() => {
+                self.read_frame_in_place(size, piece)
+            }
+            Prefix::Metadata(size) => {
+                self.held.fill(prefix, 8)?;
+                self.read_metadata(size, rest)
+            }
+            Prefix::EndMarker => Ok(Step::EndMarker),
+        }
+    }
+
+    /// The same for a piece that has all metadata of the message, which have this size.
+    fn read_frame_in_place(&mut self, size: u64, piece: &[u8]) -> Result<Step, DecodeError>
+        requires known { HasPrefix self.old.limits (plain self.old.state) self.old.place
+            piece.now (Ok (prefixes.Metadata size)) }
+        requires whole { 8 + size ≤ length piece.now }
+        requires none { self.old.held.items ≡ [] }
+        requires open { self.old.phase ≡ phases.Prefix }
+        requires fit { IsFit (plain self.old.state) }
+        ensures works { Works self.old piece.now result self.new }
+    {
+        let (head, rest) = piece.split_at(8 + size as usize);
+        let memory = mem::replace(&mut self.state.last, RecordBatch::new(self.alloc));
+        let start = Position {
+            limits: &self.limits,
+            state: &self.state,
+            place: self.place + 8,
+        };
+        let message = read_message(self.alloc, &start, &head[8..], memory)?;
+        let body_len = message.body_len as usize;
+        if body_len > rest.len() {
+            self.held.fill(head, head.len())?;
+            return self.read_body(size, message, rest);
+        }
+        let body = Body::lent(&rest[..body_len]);
+        match handle_message(&mut self.state, self.alloc, message.content, &body) {
+            Ok(item) => {
+                self.place += (head.len() + body_len) as u64;
+                Ok(Step::Whole(item))
+            }
+            Err((stop, _)) => Err(stop),
         }
     }
 
@@ -111,13 +173,14 @@ impl Decoder {
         if self.held.len() < whole {
             return Ok(Step::Short);
         }
+        let memory = mem::replace(&mut self.state.last, RecordBatch::new(self.alloc));
         let start = Position {
             limits: &self.limits,
             state: &self.state,
             place: self.place + 8,
         };
         let metadata = &self.held.as_slice()[8..];
-        let message = read_message(self.alloc, &start, metadata)?;
+        let message = read_message(self.alloc, &start, metadata, memory)?;
         self.read_body(size, message, &piece[taken..])
     }
 
@@ -131,11 +194,7 @@ impl Decoder {
         ensures works { Works self.old (self.old.held.items ++ piece.now) result self.new }
     {
         let start = 8 + size as usize;
-        let body_len = message.body_len as usize;
-        if self.held.len() == start && body_len <= piece.len() {
-            return self.decode_body(size, message, &piece[..body_len]);
-        }
-        let whole = start + body_len;
+        let whole = start + message.body_len as usize;
         let Ok(_) = self.held.fill(piece, whole) else {
             self.phase = Phase::Body(size, message);
             return Err(DecodeError::Memory);
@@ -148,27 +207,23 @@ impl Decoder {
             self.phase = Phase::Body(size, message);
             return Err(DecodeError::Memory);
         };
-        self.decode_body(size, message, &[])
+        self.decode_held(size, message)
     }
 
-    /// Applies a message whose bytes are all there, and no others: those held, and those of `rest`
-    /// after them. Either no byte of its body is held, or all are.
-    fn decode_body(&mut self, size: u64, message: Message, rest: &[u8]) -> Result<Step, DecodeError>
+    /// Applies a message that consists of the bytes held.
+    fn decode_held(&mut self, size: u64, message: Message) -> Result<Step, DecodeError>
         requires known { HasMetadata self.old.limits (plain self.old.state) self.old.place
             self.old.held.items size (Ok (message_of message)) }
-        requires whole { length self.old.held.items + length rest.now
-            ≡ 8 + size + message.body_len }
-        requires apart { (length self.old.held.items ≡ 8 + size) ⊎ (rest.now ≡ []) }
+        requires whole { length self.old.held.items ≡ 8 + size + message.body_len }
         requires ceiling { self.old.limits.max_rows ≤ 2147483647 }
         requires fit { IsFit (plain self.old.state) }
-        ensures finishes { Finishes self.old (self.old.held.items ++ rest.now) size
-            (message_of message) result self.new }
+        ensures finishes { Finishes self.old size (message_of message) result self.new }
     {
         let body_len = message.body_len;
-        let body = self.held.body(8 + size as usize, rest);
+        let body = self.held.body(8 + size as usize);
         match handle_message(&mut self.state, self.alloc, message.content, &body) {
             Ok(item) => {
-                self.place += self.held.len() as u64 + rest.len() as u64;
+                self.place += self.held.len() as u64;
                 self.held.clear();
                 self.phase = Phase::Prefix;
                 Ok(Step::Whole(item))

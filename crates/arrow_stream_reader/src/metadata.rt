@@ -11,7 +11,7 @@ use crate::message::{Message, MessageBody};
 use crate::refusals::{check_order, is_out_of_order, state_refusal};
 use crate::state::State;
 use crate::stream_schema::StreamSchema;
-use arrow_meta_reader::{Header, Message as Judged, decode};
+use arrow_meta_reader::{Header, Message as Judged, RecordBatch, decode_into};
 use arrow_meta_tree::MetaFault;
 use arrow_types::Limits;
 use std::alloc::{AllocError, Global};
@@ -25,11 +25,12 @@ pub(crate) struct Position<'a> {
 }
 
 /// The message of the metadata that begin at `start`. Everything that applying the message needs is
-/// allocated here, except what its body holds.
+/// allocated here, except what its body holds. A batch is put into the memory of another one.
 pub(crate) fn read_message(
     alloc: Global,
     start: &Position,
     metadata: &[u8],
+    memory: RecordBatch,
 ) -> Result<Message, DecodeError>
     requires near { start.now.place + length metadata.now ≤ 2 ^ 62 }
     ensures says { MessageRead start.now.limits.now (plain start.now.state.now) start.now.place
@@ -38,7 +39,7 @@ pub(crate) fn read_message(
 {
     let place = start.place + metadata.len() as u64;
     let has_schema = start.state.schema.is_some();
-    let decoded = decode(alloc, metadata, start.limits);
+    let decoded = decode_into(alloc, metadata, start.limits, memory);
     let message = decoded.map_err(|fault| error_by(has_schema, place, fault))?;
     message_at(alloc, &Position { place, ..*start }, message)
 }

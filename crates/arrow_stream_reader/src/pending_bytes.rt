@@ -1,6 +1,6 @@
 //! The held bytes of the current message.
 
-ghost use Rattle.std.specs.Prelude.{◌≡◌, ◌≤◌, ◌<◌, ◌+◌, ◌^◌, ◌++◌, ◌⊎◌, [], length, take, drop};
+ghost use Rattle.std.specs.Prelude.{◌≡◌, ◌≤◌, ◌<◌, ◌+◌, ◌^◌, [], length, take, drop};
 ghost use Rattle.std.specs.Prelude.{IfOk, IfSome, OnErr, OnOk, Ok, Err, None};
 ghost use Rattle.arrow_stream_reader.specs.Decoder.{Filled};
 ghost use Rattle.arrow_stream_reader.specs.BodyRead.{ReadsInto};
@@ -158,16 +158,11 @@ impl PendingBytes {
         }
     }
 
-    /// The body that begins at `start` of the bytes held and those of `rest` after them. Either no
-    /// byte of it is held, or all are.
-    pub(crate) fn body<'a>(&'a self, start: usize, rest: &'a [u8]) -> Body<'a>
+    /// The body that begins at `start` of the bytes held.
+    pub(crate) fn body(&self, start: usize) -> Body<'_>
         requires within { start ≤ length self.now.items }
-        requires apart { (length self.now.items ≡ start) ⊎ (rest.now ≡ []) }
-        ensures body { result ≡ drop start (self.now.items ++ rest.now) }
+        ensures body { result ≡ drop start self.now.items }
     {
-        if self.len() == start {
-            return Body::lent(rest);
-        }
         match &self.storage {
             Storage::Growing(bytes) => Body::lent(&bytes[start..]),
             Storage::Whole(message) => Body::shared(message, start),

@@ -41,9 +41,9 @@ pub enum Verdict {
 ///
 /// The caller passes pieces to [`StreamReader::read`], which returns one item at a time, and calls
 /// [`StreamReader::end`] when no more will come. The reader keeps the bytes of one unfinished
-/// message, the schema, the current dictionaries and its offset, and nothing else. Memory that a
-/// batch shared is used for the next message, if the batch was dropped before. How a stream is cut
-/// into pieces changes no result.
+/// message, the schema, the current dictionaries and its offset, and nothing else but memory that it
+/// uses again: that of the last message's nodes and buffers, and that which a batch shared, if the
+/// batch was dropped before the next message. How a stream is cut into pieces changes no result.
 ///
 /// After an error the reader has failed: it takes nothing and returns the same fault, until
 /// [`StreamReader::restart`]. After the end marker it takes nothing either. If an allocation

@@ -31,6 +31,8 @@ pub(crate) struct State {
     pub(crate) schema: Option<StreamSchema>,
     /// The current dictionaries.
     pub(crate) dictionaries: Store,
+    /// The nodes and buffers of the last batch. Their memory is used for those of the next one.
+    pub(crate) last: RecordBatch,
 }
 
 impl State {
@@ -42,6 +44,7 @@ impl State {
         State {
             schema: None,
             dictionaries: Store::new(alloc),
+            last: RecordBatch::new(alloc),
         }
     }
 
@@ -203,13 +206,37 @@ pub(crate) fn handle_message(
                 is_delta,
                 record_batch: &record_batch,
             };
-            let updated = state.update(alloc, &dictionary_batch, body);
-            updated.map_err(|stop| (stop, MessageBody::Dictionary(id, is_delta, record_batch)))?;
-            Ok(Item::Dictionary(id))
+            match state.update(alloc, &dictionary_batch, body) {
+                Ok(()) => {
+                    state.last = record_batch;
+                    Ok(Item::Dictionary(id))
+                }
+                Err(stop) => Err((stop, MessageBody::Dictionary(id, is_delta, record_batch))),
+            }
         }
-        MessageBody::Batch(record_batch) => {
-            let read = state.batch(alloc, &record_batch, body);
-            Ok(Item::Batch(read.map_err(|stop| (stop, MessageBody::Batch(record_batch)))?))
+        MessageBody::Batch(record_batch) => handle_batch(state, alloc, record_batch, body),
+    }
+}
+
+/// Applies a record batch whose body is complete. The nodes and buffers stay in the state, or are
+/// returned.
+fn handle_batch(
+    state: &mut State,
+    alloc: Global,
+    record_batch: RecordBatch,
+    body: &Body,
+) -> Result<Item, (DecodeError, MessageBody)>
+    requires ready { Ready (plain state.old) (batch (batch_view record_batch)) }
+    requires fit { IsFit (plain state.old) }
+    ensures applies { Applies (plain state.old) (batch (batch_view record_batch)) body.now
+        result (plain state.new) }
+    ensures fit { IsFit (plain state.new) }
+{
+    match state.batch(alloc, &record_batch, body) {
+        Ok(rows) => {
+            state.last = record_batch;
+            Ok(Item::Batch(rows))
         }
+        Err(stop) => Err((stop, MessageBody::Batch(record_batch))),
     }
 }

@@ -1,28 +1,16 @@
-use Rattle.std.proofs.Common.{◌≡◌, ◌+◌, ◌<◌, ◌++◌, [], length, drop, take, refl, ap, sym, ◌∙◌, arith, append-nil, append_assoc, length-append, length-take-le, take-append-drop}
+use Rattle.std.proofs.Common.{◌≡◌, ◌+◌, ◌<◌, ◌++◌, length, drop, refl, ap, sym, ◌∙◌, arith}
 use Rattle.arrow_stream_reader.specs.Frame.{short_body}
 use Rattle.arrow_stream_reader.specs.Views.{message_of}
 use Rattle.arrow_stream_reader.proofs.Firsts.{HasMetadata-append, metadata_held}
 use Rattle.arrow_stream_reader.proofs.Decoding.{frame_small, finish_works, all_taken, filled}
 use Rattle.arrow_stream_reader.proofs.decoder.Decoder.read_body.Goals as goal
 
-pub returns-then-body_len-piece : goal.returns-then-body_len-piece
-returns-then-body_len-piece c =
-    let n = c.args.message.body_len in
-    let piece = c.args.piece.now in
-    let held = c.args.self.now.held.items in
-    let whole : length (held ++ take n piece) ≡ 8 + c.args.size + n =
-    omega (arith, length-append held (take n piece), length-take-le n piece c.if-body_len-piece.true, c.len.ensures.count, c.if-len-start.true) in
-    record {
-      works = finish_works c.args.self.now c.args.self.now.held c.args.self.now.phase c.decode_body.new.self (held ++ piece) (take n piece) (drop n piece) c.args.size (message_of c.args.message) c.decode_body.result
-          (append_assoc held (take n piece) (drop n piece) ∙ ap (λ x. held ++ x) (take-append-drop n piece)) (omega arith) whole c.decode_body.ensures.finishes;
-    }
-
 pub overflow_add-whole : goal.overflow_add-whole
 overflow_add-whole c = let w = frame_small c.requires.known in omega arith
 
 pub returns-then-len-whole : goal.returns-then-len-whole
 returns-then-len-whole c =
-    let short : length c.fill.new.self.items < 8 + c.args.size + c.args.message.body_len = omega (arith, c.len-2.ensures.count) in
+    let short : length c.fill.new.self.items < 8 + c.args.size + c.args.message.body_len = omega (arith, c.len.ensures.count) in
     let held = all_taken c.in-Ok.ensures.filled short in
     record {
       works = record {
@@ -37,7 +25,7 @@ pub returns-in_default-make_shared : goal.returns-in_default-make_shared
 returns-in_default-make_shared c =
     let more = drop c.in-Ok.field-0 c.args.piece.now in
     let same = c.make_shared.ensures.same in
-    let whole : length c.fill.new.self.items ≡ 8 + c.args.size + c.args.message.body_len = filled c.in-Ok.ensures.filled (omega (arith, c.len-2.ensures.count)) in
+    let whole : length c.fill.new.self.items ≡ 8 + c.args.size + c.args.message.body_len = filled c.in-Ok.ensures.filled (omega (arith, c.len.ensures.count)) in
     let all : length c.make_shared.new.self.items ≡ 8 + c.args.size + c.args.message.body_len = ap length same ∙ whole in
     record {
       works = record {
@@ -49,17 +37,17 @@ returns-in_default-make_shared c =
       };
     }
 
-pub decode_body-requires-2-clause-known : goal.decode_body-requires-2-clause-known
-decode_body-requires-2-clause-known c = metadata_held _ _ (c.make_shared.ensures.same ∙ c.in-Ok.ensures.filled.took) c.requires.known
+pub decode_held-requires-clause-known : goal.decode_held-requires-clause-known
+decode_held-requires-clause-known c = metadata_held _ _ (c.make_shared.ensures.same ∙ c.in-Ok.ensures.filled.took) c.requires.known
 
 pub returns : goal.returns
 returns c =
     let more = drop c.in-Ok.field-0 c.args.piece.now in
     let same = c.make_shared.ensures.same in
     let items = c.make_shared.new.self.items in
-    let whole : length c.fill.new.self.items ≡ 8 + c.args.size + c.args.message.body_len = filled c.in-Ok.ensures.filled (omega (arith, c.len-2.ensures.count)) in
+    let whole : length c.fill.new.self.items ≡ 8 + c.args.size + c.args.message.body_len = filled c.in-Ok.ensures.filled (omega (arith, c.len.ensures.count)) in
     let all : length items ≡ 8 + c.args.size + c.args.message.body_len = ap length same ∙ whole in
     record {
-      works = finish_works c.args.self.now c.make_shared.new.self c.args.self.now.phase c.decode_body-2.new.self (c.args.self.now.held.items ++ c.args.piece.now) [] more c.args.size (message_of c.args.message) c.decode_body-2.result
-          (ap (λ x. x ++ more) (append-nil items ∙ same) ∙ c.in-Ok.ensures.filled.rest) (omega (arith, all, c.requires.within)) (ap length (append-nil items) ∙ all) c.decode_body-2.ensures.finishes;
+      works = finish_works c.args.self.now c.make_shared.new.self c.args.self.now.phase c.decode_held.new.self (c.args.self.now.held.items ++ c.args.piece.now) more c.args.size (message_of c.args.message) c.decode_held.result
+          (ap (λ x. x ++ more) same ∙ c.in-Ok.ensures.filled.rest) (omega (arith, all, c.requires.within)) all c.decode_held.ensures.finishes;
     }
