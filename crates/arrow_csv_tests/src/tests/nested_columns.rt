@@ -1,9 +1,9 @@
-//! Columns of structs and of lists in one batch, in all their rows.
+//! Columns of structs and of lists in one batch, in all their rows: in few, and in so many that what
+//! the rows of structs have in common is made before them.
 
-use super::columns::{
-    MEMORY, are_records, builder, field, finished, push, records_of, schema, schema_of,
-};
+use super::columns::{MEMORY, are_records, builder, field, finished, push, schema, schema_of};
 use super::nested::{are_shown, lists};
+use arrow_builder::ArrayBuilder;
 use arrow_csv::{BatchRows, Layout};
 use arrow_data::{Array, Batch, Dictionary};
 use arrow_layout::Value;
@@ -16,6 +16,9 @@ const NUMBER: DataType = DataType::Int {
     bits: BitWidth::Sixteen,
     signed: true,
 };
+
+/// How often a column of many rows has its values.
+const MANY: usize = 16;
 
 /// How a column refers to dictionary 3.
 const BY_INDEX: Encoding = Encoding {
@@ -67,13 +70,30 @@ fn schema_of_one(rt: &(impl Abort + AllocGlobal), field: Field) -> Rc<Schema> {
     schema_of(rt, vec![in rt.alloc(); field].expect(rt, MEMORY))
 }
 
-/// A column of these values.
-fn column(rt: &(impl Abort + AllocGlobal), of: DataType, values: &[Value]) -> Array {
-    let mut column = builder(rt, &schema(rt, of));
+/// Puts values into a column.
+fn push_all(rt: &impl Abort, column: &mut ArrayBuilder, values: &[Value]) {
     for value in values {
-        push(rt, &mut column, value);
+        push(rt, column, value);
     }
-    finished(rt, &column)
+}
+
+/// A builder of the schema's column that has these values, so many times.
+fn filled(
+    rt: &(impl Abort + AllocGlobal),
+    schema: &Schema,
+    values: &[Value],
+    times: usize,
+) -> ArrayBuilder {
+    let mut column = builder(rt, schema);
+    for _ in 0..times {
+        push_all(rt, &mut column, values);
+    }
+    column
+}
+
+/// A column that has these values, so many times.
+fn column(rt: &(impl Abort + AllocGlobal), of: DataType, values: &[Value], times: usize) -> Array {
+    finished(rt, &filled(rt, &schema(rt, of), values, times))
 }
 
 /// Structs of a number, a text, and a struct of a number and a list of texts.
@@ -87,8 +107,8 @@ fn deep_structs(rt: &(impl Abort + AllocGlobal)) -> DataType {
     DataType::Struct(vec![in rt.alloc(); n, t, deep].expect(rt, MEMORY))
 }
 
-/// Four of them.
-fn structs(rt: &(impl Abort + AllocGlobal)) -> Array {
+/// Four of them, so many times.
+fn structs(rt: &(impl Abort + AllocGlobal), times: usize) -> Array {
     let words = two_items(rt, text(rt, "a"), text(rt, "b"));
     let inner = pair(rt, Value::Int(2), words);
     let empty = pair(rt, Value::Null, no_items(rt));
@@ -98,7 +118,7 @@ fn structs(rt: &(impl Abort + AllocGlobal)) -> Array {
         triple(rt, Value::Null, text(rt, "say \"y\""), Value::Null),
         triple(rt, Value::Int(-7), text(rt, ""), empty),
     ];
-    column(rt, deep_structs(rt), &values)
+    column(rt, deep_structs(rt), &values, times)
 }
 
 /// Lists of structs of a number and a truth value.
@@ -107,8 +127,8 @@ fn lists_of_structs(rt: &(impl Abort + AllocGlobal)) -> DataType {
     lists(rt, pairs(rt, x, y))
 }
 
-/// Four of them.
-fn items(rt: &(impl Abort + AllocGlobal)) -> Array {
+/// Four of them, so many times.
+fn items(rt: &(impl Abort + AllocGlobal), times: usize) -> Array {
     let first = pair(rt, Value::Int(1), Value::Bool(true));
     let last = pair(rt, Value::Null, Value::Bool(false));
     let three = vec![in rt.alloc(); first, Value::Null, last].expect(rt, MEMORY);
@@ -118,30 +138,88 @@ fn items(rt: &(impl Abort + AllocGlobal)) -> Array {
         Value::Null,
         one_item(rt, pair(rt, Value::Int(5), Value::Null)),
     ];
-    column(rt, lists_of_structs(rt), &values)
+    column(rt, lists_of_structs(rt), &values, times)
 }
 
-/// Asserts that the rows from `start` on, of a column of the structs and one of the lists, are
-/// these if a null has this text.
-fn are_beside(rt: &(impl Abort + AllocGlobal), null: Option<&str>, start: usize, expected: &str) {
+/// How the last four rows are written, and from which of them on.
+#[derive(Clone, Copy)]
+struct Last<'a> {
+    null: Option<&'a str>,
+    start: usize,
+}
+
+/// Asserts that the last four rows, of a column of the structs and one of the lists, are these, if
+/// the columns have their values once and many times.
+fn are_beside(rt: &(impl Abort + AllocGlobal), last: Last<'_>, expected: &str) {
+    for times in [1, MANY] {
+        are_beside_each_time(rt, times, last, expected);
+    }
+}
+
+/// The same, if the columns have their values so many times.
+fn are_beside_each_time(
+    rt: &(impl Abort + AllocGlobal),
+    times: usize,
+    last: Last<'_>,
+    expected: &str,
+) {
     let (s, l) = (
         field(rt, "s", deep_structs(rt)),
         field(rt, "l", lists_of_structs(rt)),
     );
     let schema = schema_of(rt, vec![in rt.alloc(); s, l].expect(rt, MEMORY));
-    let columns = vec![in rt.alloc(); structs(rt), items(rt)].expect(rt, MEMORY);
-    let batch = Batch::new(schema, columns, 4).expect(rt, "two columns as asked");
-    assert!(rt; start <= batch.rows());
+    let structs = structs(rt, times);
+    let rows = structs.len();
+    let columns = vec![in rt.alloc(); structs, items(rt, times)].expect(rt, MEMORY);
+    let batch = Batch::new(schema, columns, rows).expect(rt, "two columns as asked");
+    are_last(rt, &batch, 4 - last.start.min(4), last.null, expected);
+}
+
+/// Asserts that so many last rows of a batch are these if a null has this text.
+fn are_last(
+    rt: &(impl Abort + AllocGlobal),
+    batch: &Batch,
+    count: usize,
+    null: Option<&str>,
+    expected: &str,
+) {
+    assert!(rt; count <= batch.rows());
     let layout = Layout {
         columns: None,
         null,
         numbers: true,
     };
-    let rows = BatchRows::of(rt.alloc(), 7, &batch, layout).expect(rt, MEMORY);
+    let rows = BatchRows::of(rt.alloc(), 7, batch, layout).expect(rt, MEMORY);
     let mut out = Vec::new(rt.alloc());
-    let pushed = rows.push(&mut out, start..batch.rows());
+    let pushed = rows.push(&mut out, batch.rows() - count..batch.rows());
     pushed.expect(rt, MEMORY);
     are_records(rt, &out, expected);
+}
+
+/// Asserts that so many last rows of a column are these.
+fn are_last_of(
+    rt: &(impl Abort + AllocGlobal),
+    schema: Rc<Schema>,
+    array: Array,
+    count: usize,
+    expected: &str,
+) {
+    let rows = array.len();
+    let columns = vec![in rt.alloc(); array].expect(rt, MEMORY);
+    let batch = Batch::new(schema, columns, rows).expect(rt, "one column as asked");
+    are_last(rt, &batch, count, None, expected);
+}
+
+/// Asserts that values have these records, also after many others.
+fn are_shown_after_many(
+    rt: &(impl Abort + AllocGlobal),
+    of: DataType,
+    values: &[Value],
+    expected: &str,
+) {
+    let schema = schema(rt, of);
+    let array = finished(rt, &filled(rt, &schema, values, MANY));
+    are_last_of(rt, schema, array, values.len(), expected);
 }
 
 #[test]
@@ -150,14 +228,35 @@ fn structs_beside_lists(rt: HostRuntime) {
                     7,,[]\n\
                     7,\"{n=null;t=say \"\"y\"\";deep=null}\",\n\
                     7,{n=-7;t=;deep={m=null;l=[]}},[{x=5;y z=null}]\n";
-    are_beside(&rt, None, 0, expected);
+    are_beside(
+        &rt,
+        Last {
+            null: None,
+            start: 0,
+        },
+        expected,
+    );
     let later = "7,\"{n=null;t=say \"\"y\"\";deep=null}\",\"a,b\"\n\
                  7,{n=-7;t=;deep={m=null;l=[]}},[{x=5;y z=null}]\n";
-    are_beside(&rt, Some("a,b"), 2, later);
+    are_beside(
+        &rt,
+        Last {
+            null: Some("a,b"),
+            start: 2,
+        },
+        later,
+    );
     let marked = "7,-,[]\n\
                   7,\"{n=null;t=say \"\"y\"\";deep=null}\",-\n\
                   7,{n=-7;t=;deep={m=null;l=[]}},[{x=5;y z=null}]\n";
-    are_beside(&rt, Some("-"), 1, marked);
+    are_beside(
+        &rt,
+        Last {
+            null: Some("-"),
+            start: 1,
+        },
+        marked,
+    );
 }
 
 #[test]
@@ -169,17 +268,24 @@ fn structs_without_fields(rt: HostRuntime) {
     ];
     let of = DataType::Struct(Vec::new(rt.alloc()));
     are_shown(&rt, of, &values, "7,{}\n7,\n7,{}\n");
+    let of = DataType::Struct(Vec::new(rt.alloc()));
+    are_shown_after_many(&rt, of, &values, "7,{}\n7,\n7,{}\n");
+}
+
+/// Structs of fields whose names need quotes.
+fn named_pairs(rt: &(impl Abort + AllocGlobal)) -> DataType {
+    pairs(rt, field(rt, "a,b", NUMBER), field(rt, "c\"d", NUMBER))
 }
 
 #[test]
 fn names_that_need_quotes(rt: HostRuntime) {
-    let (first, second) = (field(&rt, "a,b", NUMBER), field(&rt, "c\"d", NUMBER));
     let values = [
         pair(&rt, Value::Int(1), Value::Int(2)),
         pair(&rt, Value::Null, Value::Int(-3)),
     ];
     let expected = "7,\"{a,b=1;c\"\"d=2}\"\n7,\"{a,b=null;c\"\"d=-3}\"\n";
-    are_shown(&rt, pairs(&rt, first, second), &values, expected);
+    are_shown(&rt, named_pairs(&rt), &values, expected);
+    are_shown_after_many(&rt, named_pairs(&rt), &values, expected);
 }
 
 #[test]
@@ -207,13 +313,13 @@ fn lists_of_a_fixed_size(rt: HostRuntime) {
 
 /// The dictionary of these values.
 fn dictionary(rt: &(impl Abort + AllocGlobal), of: DataType, values: &[Value]) -> Dictionary {
-    let values = column(rt, of, values);
+    let values = column(rt, of, values, 1);
     assert!(rt; values.encoding().is_none() && !values.data_type().has_encoding_below());
     Dictionary::from_array(rt.alloc(), values).expect(rt, MEMORY)
 }
 
-/// Asserts that a column of this field has these records, if it has these values and refers to the
-/// dictionary.
+/// Asserts that a column of this field has these last records, if it has these values once and many
+/// times, and refers to the dictionary.
 fn are_shown_by(
     rt: &(impl Abort + AllocGlobal),
     field: Field,
@@ -221,15 +327,15 @@ fn are_shown_by(
     expected: &str,
 ) {
     let schema = schema_of_one(rt, field);
-    let mut column = builder(rt, &schema);
-    for value in values {
-        push(rt, &mut column, value);
-    }
     let listed = vec![in rt.alloc(); (3, dictionary)].expect(rt, MEMORY);
-    let array = column
-        .finish(rt.alloc(), &listed)
-        .expect(rt, "indices of the dictionary");
-    are_records(rt, &records_of(rt, schema, array), expected);
+    for times in [1, MANY] {
+        let column = filled(rt, &schema, values, times);
+        let array = column
+            .finish(rt.alloc(), &listed)
+            .expect(rt, "indices of the dictionary");
+        let shared = schema.clone().expect(rt, MEMORY);
+        are_last_of(rt, shared, array, values.len(), expected);
+    }
 }
 
 /// Structs of two numbers.
